@@ -1,0 +1,49 @@
+-- The bounds of document 01, and its two units.
+use Prim.Native.Nat.{ℕ}
+
+-- crisp values lie between minus this and this, in thousandths
+abbrev pub crispLimit : ℕ
+crispLimit = 1000000000
+
+-- the degree 1, in millionths
+abbrev pub M : ℕ
+M = 1000000
+
+abbrev pub textLimit : ℕ
+textLimit = 65536
+
+abbrev pub nameLimit : ℕ
+nameLimit = 16
+
+abbrev pub inputLimit : ℕ
+inputLimit = 8
+
+abbrev pub outputLimit : ℕ
+outputLimit = 6
+
+-- terms of one variable
+abbrev pub termLimit : ℕ
+termLimit = 7
+
+-- points of one term
+abbrev pub pointLeast : ℕ
+pointLeast = 2
+
+abbrev pub pointLimit : ℕ
+pointLimit = 4
+
+abbrev pub ruleLimit : ℕ
+ruleLimit = 64
+
+abbrev pub wordLimit : ℕ
+wordLimit = 640
+
+abbrev pub conclusionLimit : ℕ
+conclusionLimit = 128
+
+abbrev pub ruleNumberLimit : ℕ
+ruleNumberLimit = 65535
+
+-- parentheses open at once
+abbrev pub depthLimit : ℕ
+depthLimit = 8

@@ -1,0 +1,264 @@
+-- Image: the words of a block and their bytes; the block that words stand for; which bytes the load check accepts.
+use mathlib.Core.Bool.{Bool, true, false, _&&_, not}
+use mathlib.Core.List.{List, [], _∷_, _++_, map}
+use mathlib.Core.Option.{Option, none, some}
+use Prim.Native.Nat.{ℕ, zero, suc, _+_, _*_, _-_, _/_, _%_}
+use lib.Dec.{leb, ltb, eqb}
+use lib.IntN.{ℤ, pos, negsuc}
+use lib.ListN.{length, take, getD}
+use Rattle.model.specs.Basic.{if_then_else_, total, gather, run, same}
+use Rattle.model.specs.Bounds.{M}
+use Rattle.model.specs.Block.{Point, Term, Singleton, Type′, real, int, Input, Range, Output, Op, and, or, Condition, term, neg, two, Conclusion, Rule, Pair, min-max, prod-asum, bdif-bsum, Accumulation, by-max, by-bsum, Activation, by-min, by-prod, Block, inputTerms, outputTerms, conclusions, size}
+use Rattle.model.specs.Outcome.{Outcome, accepted, refused}
+use Rattle.model.specs.WellFormed.{wellFormed}
+
+-- WORDS AND BYTES, little-endian
+abbrev pub wordBytes : ℕ → List ℕ
+wordBytes w = w % 256 ∷ w / 256 % 256 ∷ w / 65536 % 256 ∷ w / 16777216 ∷ []
+
+unfoldable pub bytesOf : List ℕ → List ℕ
+bytesOf ws = gather wordBytes ws
+
+-- the i-th word of some bytes; a byte past the end counts as 0
+unfoldable pub wordAt : List ℕ → ℕ → ℕ
+wordAt s i = getD s (i * 4) 0 + getD s (i * 4 + 1) 0 * 256 + getD s (i * 4 + 2) 0 * 65536 + getD s (i * 4 + 3) 0 * 16777216
+
+-- two's complement
+abbrev pub crispWord : ℤ → ℕ
+crispWord (pos n) = n
+crispWord (negsuc n) = 4294967295 - n
+
+unfoldable pub crispOf : ℕ → ℤ
+crispOf w = if ltb w 2147483648 then pos w else negsuc (4294967295 - w)
+
+-- 16 bytes, zero padded
+unfoldable pub nameWords : List ℕ → List ℕ
+nameWords w = wordAt w 0 ∷ wordAt w 1 ∷ wordAt w 2 ∷ wordAt w 3 ∷ []
+
+-- THE WORDS OF A BLOCK
+abbrev pub layoutWord : Block → ℕ
+layoutWord b = 1
+
+abbrev pub pairWord : Pair → ℕ
+pairWord min-max = 0
+pairWord prod-asum = 1
+pairWord bdif-bsum = 2
+
+abbrev pub accuWord : Accumulation → ℕ
+accuWord by-max = 0
+accuWord by-bsum = 1
+
+abbrev pub actWord : Activation → ℕ
+actWord by-min = 0
+actWord by-prod = 1
+
+abbrev pub typeWord : Type′ → ℕ
+typeWord real = 0
+typeWord int = 1
+
+-- a singleton is a term of one point, of degree M
+abbrev pub singletonTerm : Singleton → Term
+singletonTerm s = record { name = s .name; points = record { at = s .at; degree = M } ∷ [] }
+
+abbrev pub terms : Block → List Term
+terms b = inputTerms b ++ map singletonTerm (outputTerms b)
+
+abbrev pub points : Block → List Point
+points b = gather (λ t. t .points) (terms b)
+
+abbrev pub opWord : Op → ℕ
+opWord and = 1
+opWord or = 2
+
+unfoldable pub postfix : Condition → List ℕ
+postfix (term t) = (16 + t) ∷ []
+postfix (neg c) = postfix c ++ (0 ∷ [])
+postfix (two o a b) = postfix a ++ (postfix b ++ (opWord o ∷ []))
+
+-- n is the first term of the next variable
+unfoldable pub inputTable : ℕ → List Input → List ℕ
+inputTable n [] = []
+inputTable n (v ∷ vs) =
+    nameWords (v .name) ++ (typeWord (v .type) ∷ n ∷ length (v .terms) ∷ inputTable (n + length (v .terms)) vs)
+
+-- flag, min, max
+abbrev pub rangeWords : Option Range → List ℕ
+rangeWords none = 0 ∷ 0 ∷ 0 ∷ []
+rangeWords (some g) = 1 ∷ crispWord (g .least) ∷ crispWord (g .most) ∷ []
+
+-- kind, value
+abbrev pub defaultWords : Option ℤ → List ℕ
+defaultWords none = 0 ∷ 0 ∷ []
+defaultWords (some x) = 1 ∷ crispWord x ∷ []
+
+unfoldable pub outputTable : ℕ → List Output → List ℕ
+outputTable n [] = []
+outputTable n (v ∷ vs) =
+    nameWords (v .name)
+    ++ (n ∷ length (v .terms) ∷ (rangeWords (v .range) ++ (defaultWords (v .default) ++ outputTable (n + length (v .terms)) vs)))
+
+-- n is the first point of the next term
+unfoldable pub termTable : ℕ → List Term → List ℕ
+termTable n [] = []
+termTable n (t ∷ ts) = nameWords (t .name) ++ (n ∷ length (t .points) ∷ termTable (n + length (t .points)) ts)
+
+abbrev pub pointWords : Point → List ℕ
+pointWords p = crispWord (p .at) ∷ p .degree ∷ []
+
+-- n is the first condition word of the next rule, m its first conclusion
+unfoldable pub ruleTable : ℕ → ℕ → List Rule → List ℕ
+ruleTable n m [] = []
+ruleTable n m (r ∷ rs) =
+    r .number ∷ n ∷ size (r .condition) ∷ m ∷ length (r .conclusions) ∷ r .weight
+    ∷ ruleTable (n + size (r .condition)) (m + length (r .conclusions)) rs
+
+abbrev pub conclusionWords : Conclusion → List ℕ
+conclusionWords k = k .output ∷ k .term ∷ []
+
+-- inputs, outputs, terms, points, rules, condition words, conclusions: how many, and how many words an entry has
+abbrev pub counts : Block → List ℕ
+counts b =
+    length (b .inputs) ∷ length (b .outputs) ∷ length (terms b) ∷ length (points b)
+    ∷ length (b .rules) ∷ total (λ r. size (r .condition)) (b .rules) ∷ length (conclusions b) ∷ []
+
+abbrev pub widths : List ℕ
+widths = 7 ∷ 11 ∷ 6 ∷ 2 ∷ 6 ∷ 1 ∷ 2 ∷ []
+
+-- where each table starts, from o on without gaps, and where the last one ends
+unfoldable pub offsets : ℕ → List ℕ → List ℕ → List ℕ
+offsets o [] ws = []
+offsets o (n ∷ ns) [] = []
+offsets o (n ∷ ns) (w ∷ ws) = o ∷ offsets (o + n * w) ns ws
+
+unfoldable pub endOf : ℕ → List ℕ → List ℕ → ℕ
+endOf o [] ws = o
+endOf o (n ∷ ns) [] = o
+endOf o (n ∷ ns) (w ∷ ws) = endOf (o + n * w) ns ws
+
+abbrev pub headerSize : ℕ
+headerSize = 28
+
+unfoldable pub header : Block → List ℕ
+header b =
+    layoutWord b ∷ endOf headerSize (counts b) widths
+    ∷ (counts b ++ (offsets headerSize (counts b) widths
+    ++ (pairWord (b .pair) ∷ accuWord (b .accu) ∷ actWord (b .act) ∷ 0 ∷ (nameWords (b .name) ++ nameWords (b .ruleBlock)))))
+
+unfoldable pub words : Block → List ℕ
+words b =
+    header b
+    ++ (inputTable 0 (b .inputs)
+    ++ (outputTable (length (inputTerms b)) (b .outputs)
+    ++ (termTable 0 (terms b)
+    ++ (gather pointWords (points b)
+    ++ (ruleTable 0 0 (b .rules)
+    ++ (gather (λ r. postfix (r .condition)) (b .rules)
+    ++ gather conclusionWords (conclusions b)))))))
+
+unfoldable pub image : Block → List ℕ
+image b = bytesOf (words b)
+
+-- THE BLOCK THAT WORDS STAND FOR, w giving the word at each place
+-- n values of f from i on
+unfoldable pub tab : {A : Type 0} → (ℕ → A) → ℕ → ℕ → List A
+tab f zero i = []
+tab f (suc n) i = f i ∷ tab f n (suc i)
+
+-- the bytes before the first zero
+unfoldable pub nameAt : (ℕ → ℕ) → ℕ → List ℕ
+nameAt w o =
+    let s : List ℕ = bytesOf (tab w 4 o) in
+    take (run (λ c. not (eqb c 0)) s) s
+
+unfoldable pub pointAt : (ℕ → ℕ) → ℕ → Point
+pointAt w i = record { at = crispOf (w (w 12 + i * 2)); degree = w (w 12 + i * 2 + 1) }
+
+unfoldable pub termAt : (ℕ → ℕ) → ℕ → Term
+termAt w i =
+    let o : ℕ = w 11 + i * 6 in
+    record { name = nameAt w o; points = tab (pointAt w) (w (o + 5)) (w (o + 4)) }
+
+unfoldable pub singletonAt : (ℕ → ℕ) → ℕ → Singleton
+singletonAt w i =
+    let o : ℕ = w 11 + i * 6 in
+    record { name = nameAt w o; at = pointAt w (w (o + 4)) .at }
+
+unfoldable pub inputAt : (ℕ → ℕ) → ℕ → Input
+inputAt w i =
+    let o : ℕ = w 9 + i * 7 in
+    record {
+      name = nameAt w o;
+      type = if eqb (w (o + 4)) 0 then real else int;
+      terms = tab (termAt w) (w (o + 6)) (w (o + 5)) }
+
+unfoldable pub outputAt : (ℕ → ℕ) → ℕ → Output
+outputAt w i =
+    let o : ℕ = w 10 + i * 11 in
+    record {
+      name = nameAt w o;
+      terms = tab (singletonAt w) (w (o + 5)) (w (o + 4));
+      range = if eqb (w (o + 6)) 0 then none else some (record { least = crispOf (w (o + 7)); most = crispOf (w (o + 8)) });
+      default = if eqb (w (o + 9)) 0 then none else some (crispOf (w (o + 10))) }
+
+-- the trees that postfix words leave, the last on top
+abbrev pub negateTop : List Condition → List Condition
+negateTop [] = []
+negateTop (c ∷ st) = neg c ∷ st
+
+abbrev pub joinTop : Op → List Condition → List Condition
+joinTop o [] = []
+joinTop o (b ∷ []) = []
+joinTop o (b ∷ a ∷ st) = two o a b ∷ st
+
+unfoldable pub grown : ℕ → List Condition → List Condition
+grown w st =
+    if leb 16 w then term (w - 16) ∷ st else
+    if eqb w 0 then negateTop st else
+    if eqb w 1 then joinTop and st else
+    if eqb w 2 then joinTop or st else []
+
+unfoldable pub trees : List ℕ → List Condition → List Condition
+trees [] st = st
+trees (w ∷ ws) st = trees ws (grown w st)
+
+unfoldable pub treeOf : List ℕ → Condition
+treeOf ws = getD (trees ws []) 0 (term 0)
+
+unfoldable pub conclusionAt : (ℕ → ℕ) → ℕ → Conclusion
+conclusionAt w i = record { output = w (w 15 + i * 2); term = w (w 15 + i * 2 + 1) }
+
+unfoldable pub ruleAt : (ℕ → ℕ) → ℕ → Rule
+ruleAt w i =
+    let o : ℕ = w 13 + i * 6 in
+    record {
+      number = w o;
+      condition = treeOf (tab (λ k. w (w 14 + k)) (w (o + 2)) (w (o + 1)));
+      conclusions = tab (conclusionAt w) (w (o + 4)) (w (o + 3));
+      weight = w (o + 5) }
+
+abbrev pub pairOf : ℕ → Pair
+pairOf w = if eqb w 0 then min-max else if eqb w 1 then prod-asum else bdif-bsum
+
+abbrev pub accuOf : ℕ → Accumulation
+accuOf w = if eqb w 0 then by-max else by-bsum
+
+abbrev pub actOf : ℕ → Activation
+actOf w = if eqb w 0 then by-min else by-prod
+
+unfoldable pub decode : (ℕ → ℕ) → Block
+decode w = record {
+  name = nameAt w 20;
+  inputs = tab (inputAt w) (w 2) 0;
+  outputs = tab (outputAt w) (w 3) 0;
+  ruleBlock = nameAt w 24;
+  pair = pairOf (w 16);
+  act = actOf (w 18);
+  accu = accuOf (w 17);
+  rules = tab (ruleAt w) (w 6) 0 }
+
+-- THE LOAD CHECK: the bytes are the image of the well-formed block that they stand for
+unfoldable pub isImageOf : List ℕ → Block → Bool
+isImageOf img b = wellFormed b && same img (image b)
+
+unfoldable pub loads : List ℕ → Outcome Block
+loads img = if isImageOf img (decode (wordAt img)) then accepted (decode (wordAt img)) else refused 11 none

@@ -1,0 +1,15 @@
+pub mod Basic
+pub mod Bounds
+pub mod Outcome
+pub mod Refusals
+pub mod Keywords
+pub mod Tokens
+pub mod Block
+pub mod Reader
+pub mod Parentheses
+pub mod WellFormed
+pub mod Image
+pub mod Listing
+pub mod Degrees
+pub mod Readings
+pub mod Evaluation
