@@ -1,2 +1,4 @@
-pub mod Computed
-pub mod Try
+pub mod Opened
+pub mod Example
+pub mod Starred
+pub mod Refused
