@@ -32,26 +32,26 @@ abbrev refusedBy : ℕ → List Cut → List (Outcome Block)
 refusedBy n cs = map (λ c. refused n (some (length (c .before)))) cs
 
 -- a text up to its declarations, up to and behind each section, and whole
-abbrev opening : List ℕ
+abbrev pub opening : List ℕ
 opening = bytes "FUNCTION_BLOCK f VAR_INPUT "
 
-abbrev declared : List ℕ
+abbrev pub declared : List ℕ
 declared = opening ++ bytes "a: REAL; n: INT; END_VAR VAR_OUTPUT y: REAL; END_VAR "
 
-abbrev fuzzified : List ℕ
+abbrev pub fuzzified : List ℕ
 fuzzified = declared ++ bytes "FUZZIFY a TERM t := (0,0),(1,1); TERM u := (0,1),(1,0); END_FUZZIFY FUZZIFY n TERM v := (0,0),(1,1); END_FUZZIFY "
 
-abbrev defuzzified : List ℕ
+abbrev pub defuzzified : List ℕ
 defuzzified = fuzzified ++ bytes "DEFUZZIFY y RANGE(-1..2); TERM k := 1; METHOD : CoGS; DEFAULT := NC; END_DEFUZZIFY "
 
-abbrev ruled : List ℕ
+abbrev pub ruled : List ℕ
 ruled = defuzzified ++ bytes "RULEBLOCK r ACCU : MAX; "
 
 abbrev whole : List ℕ
 whole = ruled ++ bytes "RULE 1: IF a IS t THEN y IS k; END_RULEBLOCK END_FUNCTION_BLOCK "
 
 -- s, n times
-abbrev times : ℕ → List ℕ → List ℕ
+abbrev pub times : ℕ → List ℕ → List ℕ
 times zero s = []
 times (suc n) s = s ++ times n s
 
@@ -61,7 +61,7 @@ unfolding reads
 text-too-long s h = simp (lt-ltb textLimit (length s) h)
 
 -- k rules, numbered from n on
-abbrev rulesFrom : ℕ → ℕ → List ℕ
+abbrev pub rulesFrom : ℕ → ℕ → List ℕ
 rulesFrom zero n = []
 rulesFrom (suc k) n = bytes "RULE " ++ (digits n ++ (bytes ": IF a IS t THEN y IS k; " ++ rulesFrom k (suc n)))
 

@@ -12,7 +12,7 @@ use Rattle.model.specs.Basic.{if_then_else_, all, total, gather, indexOf
 use Rattle.model.specs.Bounds.{outputLimit}
 use Rattle.model.specs.Tokens.{inCrisp}
 use Rattle.model.specs.Block.{Term, Singleton, Input, Range, Output, Conclusion, Rule, Accumulation, by-max, by-bsum, Block, inputTerms, inRange}
-use Rattle.model.specs.Outcome.{Outcome, accepted, refused}
+use Rattle.model.specs.Outcome.{Outcome, accepted, refused, andThen}
 use Rattle.model.specs.Image.{tab, loads}
 use Rattle.model.specs.Degrees.{nearestℤ, prodOf, bsumOf, termDegree, conditionDegree}
 use Rattle.model.specs.Readings.{readingOf, floatOf}
@@ -144,14 +144,9 @@ called b rs n h =
     if ltb (firstWrong (valuesOf (b .inputs) rs)) (length (b .inputs)) then refused 14 (some (firstWrong (valuesOf (b .inputs) rs))) else
     accepted (evaluated (answers b (map orZero (valuesOf (b .inputs) rs)) (figuresOf h)))
 
--- a block that was refused refuses everything asked of it
-abbrev pub onBlock : {A : Type 0} → (Block → Outcome A) → Outcome Block → Outcome A
-onBlock f (accepted b) = f b
-onBlock f (refused n p) = refused n p
-
 -- image, readings and their count, held record
 unfoldable pub evaluate : List ℕ → List Reading → ℕ → Held → Outcome Evaluated
-evaluate img rs n h = onBlock (λ b. called b rs n h) (loads img)
+evaluate img rs n h = andThen (loads img) (λ b. called b rs n h)
 
 -- a refused call answers all places as none and leaves the record
 abbrev pub answersIn : Outcome Evaluated → List Answer
@@ -163,7 +158,12 @@ heldAfter h (accepted e) = e .held
 heldAfter h (refused n p) = h
 
 unfoldable pub fresh : List ℕ → Outcome Held
-fresh img = onBlock (λ b. accepted (freshOf b)) (loads img)
+fresh img = andThen (loads img) (λ b. accepted (freshOf b))
+
+-- all zero where the image is refused
+abbrev pub recordIn : Outcome Held → Held
+recordIn (accepted h) = h
+recordIn (refused n p) = heldOf []
 
 -- A LIST OF CALLS
 pub record Call : Type 0 where
@@ -184,4 +184,4 @@ heldAfterAll img h (c ∷ cs) = heldAfterAll img (heldAfter h (evaluate img (c .
 
 -- the calls on an image from its fresh record on
 unfoldable pub fromFresh : List ℕ → List Call → Outcome (List (Outcome Evaluated))
-fromFresh img cs = onBlock (λ b. accepted (calls img (freshOf b) cs)) (loads img)
+fromFresh img cs = andThen (fresh img) (λ h. accepted (calls img h cs))

@@ -5,11 +5,15 @@ pub mod Refusals
 pub mod Keywords
 pub mod Tokens
 pub mod Block
+pub mod Parse
+pub mod Declarations
+pub mod Rules
 pub mod Reader
 pub mod Parentheses
 pub mod WellFormed
 pub mod Image
 pub mod Listing
+pub mod Entries
 pub mod Degrees
 pub mod Readings
 pub mod Evaluation

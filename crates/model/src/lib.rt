@@ -38,18 +38,18 @@ pub struct Held {
 pub enum Refusal {
     TextTooLong,
     WrongToken(usize),
-    BadNumber(usize),
-    NameTaken(usize),
+    WrongNumber(usize),
+    WrongName(usize),
     NotDeclared(usize),
     TooMany(usize),
-    OutOfOrder(usize),
+    WrongPosition(usize),
     Unpaired(usize),
     PartMissing(usize),
     BufferTooShort(usize),
     ImageNotAccepted,
     WrongCount,
-    HeldOutOfRange,
-    BadReading(usize),
+    WrongHeld,
+    WrongReading(usize),
 }
 
 // What the reader and the lister answer: how many bytes they wrote, or the refusal.
@@ -58,7 +58,7 @@ pub enum Written {
     Refused(Refusal),
 }
 
-// What the load check answers.
+// What the load check and each evaluation answer.
 pub enum Verdict {
     Accepted,
     Refused(Refusal),

@@ -1,0 +1,80 @@
+-- The container crane of annex C of source 001, with commas between points.
+use mathlib.Core.List.{List, [], _∷_, _++_, map}
+use mathlib.Core.Option.{Option, none, some}
+use mathlib.Core.Path.{_≡_, refl}
+use Prim.Native.Nat.{ℕ}
+use lib.Ieee.{binary32, binary64, ofInt, ofBits}
+use lib.IntN.{ℤ, pos}
+use lib.ListN.{length}
+use Rattle.model.specs.Basic.{bytes}
+use Rattle.model.specs.Block.{Block}
+use Rattle.model.specs.Outcome.{Outcome, accepted, refused}
+use Rattle.model.specs.Reader.{reads}
+use Rattle.model.specs.Evaluation.{termDegrees, freshOf, answers, noAnswer, padded, evaluated, Evaluated, called, heldOf}
+use Rattle.model.specs.declared.Answer.{Answer}
+use Rattle.model.specs.declared.Mark.the-variants.{Fired}
+use Rattle.model.specs.declared.Reading.the-variants.{Real}
+use Rattle.model.proofs.Opened.{opened}
+
+-- up to its rules
+abbrev crane : List ℕ
+crane =
+    bytes "FUNCTION_BLOCK container_crane\nVAR_INPUT\n distance: REAL;\n angle: REAL;\nEND_VAR\nVAR_OUTPUT\n power: REAL;\nEND_VAR\n"
+    ++ (bytes "FUZZIFY distance\n TERM too_far := (-5, 1), (0, 0);\n TERM zero := (-5, 0), (0, 1), (5,0);\n TERM close := (0, 0), (5, 1), (10,0);\n"
+    ++ (bytes " TERM medium := (5, 0), (10, 1), (22,0);\n TERM far := (10, 0), (22,1);\nEND_FUZZIFY\n"
+    ++ (bytes "FUZZIFY angle\n TERM neg_big := (-50, 1), (-5, 0);\n TERM neg_small := (-50, 0), (-5, 1), (0,0);\n TERM zero := (-5, 0), (0, 1), (5,0);\n"
+    ++ (bytes " TERM pos_small := (0,0),(5,1),(50,0);\n TERM pos_big := (5, 0), (50, 1);\nEND_FUZZIFY\n"
+    ++ (bytes "DEFUZZIFY power\n TERM neg_high := -27;\n TERM neg_medium := -9;\n TERM zero := 0;\n TERM pos_medium := 9;\n TERM pos_high := 27;\n"
+    ++ bytes " METHOD: CoGS;\n DEFAULT:= 0;\nEND_DEFUZZIFY\nRULEBLOCK No1\n AND: MIN;\n ACCU: MAX;\n")))))
+
+-- the printed rules up to the term that the second concludes, and from there on
+abbrev firstRules : List ℕ
+firstRules = bytes " RULE 1: IF distance IS far AND angle IS zero THEN power IS pos_medium;\n RULE 2: IF distance IS far AND angle IS neg_small THEN power IS "
+
+abbrev lastRules : List ℕ
+lastRules =
+    bytes ";\n RULE 3: IF distance IS far AND angle IS neg_big THEN power IS pos_medium;\n RULE 4: IF distance IS medium AND angle IS neg_small THEN power IS neg_medium;\n"
+    ++ (bytes " RULE 5: IF distance IS close AND angle IS pos_small THEN power IS pos_medium;\n RULE 6: IF distance IS zero AND angle IS zero THEN power IS zero;\n"
+    ++ bytes "END_RULEBLOCK\nEND_FUNCTION_BLOCK\n")
+
+-- as printed the second rule concludes pos_big, which power does not have
+crane-as-printed : reads (crane ++ (firstRules ++ (bytes "pos_big" ++ lastRules))) ≡ refused 5 (some (length (crane ++ firstRules)))
+unfolding opened
+crane-as-printed = refl
+
+-- rules and terms, counted; none where the text is refused
+abbrev counted : Outcome Block → List ℕ
+counted (accepted b) =
+    length (b .inputs) ∷ length (b .outputs) ∷ length (b .rules) ∷ (map (λ v. length (v .terms)) (b .inputs) ++ map (λ v. length (v .terms)) (b .outputs))
+counted (refused n p) = []
+
+crane-reads : counted (reads (crane ++ (firstRules ++ (bytes "pos_high" ++ lastRules)))) ≡ 2 ∷ 1 ∷ 6 ∷ 5 ∷ 5 ∷ 5 ∷ []
+unfolding opened
+crane-reads = refl
+
+-- the three rules of figure C.8
+abbrev illustrated : List ℕ
+illustrated =
+    crane
+    ++ (bytes " RULE 1: IF distance IS medium AND angle IS pos_small THEN power IS pos_medium;\n RULE 2: IF distance IS medium AND angle IS zero THEN power IS zero;\n"
+    ++ bytes " RULE 3: IF distance IS far AND angle IS zero THEN power IS pos_medium;\nEND_RULEBLOCK\nEND_FUNCTION_BLOCK\n")
+
+abbrev onBlock : {A : Type 0} → (Block → A) → Outcome Block → Option A
+onBlock f (accepted b) = some (f b)
+onBlock f (refused n p) = none
+
+-- at distance 12, angle 4: medium 10/12 and far 2/12, zero 0.2 and pos_small 0.8
+crane-degrees : onBlock (λ b. termDegrees (b .inputs) (pos 12000 ∷ pos 4000 ∷ [])) (reads illustrated)
+    ≡ some (0 ∷ 0 ∷ 0 ∷ 833333 ∷ 166667 ∷ 0 ∷ 0 ∷ 200000 ∷ 800000 ∷ 0 ∷ [])
+unfolding opened
+crane-degrees = refl
+
+-- heights 0.8 at 9 and 0.2 at 0: 7.2
+abbrev power : Answer
+power = record { mark = Fired; thousandths = record { 0 = pos 7200 }; sum = 1000000; value = ofBits binary64 0x401ccccccccccccd }
+
+crane-answers :
+    onBlock (λ b. called b (Real (ofInt binary32 (pos 12)) ∷ Real (ofInt binary32 (pos 4)) ∷ []) 2 (freshOf b)) (reads illustrated)
+    ≡ some (accepted (record { answers = padded noAnswer (power ∷ []); held = heldOf (pos 7200 ∷ []) }))
+unfolding opened
+crane-answers = refl

@@ -1,0 +1,58 @@
+-- Images that are not accepted: the worked example with one word changed, cut short or drawn out.
+use mathlib.Core.List.{List, [], _∷_, _++_, map}
+use mathlib.Core.Option.{none}
+use mathlib.Core.Path.{_≡_, refl}
+use Prim.Native.Nat.{ℕ}
+use lib.ListN.{set, take, drop}
+use Rattle.model.specs.Block.{Block}
+use Rattle.model.specs.Outcome.{Outcome, refused}
+use Rattle.model.specs.Image.{words, bytesOf, image, loads}
+use Rattle.model.specs.Evaluation.{fresh}
+use Rattle.model.proofs.Opened.{opened}
+use Rattle.model.proofs.Example.{trust}
+
+pub record Edit : Type 0 where
+  pub at : ℕ
+  pub word : ℕ
+
+abbrev to : ℕ → ℕ → Edit
+to i w = record { at = i; word = w }
+
+abbrev edits : List Edit
+edits =
+    -- layout, total, offsets into another table and outside, the spare word, pair, ACCU, ACT
+    to 0 2 ∷ to 1 92 ∷ to 15 86 ∷ to 15 1000 ∷ to 19 1 ∷ to 16 3 ∷ to 17 2 ∷ to 18 2
+    -- a name of one underscore, an empty name, bytes behind the padding, the keyword IF, a name that is taken
+    ∷ to 24 0x5f ∷ to 24 0 ∷ to 26 0x72 ∷ to 24 0x4649 ∷ to 58 0x776f6c
+    -- type, first term, term count, an unused field
+    ∷ to 32 2 ∷ to 33 1 ∷ to 34 2 ∷ to 42 1 ∷ to 45 1
+    -- first point, points that do not rise, a degree of 500 millionths and one above 1, a singleton whose degree is not 1
+    ∷ to 50 1 ∷ to 66 20000 ∷ to 65 500 ∷ to 65 1001000 ∷ to 69 0
+    -- rule number 0 and a repeated one, first condition word, no conclusion, a weight of 500 millionths
+    ∷ to 72 0 ∷ to 78 1 ∷ to 79 0 ∷ to 76 0 ∷ to 77 500
+    -- an output's term in a condition, a word that is none, an operator without operands, another output, an input's term
+    ∷ to 84 17 ∷ to 84 3 ∷ to 84 1 ∷ to 87 1 ∷ to 88 0
+    ∷ []
+
+abbrev refusedAll : {A : Type 0} → List A → List (Outcome Block)
+refusedAll xs = map (λ x. refused 11 none) xs
+
+edited-refused : map (λ e. loads (bytesOf (set (words trust) (e .at) (e .word)))) edits ≡ refusedAll edits
+unfolding opened
+edited-refused = refl
+
+-- a word between the condition words and the conclusions, its offset and the total to match
+gap-refused : loads (bytesOf (take 87 (set (set (words trust) 15 88) 1 92) ++ (0 ∷ drop 87 (words trust)))) ≡ refused 11 none
+unfolding opened
+gap-refused = refl
+
+abbrev lengths : List (List ℕ)
+lengths = [] ∷ take 363 (image trust) ∷ take 360 (image trust) ∷ (image trust ++ (0 ∷ [])) ∷ (image trust ++ (0 ∷ 0 ∷ 0 ∷ 0 ∷ [])) ∷ []
+
+lengths-refused : map loads lengths ≡ refusedAll lengths
+unfolding opened
+lengths-refused = refl
+
+fresh-refused : fresh [] ≡ refused 11 none
+unfolding opened
+fresh-refused = refl

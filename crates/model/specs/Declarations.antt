@@ -1,0 +1,191 @@
+-- The reader's rules for VAR_INPUT, VAR_OUTPUT, FUZZIFY and DEFUZZIFY.
+use mathlib.Core.Bool.{Bool, _&&_, not}
+use mathlib.Core.List.{List, [], _∷_, _++_, map}
+use mathlib.Core.Option.{none, some}
+use Prim.Native.Nat.{ℕ}
+use lib.Dec.{leb, ltb}
+use lib.IntN.{ℤ}
+use lib.ListN.{length, take, drop}
+use lib.Signed.{ltZ}
+use Rattle.model.specs.Basic.{if_then_else_, _▸_, isEmpty, all, indexOf, update, updateLast}
+use Rattle.model.specs.Bounds.{inputLimit, outputLimit, termLimit, pointLeast, pointLimit}
+use Rattle.model.specs.Keywords.{NAME, NUMBER, ASSIGN, DOTS, OPEN, CLOSE, COMMA, COLON, SEMICOLON, CoGS, DEFAULT, DEFUZZIFY, END-DEFUZZIFY, END-FUZZIFY, FUZZIFY, METHOD, NC, RANGE, TERM, REAL, INT}
+use Rattle.model.specs.Tokens.{sameName, isCrisp, isUnit, unitOf}
+use Rattle.model.specs.Block.{Point, Term, Singleton, Input, Range, Output, Block, termsOf, singletonsOf, rangeOf, inRange, mayFollow, real, int}
+use Rattle.model.specs.Parse.{Part, text, is, advance, change, judged, expect, repeated, listed, isShort, valueHere, withInputs, withOutputs}
+
+-- DECLARATIONS
+abbrev pub isVariable : List ℕ → Block → Bool
+isVariable w b =
+    not (all (λ v. not (sameName w (v .name))) (b .inputs) && all (λ v. not (sameName w (v .name))) (b .outputs))
+
+unfoldable pub addInput : List ℕ → Block → Block
+addInput w = withInputs (λ vs. vs ++ (record { name = w; type = real; terms = [] } ∷ []))
+
+unfoldable pub addOutput : List ℕ → Block → Block
+addOutput w = withOutputs (λ vs. vs ++ (record { name = w; terms = []; range = none; default = none } ∷ []))
+
+abbrev pub asInt : Input → Input
+asInt v = record { name = v .name; type = int; terms = v .terms }
+
+-- INT for the inputs from the n-th on
+unfoldable pub intFrom : ℕ → Block → Block
+intFrom n = withInputs (λ vs. take n vs ++ map asInt (drop n vs))
+
+unfoldable pub declaredInput : Part
+declaredInput r =
+    judged ((is NAME r, 2) ∷ (isShort r, 4) ∷ (not (isVariable (text r) (r .block)), 4) ∷ (ltb (length (r .block .inputs)) inputLimit, 6) ∷ [])
+    r (advance (change (addInput (text r)) r))
+
+unfoldable pub declaredOutput : Part
+declaredOutput r =
+    judged ((is NAME r, 2) ∷ (isShort r, 4) ∷ (not (isVariable (text r) (r .block)), 4) ∷ (ltb (length (r .block .outputs)) outputLimit, 6) ∷ [])
+    r (advance (change (addOutput (text r)) r))
+
+-- the type of the inputs from the n-th on
+unfoldable pub inputType : ℕ → Part
+inputType n r = if is INT r then advance (change (intFrom n) r) else expect REAL r
+
+unfoldable pub inputDeclaration : Part
+inputDeclaration r =
+    r ▸ listed declaredInput ▸ expect COLON ▸ inputType (length (r .block .inputs)) ▸ expect SEMICOLON
+
+unfoldable pub outputDeclaration : Part
+outputDeclaration r = r ▸ listed declaredOutput ▸ expect COLON ▸ expect REAL ▸ expect SEMICOLON
+
+-- FUZZIFY
+unfoldable pub inputOf : List ℕ → Block → ℕ
+inputOf w b = indexOf (λ v. sameName w (v .name)) (b .inputs)
+
+-- the term of input i with this name
+unfoldable pub termOf : ℕ → List ℕ → Block → ℕ
+termOf i w b = indexOf (λ t. sameName w (t .name)) (termsOf i b)
+
+abbrev pub withTerms : (List Term → List Term) → Input → Input
+withTerms f v = record { name = v .name; type = v .type; terms = f (v .terms) }
+
+unfoldable pub addTerm : ℕ → List ℕ → Block → Block
+addTerm i w = withInputs (update (withTerms (λ ts. ts ++ (record { name = w; points = [] } ∷ []))) i)
+
+abbrev pub withPoint : Point → Term → Term
+withPoint p t = record { name = t .name; points = t .points ++ (p ∷ []) }
+
+-- to the last term of input i
+unfoldable pub addPoint : ℕ → Point → Block → Block
+addPoint i p = withInputs (update (withTerms (updateLast (withPoint p))) i)
+
+abbrev pub lastPoints : List Term → List Point
+lastPoints [] = []
+lastPoints (t ∷ []) = t .points
+lastPoints (t ∷ u ∷ ts) = lastPoints (u ∷ ts)
+
+-- the points so far of the last term of input i
+unfoldable pub pointsOf : ℕ → Block → List Point
+pointsOf i b = lastPoints (termsOf i b)
+
+unfoldable pub position : ℕ → Part
+position i r =
+    judged ((is NUMBER r, 2) ∷ (isCrisp (text r), 3) ∷ (mayFollow (map (λ p. p .at) (pointsOf i (r .block))) (valueHere r), 7) ∷ [])
+    r (advance r)
+
+unfoldable pub degree : ℕ → ℤ → Part
+degree i x r =
+    judged ((is NUMBER r, 2) ∷ (isUnit (text r), 3) ∷ [])
+    r (advance (change (addPoint i (record { at = x; degree = unitOf (text r) })) r))
+
+unfoldable pub pointFrom : ℕ → Part
+pointFrom i r = r ▸ position i ▸ expect COMMA ▸ degree i (valueHere r) ▸ expect CLOSE
+
+unfoldable pub point : ℕ → Part
+point i r =
+    judged ((is OPEN r, 2) ∷ (ltb (length (pointsOf i (r .block))) pointLimit, 6) ∷ []) r (pointFrom i (advance r))
+
+unfoldable pub endOfPoints : ℕ → Part
+endOfPoints i r =
+    judged ((is SEMICOLON r, 2) ∷ (leb pointLeast (length (pointsOf i (r .block))), 7) ∷ []) r (advance r)
+
+unfoldable pub termName : ℕ → Part
+termName i r =
+    judged ((is NAME r, 2) ∷ (isShort r, 4) ∷ (leb (length (termsOf i (r .block))) (termOf i (text r) (r .block)), 4) ∷ [])
+    r (advance (change (addTerm i (text r)) r))
+
+unfoldable pub inputTerm : ℕ → Part
+inputTerm i r =
+    judged ((is TERM r, 2) ∷ (ltb (length (termsOf i (r .block))) termLimit, 6) ∷ [])
+    r (advance r ▸ termName i ▸ expect ASSIGN ▸ listed (point i) ▸ endOfPoints i)
+
+unfoldable pub fuzzifyOf : ℕ → Part
+fuzzifyOf i r =
+    judged ((is NAME r, 2) ∷ (isShort r, 4) ∷ (isEmpty (termsOf i (r .block)), 4) ∷ (ltb i (length (r .block .inputs)), 5) ∷ [])
+    r (advance r ▸ inputTerm i ▸ repeated TERM (inputTerm i) ▸ expect END-FUZZIFY)
+
+unfoldable pub fuzzifyNamed : Part
+fuzzifyNamed r = fuzzifyOf (inputOf (text r) (r .block)) r
+
+unfoldable pub fuzzify : Part
+fuzzify r = r ▸ expect FUZZIFY ▸ fuzzifyNamed
+
+-- DEFUZZIFY
+unfoldable pub outputOf : List ℕ → Block → ℕ
+outputOf w b = indexOf (λ v. sameName w (v .name)) (b .outputs)
+
+unfoldable pub singletonOf : ℕ → List ℕ → Block → ℕ
+singletonOf o w b = indexOf (λ t. sameName w (t .name)) (singletonsOf o b)
+
+abbrev pub asSingleton : Singleton → Output → Output
+asSingleton s v = record { name = v .name; terms = v .terms ++ (s ∷ []); range = v .range; default = v .default }
+
+abbrev pub asRange : Range → Output → Output
+asRange g v = record { name = v .name; terms = v .terms; range = some g; default = v .default }
+
+abbrev pub asDefault : ℤ → Output → Output
+asDefault x v = record { name = v .name; terms = v .terms; range = v .range; default = some x }
+
+unfoldable pub changeOutput : (Output → Output) → ℕ → Block → Block
+changeOutput f o = withOutputs (update f o)
+
+unfoldable pub crisp : Part
+crisp r = judged ((is NUMBER r, 2) ∷ (isCrisp (text r), 3) ∷ []) r (advance r)
+
+unfoldable pub upperEnd : ℕ → ℤ → Part
+upperEnd o x r =
+    judged ((is NUMBER r, 2) ∷ (isCrisp (text r), 3) ∷ (ltZ x (valueHere r), 7) ∷ [])
+    r (advance (change (changeOutput (asRange (record { least = x; most = valueHere r })) o) r))
+
+unfoldable pub rangeFrom : ℕ → Part
+rangeFrom o r = r ▸ crisp ▸ expect DOTS ▸ upperEnd o (valueHere r) ▸ expect CLOSE ▸ expect SEMICOLON
+
+unfoldable pub range : ℕ → Part
+range o r = if is RANGE r then rangeFrom o (r ▸ advance ▸ expect OPEN) else r
+
+-- a number inside the RANGE of output o, and what it changes
+unfoldable pub figure : (ℤ → Output → Output) → ℕ → Part
+figure with o r =
+    judged ((is NUMBER r, 2) ∷ (isCrisp (text r), 3) ∷ (inRange (rangeOf o (r .block)) (valueHere r), 7) ∷ [])
+    r (advance (change (changeOutput (with (valueHere r)) o) r))
+
+unfoldable pub singletonNamed : ℕ → Part
+singletonNamed o r =
+    judged ((is NAME r, 2) ∷ (isShort r, 4) ∷ (leb (length (singletonsOf o (r .block))) (singletonOf o (text r) (r .block)), 4) ∷ [])
+    r (advance r ▸ expect ASSIGN ▸ figure (λ x. asSingleton (record { name = text r; at = x })) o ▸ expect SEMICOLON)
+
+unfoldable pub outputTerm : ℕ → Part
+outputTerm o r =
+    judged ((is TERM r, 2) ∷ (ltb (length (singletonsOf o (r .block))) termLimit, 6) ∷ []) r (singletonNamed o (advance r))
+
+unfoldable pub defaultValue : ℕ → Part
+defaultValue o r = if is NC r then advance r else figure asDefault o r
+
+unfoldable pub defuzzifyOf : ℕ → Part
+defuzzifyOf o r =
+    judged ((is NAME r, 2) ∷ (isShort r, 4) ∷ (isEmpty (singletonsOf o (r .block)), 4) ∷ (ltb o (length (r .block .outputs)), 5) ∷ [])
+    r
+    (advance r ▸ range o ▸ outputTerm o ▸ repeated TERM (outputTerm o)
+      ▸ expect METHOD ▸ expect COLON ▸ expect CoGS ▸ expect SEMICOLON
+      ▸ expect DEFAULT ▸ expect ASSIGN ▸ defaultValue o ▸ expect SEMICOLON ▸ expect END-DEFUZZIFY)
+
+unfoldable pub defuzzifyNamed : Part
+defuzzifyNamed r = defuzzifyOf (outputOf (text r) (r .block)) r
+
+unfoldable pub defuzzify : Part
+defuzzify r = r ▸ expect DEFUZZIFY ▸ defuzzifyNamed

@@ -1,0 +1,125 @@
+-- How far a text is read, and the steps that every part of the reader's rules is made of.
+-- A refusal drops the tokens that are left, so no later step finds what it asks for.
+use mathlib.Core.Bool.{Bool, true, false}
+use mathlib.Core.List.{List, [], _∷_}
+use Prim.Native.Nat.{ℕ, zero, suc}
+use lib.Dec.{leb, eqb}
+use lib.IntN.{ℤ}
+use lib.ListN.{length}
+use Rattle.model.specs.Basic.{if_then_else_, _▸_}
+use Rattle.model.specs.Bounds.{nameLimit}
+use Rattle.model.specs.Keywords.{END, NAME, COMMA}
+use Rattle.model.specs.Tokens.{valueOf, Token, token}
+use Rattle.model.specs.Block.{Input, Output, Rule, Pair, Accumulation, Activation, Block, min-max, by-max, by-min}
+
+-- rest: from the current token on; why: 0, or the number of the first refusal, at place;
+-- block: what was read; words: the condition words that were read
+pub record Parse : Type 0 where
+  pub rest : List Token
+  pub why : ℕ
+  pub place : ℕ
+  pub block : Block
+  pub words : ℕ
+
+-- a step of reading
+abbrev pub Part : Type 0
+Part = Parse → Parse
+
+abbrev pub noToken : Token
+noToken = token END [] 0
+
+abbrev pub headOf : List Token → Token
+headOf [] = noToken
+headOf (t ∷ ts) = t
+
+abbrev pub restOf : List Token → List Token
+restOf [] = []
+restOf (t ∷ ts) = ts
+
+unfoldable pub kind : Parse → ℕ
+kind r = headOf (r .rest) .kind
+
+unfoldable pub text : Parse → List ℕ
+text r = headOf (r .rest) .text
+
+unfoldable pub here : Parse → ℕ
+here r = headOf (r .rest) .place
+
+abbrev pub is : ℕ → Parse → Bool
+is k r = eqb (kind r) k
+
+unfoldable pub refuse : ℕ → Part
+refuse n r =
+    if eqb (r .why) 0
+    then record { rest = noToken ∷ []; why = n; place = here r; block = r .block; words = r .words }
+    else r
+
+unfoldable pub advance : Part
+advance r = record { rest = restOf (r .rest); why = r .why; place = r .place; block = r .block; words = r .words }
+
+unfoldable pub change : (Block → Block) → Part
+change f r =
+    if eqb (r .why) 0
+    then record { rest = r .rest; why = r .why; place = r .place; block = f (r .block); words = r .words }
+    else r
+
+-- the checks of a token in their order, each with the number it is refused by; then what follows
+unfoldable pub judged : List (Bool × ℕ) → Parse → Parse → Parse
+judged [] r next = next
+judged ((ok, n) ∷ cs) r next = if ok then judged cs r next else refuse n r
+
+unfoldable pub expect : ℕ → Part
+expect k r = if is k r then advance r else refuse 2 r
+
+-- part again and again, while the current token is of kind k; never more often than there are tokens left
+unfoldable pub repeatOn : ℕ → ℕ → Part → Part
+repeatOn zero k part r = r
+repeatOn (suc n) k part r = elim (is k r) [ true ↦ repeatOn n k part (part r) | false ↦ r ]
+
+unfoldable pub repeated : ℕ → Part → Part
+repeated k part r = repeatOn (suc (length (r .rest))) k part r
+
+-- part, and part again after each comma
+unfoldable pub listed : Part → Part
+listed part r = r ▸ part ▸ repeated COMMA (λ q. q ▸ expect COMMA ▸ part)
+
+-- what the current token says, as a name and as a number
+abbrev pub isShort : Parse → Bool
+isShort r = leb (length (text r)) nameLimit
+
+abbrev pub valueHere : Parse → ℤ
+valueHere r = valueOf (text r)
+
+-- THE BLOCK, CHANGED
+abbrev pub withInputs : (List Input → List Input) → Block → Block
+withInputs f b = record { name = b .name; inputs = f (b .inputs); outputs = b .outputs; ruleBlock = b .ruleBlock; pair = b .pair; act = b .act; accu = b .accu; rules = b .rules }
+
+abbrev pub withOutputs : (List Output → List Output) → Block → Block
+withOutputs f b = record { name = b .name; inputs = b .inputs; outputs = f (b .outputs); ruleBlock = b .ruleBlock; pair = b .pair; act = b .act; accu = b .accu; rules = b .rules }
+
+abbrev pub withRules : (List Rule → List Rule) → Block → Block
+withRules f b = record { name = b .name; inputs = b .inputs; outputs = b .outputs; ruleBlock = b .ruleBlock; pair = b .pair; act = b .act; accu = b .accu; rules = f (b .rules) }
+
+abbrev pub withName : List ℕ → Block → Block
+withName w b = record { name = w; inputs = b .inputs; outputs = b .outputs; ruleBlock = b .ruleBlock; pair = b .pair; act = b .act; accu = b .accu; rules = b .rules }
+
+abbrev pub withRuleBlock : List ℕ → Block → Block
+withRuleBlock w b = record { name = b .name; inputs = b .inputs; outputs = b .outputs; ruleBlock = w; pair = b .pair; act = b .act; accu = b .accu; rules = b .rules }
+
+abbrev pub withPair : Pair → Block → Block
+withPair p b = record { name = b .name; inputs = b .inputs; outputs = b .outputs; ruleBlock = b .ruleBlock; pair = p; act = b .act; accu = b .accu; rules = b .rules }
+
+abbrev pub withAct : Activation → Block → Block
+withAct a b = record { name = b .name; inputs = b .inputs; outputs = b .outputs; ruleBlock = b .ruleBlock; pair = b .pair; act = a; accu = b .accu; rules = b .rules }
+
+abbrev pub withAccu : Accumulation → Block → Block
+withAccu a b = record { name = b .name; inputs = b .inputs; outputs = b .outputs; ruleBlock = b .ruleBlock; pair = b .pair; act = b .act; accu = a; rules = b .rules }
+
+-- none given means MIN/MAX; ACT absent means MIN
+abbrev pub emptyBlock : Block
+emptyBlock = record { name = []; inputs = []; outputs = []; ruleBlock = []; pair = min-max; act = by-min; accu = by-max; rules = [] }
+
+-- a name of its own: of the function block, of the rule block
+unfoldable pub named : (List ℕ → Block → Block) → Part
+named with r =
+    judged ((is NAME r, 2) ∷ (isShort r, 4) ∷ []) r (advance (change (with (text r)) r))
