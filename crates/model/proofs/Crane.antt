@@ -1,16 +1,19 @@
 -- The container crane of annex C of source 001, with commas between points.
-use mathlib.Core.List.{List, [], _∷_, _++_, map}
-use mathlib.Core.Option.{Option, none, some}
+use mathlib.Core.Bool.{Bool, true, false}
+use mathlib.Core.List.{List, [], _∷_, _++_}
+use mathlib.Core.Option.{none, some}
 use mathlib.Core.Path.{_≡_, refl}
 use Prim.Native.Nat.{ℕ}
+use Prim.Native.String.{String}
 use lib.Ieee.{binary32, binary64, ofInt, ofBits}
-use lib.IntN.{ℤ, pos}
+use lib.IntN.{ℤ, pos, negsuc}
 use lib.ListN.{length}
 use Rattle.model.specs.Basic.{bytes}
-use Rattle.model.specs.Block.{Block}
+use Rattle.model.specs.Bounds.{M}
+use Rattle.model.specs.Block.{Point, Term, Singleton, real, Condition, term, two, and, Rule, Block, min-max, by-min, by-max}
 use Rattle.model.specs.Outcome.{Outcome, accepted, refused}
 use Rattle.model.specs.Reader.{reads}
-use Rattle.model.specs.Evaluation.{termDegrees, freshOf, answers, noAnswer, padded, evaluated, Evaluated, called, heldOf}
+use Rattle.model.specs.Evaluation.{termDegrees, heldOf, freshOf, noAnswer, padded, called}
 use Rattle.model.specs.declared.Answer.{Answer}
 use Rattle.model.specs.declared.Mark.the-variants.{Fired}
 use Rattle.model.specs.declared.Reading.the-variants.{Real}
@@ -42,13 +45,12 @@ crane-as-printed : reads (crane ++ (firstRules ++ (bytes "pos_big" ++ lastRules)
 unfolding opened
 crane-as-printed = refl
 
--- rules and terms, counted; none where the text is refused
-abbrev counted : Outcome Block → List ℕ
-counted (accepted b) =
-    length (b .inputs) ∷ length (b .outputs) ∷ length (b .rules) ∷ (map (λ v. length (v .terms)) (b .inputs) ++ map (λ v. length (v .terms)) (b .outputs))
-counted (refused n p) = []
+-- with pos_high there it is read
+abbrev isAccepted : Outcome Block → Bool
+isAccepted (accepted b) = true
+isAccepted (refused n p) = false
 
-crane-reads : counted (reads (crane ++ (firstRules ++ (bytes "pos_high" ++ lastRules)))) ≡ 2 ∷ 1 ∷ 6 ∷ 5 ∷ 5 ∷ 5 ∷ []
+crane-reads : isAccepted (reads (crane ++ (firstRules ++ (bytes "pos_high" ++ lastRules)))) ≡ true
 unfolding opened
 crane-reads = refl
 
@@ -59,13 +61,61 @@ illustrated =
     ++ (bytes " RULE 1: IF distance IS medium AND angle IS pos_small THEN power IS pos_medium;\n RULE 2: IF distance IS medium AND angle IS zero THEN power IS zero;\n"
     ++ bytes " RULE 3: IF distance IS far AND angle IS zero THEN power IS pos_medium;\nEND_RULEBLOCK\nEND_FUNCTION_BLOCK\n")
 
-abbrev onBlock : {A : Type 0} → (Block → A) → Outcome Block → Option A
-onBlock f (accepted b) = some (f b)
-onBlock f (refused n p) = none
+abbrev at : ℤ → ℕ → Point
+at x d = record { at = x; degree = d }
+
+abbrev named : String → List Point → Term
+named w ps = record { name = bytes w; points = ps }
+
+abbrev singleton : String → ℤ → Singleton
+singleton w x = record { name = bytes w; at = x }
+
+abbrev thenPower : ℕ → Condition → ℕ → Rule
+thenPower n c t = record { number = n; condition = c; conclusions = record { output = 0; term = t } ∷ []; weight = M }
+
+abbrev illustratedBlock : Block
+illustratedBlock = record {
+  name = bytes "container_crane";
+  inputs =
+    record {
+      name = bytes "distance";
+      type = real;
+      terms =
+        named "too_far" (at (negsuc 4999) M ∷ at (pos 0) 0 ∷ [])
+        ∷ named "zero" (at (negsuc 4999) 0 ∷ at (pos 0) M ∷ at (pos 5000) 0 ∷ [])
+        ∷ named "close" (at (pos 0) 0 ∷ at (pos 5000) M ∷ at (pos 10000) 0 ∷ [])
+        ∷ named "medium" (at (pos 5000) 0 ∷ at (pos 10000) M ∷ at (pos 22000) 0 ∷ [])
+        ∷ named "far" (at (pos 10000) 0 ∷ at (pos 22000) M ∷ []) ∷ [] }
+    ∷ record {
+      name = bytes "angle";
+      type = real;
+      terms =
+        named "neg_big" (at (negsuc 49999) M ∷ at (negsuc 4999) 0 ∷ [])
+        ∷ named "neg_small" (at (negsuc 49999) 0 ∷ at (negsuc 4999) M ∷ at (pos 0) 0 ∷ [])
+        ∷ named "zero" (at (negsuc 4999) 0 ∷ at (pos 0) M ∷ at (pos 5000) 0 ∷ [])
+        ∷ named "pos_small" (at (pos 0) 0 ∷ at (pos 5000) M ∷ at (pos 50000) 0 ∷ [])
+        ∷ named "pos_big" (at (pos 5000) 0 ∷ at (pos 50000) M ∷ []) ∷ [] } ∷ [];
+  outputs =
+    record {
+      name = bytes "power";
+      terms =
+        singleton "neg_high" (negsuc 26999) ∷ singleton "neg_medium" (negsuc 8999) ∷ singleton "zero" (pos 0)
+        ∷ singleton "pos_medium" (pos 9000) ∷ singleton "pos_high" (pos 27000) ∷ [];
+      range = none;
+      default = some (pos 0) } ∷ [];
+  ruleBlock = bytes "No1";
+  pair = min-max;
+  act = by-min;
+  accu = by-max;
+  rules = thenPower 1 (two and (term 3) (term 8)) 13 ∷ thenPower 2 (two and (term 3) (term 7)) 12 ∷ thenPower 3 (two and (term 4) (term 7)) 13 ∷ [] }
+
+illustrated-reads : reads illustrated ≡ accepted illustratedBlock
+unfolding opened
+illustrated-reads = refl
 
 -- at distance 12, angle 4: medium 10/12 and far 2/12, zero 0.2 and pos_small 0.8
-crane-degrees : onBlock (λ b. termDegrees (b .inputs) (pos 12000 ∷ pos 4000 ∷ [])) (reads illustrated)
-    ≡ some (0 ∷ 0 ∷ 0 ∷ 833333 ∷ 166667 ∷ 0 ∷ 0 ∷ 200000 ∷ 800000 ∷ 0 ∷ [])
+crane-degrees : termDegrees (illustratedBlock .inputs) (pos 12000 ∷ pos 4000 ∷ [])
+    ≡ 0 ∷ 0 ∷ 0 ∷ 833333 ∷ 166667 ∷ 0 ∷ 0 ∷ 200000 ∷ 800000 ∷ 0 ∷ []
 unfolding opened
 crane-degrees = refl
 
@@ -74,7 +124,7 @@ abbrev power : Answer
 power = record { mark = Fired; thousandths = record { 0 = pos 7200 }; sum = 1000000; value = ofBits binary64 0x401ccccccccccccd }
 
 crane-answers :
-    onBlock (λ b. called b (Real (ofInt binary32 (pos 12)) ∷ Real (ofInt binary32 (pos 4)) ∷ []) 2 (freshOf b)) (reads illustrated)
-    ≡ some (accepted (record { answers = padded noAnswer (power ∷ []); held = heldOf (pos 7200 ∷ []) }))
+    called illustratedBlock (Real (ofInt binary32 (pos 12)) ∷ Real (ofInt binary32 (pos 4)) ∷ []) 2 (freshOf illustratedBlock)
+    ≡ accepted (record { answers = padded noAnswer (power ∷ []); held = heldOf (pos 7200 ∷ []) })
 unfolding opened
 crane-answers = refl
