@@ -21,11 +21,11 @@ use Rattle.model.proofs.Refused.{fuzzified, ruled, times, rulesFrom}
 -- the keywords that the reader asks for, in the order of the table
 keyword-kinds : map wordKind keywords
     ≡ Keywords.ACCU ∷ Keywords.ACT ∷ Keywords.AND ∷ Keywords.ASUM ∷ Keywords.BDIF ∷ Keywords.BSUM ∷ 134 ∷ 135 ∷ Keywords.CoGS
-      ∷ Keywords.DEFAULT ∷ Keywords.DEFUZZIFY ∷ Keywords.END-DEFUZZIFY ∷ Keywords.END-FUNCTION-BLOCK ∷ Keywords.END-FUZZIFY ∷ 142
-      ∷ Keywords.END-RULEBLOCK ∷ Keywords.END-VAR ∷ Keywords.FUNCTION-BLOCK ∷ Keywords.FUZZIFY ∷ Keywords.IF ∷ Keywords.IS ∷ 149
-      ∷ Keywords.MAX ∷ Keywords.METHOD ∷ Keywords.MIN ∷ Keywords.NC ∷ Keywords.NOT ∷ 155 ∷ 156 ∷ Keywords.OR ∷ Keywords.PROD
-      ∷ Keywords.RANGE ∷ 160 ∷ Keywords.RULE ∷ Keywords.RULEBLOCK ∷ Keywords.TERM ∷ Keywords.THEN ∷ 165 ∷ Keywords.VAR-INPUT
-      ∷ Keywords.VAR-OUTPUT ∷ Keywords.WITH ∷ Keywords.REAL ∷ Keywords.INT ∷ []
+    ∷ Keywords.DEFAULT ∷ Keywords.DEFUZZIFY ∷ Keywords.END-DEFUZZIFY ∷ Keywords.END-FUNCTION-BLOCK ∷ Keywords.END-FUZZIFY ∷ 142
+    ∷ Keywords.END-RULEBLOCK ∷ Keywords.END-VAR ∷ Keywords.FUNCTION-BLOCK ∷ Keywords.FUZZIFY ∷ Keywords.IF ∷ Keywords.IS ∷ 149
+    ∷ Keywords.MAX ∷ Keywords.METHOD ∷ Keywords.MIN ∷ Keywords.NC ∷ Keywords.NOT ∷ 155 ∷ 156 ∷ Keywords.OR ∷ Keywords.PROD
+    ∷ Keywords.RANGE ∷ 160 ∷ Keywords.RULE ∷ Keywords.RULEBLOCK ∷ Keywords.TERM ∷ Keywords.THEN ∷ 165 ∷ Keywords.VAR-INPUT
+    ∷ Keywords.VAR-OUTPUT ∷ Keywords.WITH ∷ Keywords.REAL ∷ Keywords.INT ∷ []
 unfolding opened
 keyword-kinds = refl
 
@@ -43,7 +43,7 @@ oneRule c = whole (ruled ++ (bytes "RULE 1: IF " ++ (c ++ bytes " THEN y IS k;")
 abbrev figures : String → String → List ℕ
 figures t d =
     whole (fuzzified ++ (bytes "DEFUZZIFY y " ++ (bytes t ++ (bytes " METHOD : CoGS; DEFAULT := " ++ (bytes d
-      ++ bytes "; END_DEFUZZIFY RULEBLOCK r ACCU : MAX; RULE 1: IF a IS t THEN y IS k;")))))
+    ++ bytes "; END_DEFUZZIFY RULEBLOCK r ACCU : MAX; RULE 1: IF a IS t THEN y IS k;")))))
 
 -- AT THE BOUNDS: 64 rules, 128 conclusions, 640 condition words, 8 parentheses; a name of 16 bytes; the ends of RANGE and of numbers
 abbrev atBounds : List (List ℕ)
@@ -71,7 +71,8 @@ hundred =
       name = bytes "y";
       terms = record { name = bytes "k"; at = pos 5000 } ∷ [];
       range = some (record { least = pos 0; most = pos 100000 });
-      default = some (pos 100000) } ∷ []
+      default = some (pos 100000);
+    } ∷ []
 
 spelt-alike :
     map (λ s. outputsRead (reads s))

@@ -76,11 +76,11 @@ list =
 -- then a wrong count, a wrong kind, an absent and an infinite reading; then nothing fires again
 called-list : fromFresh stored list
     ≡ accepted (
-      answered (answer HeldMark (pos 10000) 0 0x4024000000000000) (answer Default (negsuc 2999) 0 0xc008000000000000) (pos 10000) (negsuc 2999)
-      ∷ answered (answer Fired (pos 13333) 1500000 0x402aaa7ef9db22d1) (answer Fired (negsuc 4499) 500000 0xc012000000000000) (pos 13333) (negsuc 4499)
-      ∷ refused 12 none ∷ refused 14 (some 0) ∷ refused 14 (some 1) ∷ refused 14 (some 0)
-      ∷ answered (answer HeldMark (pos 13333) 0 0x402aaa7ef9db22d1) (answer Default (negsuc 2999) 0 0xc008000000000000) (pos 13333) (negsuc 2999)
-      ∷ [])
+    answered (answer HeldMark (pos 10000) 0 0x4024000000000000) (answer Default (negsuc 2999) 0 0xc008000000000000) (pos 10000) (negsuc 2999)
+    ∷ answered (answer Fired (pos 13333) 1500000 0x402aaa7ef9db22d1) (answer Fired (negsuc 4499) 500000 0xc012000000000000) (pos 13333) (negsuc 4499)
+    ∷ refused 12 none ∷ refused 14 (some 0) ∷ refused 14 (some 1) ∷ refused 14 (some 0)
+    ∷ answered (answer HeldMark (pos 13333) 0 0x402aaa7ef9db22d1) (answer Default (negsuc 2999) 0 0xc008000000000000) (pos 13333) (negsuc 2999)
+    ∷ [])
 unfolding opened
 called-list = refl
 

@@ -77,37 +77,41 @@ abbrev illustratedBlock : Block
 illustratedBlock = record {
   name = bytes "container_crane";
   inputs =
-    record {
-      name = bytes "distance";
-      type = real;
-      terms =
-        named "too_far" (at (negsuc 4999) M ∷ at (pos 0) 0 ∷ [])
-        ∷ named "zero" (at (negsuc 4999) 0 ∷ at (pos 0) M ∷ at (pos 5000) 0 ∷ [])
-        ∷ named "close" (at (pos 0) 0 ∷ at (pos 5000) M ∷ at (pos 10000) 0 ∷ [])
-        ∷ named "medium" (at (pos 5000) 0 ∷ at (pos 10000) M ∷ at (pos 22000) 0 ∷ [])
-        ∷ named "far" (at (pos 10000) 0 ∷ at (pos 22000) M ∷ []) ∷ [] }
-    ∷ record {
-      name = bytes "angle";
-      type = real;
-      terms =
-        named "neg_big" (at (negsuc 49999) M ∷ at (negsuc 4999) 0 ∷ [])
-        ∷ named "neg_small" (at (negsuc 49999) 0 ∷ at (negsuc 4999) M ∷ at (pos 0) 0 ∷ [])
-        ∷ named "zero" (at (negsuc 4999) 0 ∷ at (pos 0) M ∷ at (pos 5000) 0 ∷ [])
-        ∷ named "pos_small" (at (pos 0) 0 ∷ at (pos 5000) M ∷ at (pos 50000) 0 ∷ [])
-        ∷ named "pos_big" (at (pos 5000) 0 ∷ at (pos 50000) M ∷ []) ∷ [] } ∷ [];
+      record {
+        name = bytes "distance";
+        type = real;
+        terms =
+            named "too_far" (at (negsuc 4999) M ∷ at (pos 0) 0 ∷ [])
+            ∷ named "zero" (at (negsuc 4999) 0 ∷ at (pos 0) M ∷ at (pos 5000) 0 ∷ [])
+            ∷ named "close" (at (pos 0) 0 ∷ at (pos 5000) M ∷ at (pos 10000) 0 ∷ [])
+            ∷ named "medium" (at (pos 5000) 0 ∷ at (pos 10000) M ∷ at (pos 22000) 0 ∷ [])
+            ∷ named "far" (at (pos 10000) 0 ∷ at (pos 22000) M ∷ []) ∷ [];
+      }
+      ∷ record {
+        name = bytes "angle";
+        type = real;
+        terms =
+            named "neg_big" (at (negsuc 49999) M ∷ at (negsuc 4999) 0 ∷ [])
+            ∷ named "neg_small" (at (negsuc 49999) 0 ∷ at (negsuc 4999) M ∷ at (pos 0) 0 ∷ [])
+            ∷ named "zero" (at (negsuc 4999) 0 ∷ at (pos 0) M ∷ at (pos 5000) 0 ∷ [])
+            ∷ named "pos_small" (at (pos 0) 0 ∷ at (pos 5000) M ∷ at (pos 50000) 0 ∷ [])
+            ∷ named "pos_big" (at (pos 5000) 0 ∷ at (pos 50000) M ∷ []) ∷ [];
+      } ∷ [];
   outputs =
-    record {
-      name = bytes "power";
-      terms =
-        singleton "neg_high" (negsuc 26999) ∷ singleton "neg_medium" (negsuc 8999) ∷ singleton "zero" (pos 0)
-        ∷ singleton "pos_medium" (pos 9000) ∷ singleton "pos_high" (pos 27000) ∷ [];
-      range = none;
-      default = some (pos 0) } ∷ [];
+      record {
+        name = bytes "power";
+        terms =
+            singleton "neg_high" (negsuc 26999) ∷ singleton "neg_medium" (negsuc 8999) ∷ singleton "zero" (pos 0)
+            ∷ singleton "pos_medium" (pos 9000) ∷ singleton "pos_high" (pos 27000) ∷ [];
+        range = none;
+        default = some (pos 0);
+      } ∷ [];
   ruleBlock = bytes "No1";
   pair = min-max;
   act = by-min;
   accu = by-max;
-  rules = thenPower 1 (two and (term 3) (term 8)) 13 ∷ thenPower 2 (two and (term 3) (term 7)) 12 ∷ thenPower 3 (two and (term 4) (term 7)) 13 ∷ [] }
+  rules = thenPower 1 (two and (term 3) (term 8)) 13 ∷ thenPower 2 (two and (term 3) (term 7)) 12 ∷ thenPower 3 (two and (term 4) (term 7)) 13 ∷ [];
+}
 
 illustrated-reads : reads illustrated ≡ accepted illustratedBlock
 unfolding opened

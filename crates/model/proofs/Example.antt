@@ -26,18 +26,20 @@ trust = record {
   name = bytes "trust";
   inputs = record { name = bytes "sharp"; type = real; terms = record { name = bytes "clear"; points = clear } ∷ [] } ∷ [];
   outputs =
-    record {
-      name = bytes "grade";
-      terms = record { name = bytes "low"; at = pos 0 } ∷ record { name = bytes "high"; at = pos 100000 } ∷ [];
-      range = none;
-      default = none } ∷ [];
+      record {
+        name = bytes "grade";
+        terms = record { name = bytes "low"; at = pos 0 } ∷ record { name = bytes "high"; at = pos 100000 } ∷ [];
+        range = none;
+        default = none;
+      } ∷ [];
   ruleBlock = bytes "r";
   pair = min-max;
   act = by-min;
   accu = by-max;
   rules =
-    record { number = 1; condition = term 0; conclusions = record { output = 0; term = 2 } ∷ []; weight = 1000000 }
-    ∷ record { number = 2; condition = neg (term 0); conclusions = record { output = 0; term = 1 } ∷ []; weight = 1000000 } ∷ [] }
+      record { number = 1; condition = term 0; conclusions = record { output = 0; term = 2 } ∷ []; weight = 1000000 }
+      ∷ record { number = 2; condition = neg (term 0); conclusions = record { output = 0; term = 1 } ∷ []; weight = 1000000 } ∷ [];
+}
 
 example-reads : reads exampleText ≡ accepted trust
 unfolding opened
@@ -53,23 +55,23 @@ example-size = refl
 
 example-header : take 28 (words trust)
     ≡ 1 ∷ 91 ∷ 1 ∷ 1 ∷ 3 ∷ 4 ∷ 2 ∷ 3 ∷ 2
-      ∷ 28 ∷ 35 ∷ 46 ∷ 64 ∷ 72 ∷ 84 ∷ 87
-      ∷ 0 ∷ 0 ∷ 0 ∷ 0
-      ∷ 0x73757274 ∷ 0x74 ∷ 0 ∷ 0 ∷ 0x72 ∷ 0 ∷ 0 ∷ 0 ∷ []
+    ∷ 28 ∷ 35 ∷ 46 ∷ 64 ∷ 72 ∷ 84 ∷ 87
+    ∷ 0 ∷ 0 ∷ 0 ∷ 0
+    ∷ 0x73757274 ∷ 0x74 ∷ 0 ∷ 0 ∷ 0x72 ∷ 0 ∷ 0 ∷ 0 ∷ []
 unfolding opened
 example-header = refl
 
 -- the input and the output: names, type, first term and term count; no RANGE, NC
 example-variables : take 18 (drop 28 (words trust))
     ≡ 0x72616873 ∷ 0x70 ∷ 0 ∷ 0 ∷ 0 ∷ 0 ∷ 1
-      ∷ 0x64617267 ∷ 0x65 ∷ 0 ∷ 0 ∷ 1 ∷ 2 ∷ 0 ∷ 0 ∷ 0 ∷ 0 ∷ 0 ∷ []
+    ∷ 0x64617267 ∷ 0x65 ∷ 0 ∷ 0 ∷ 1 ∷ 2 ∷ 0 ∷ 0 ∷ 0 ∷ 0 ∷ 0 ∷ []
 unfolding opened
 example-variables = refl
 
 example-terms : take 18 (drop 46 (words trust))
     ≡ 0x61656c63 ∷ 0x72 ∷ 0 ∷ 0 ∷ 0 ∷ 2
-      ∷ 0x776f6c ∷ 0 ∷ 0 ∷ 0 ∷ 2 ∷ 1
-      ∷ 0x68676968 ∷ 0 ∷ 0 ∷ 0 ∷ 3 ∷ 1 ∷ []
+    ∷ 0x776f6c ∷ 0 ∷ 0 ∷ 0 ∷ 2 ∷ 1
+    ∷ 0x68676968 ∷ 0 ∷ 0 ∷ 0 ∷ 3 ∷ 1 ∷ []
 unfolding opened
 example-terms = refl
 

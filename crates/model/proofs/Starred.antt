@@ -69,9 +69,10 @@ table =
     -- sharp 30: degree 250,000, grade fired 25,000, S 1,000,000, float 25.0
     number 250000 (termDegree clear (pos 30000))
     ∷ record {
-        Value = Answer;
-        printed = record { mark = Fired; thousandths = record { 0 = pos 25000 }; sum = 1000000; value = fin false 25 (pos 0) };
-        defined = getD (answersIn (evaluate (image trust) (Real (ofInt binary32 (pos 30)) ∷ []) 1 (freshOf trust))) 0 noAnswer }
+      Value = Answer;
+      printed = record { mark = Fired; thousandths = record { 0 = pos 25000 }; sum = 1000000; value = fin false 25 (pos 0) };
+      defined = getD (answersIn (evaluate (image trust) (Real (ofInt binary32 (pos 30)) ∷ []) 1 (freshOf trust))) 0 noAnswer;
+    }
     -- points (0, 0), (3, 1): at 1 and at 2
     ∷ number 333333 (termDegree third (pos 1000))
     ∷ number 666667 (termDegree third (pos 2000))
@@ -85,8 +86,10 @@ table =
     -- equal heights at -0.003 and 0; at -0.003, -0.002 and 0
     ∷ record { Value = ℤ; printed = negsuc 0; defined = equally (singleton (negsuc 2) ∷ singleton (pos 0) ∷ []) (1 ∷ 1 ∷ []) }
     ∷ record {
-        Value = ℤ; printed = negsuc 1;
-        defined = equally (singleton (negsuc 2) ∷ singleton (negsuc 1) ∷ singleton (pos 0) ∷ []) (1 ∷ 1 ∷ 1 ∷ []) }
+      Value = ℤ;
+      printed = negsuc 1;
+      defined = equally (singleton (negsuc 2) ∷ singleton (negsuc 1) ∷ singleton (pos 0) ∷ []) (1 ∷ 1 ∷ 1 ∷ []);
+    }
     -- degree 250,000 WITH 0.5
     ∷ number 125000 (ruleDegree trust (250000 ∷ []) (record { number = 1; condition = term 0; conclusions = []; weight = 500000 }))
     -- a OR b AND c at 0.2, 0.9, 0.1 under MIN/MAX

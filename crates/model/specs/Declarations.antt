@@ -181,8 +181,8 @@ defuzzifyOf o r =
     judged ((is NAME r, 2) ∷ (isShort r, 4) ∷ (isEmpty (singletonsOf o (r .block)), 4) ∷ (ltb o (length (r .block .outputs)), 5) ∷ [])
     r
     (advance r ▸ range o ▸ outputTerm o ▸ repeated TERM (outputTerm o)
-      ▸ expect METHOD ▸ expect COLON ▸ expect CoGS ▸ expect SEMICOLON
-      ▸ expect DEFAULT ▸ expect ASSIGN ▸ defaultValue o ▸ expect SEMICOLON ▸ expect END-DEFUZZIFY)
+    ▸ expect METHOD ▸ expect COLON ▸ expect CoGS ▸ expect SEMICOLON
+    ▸ expect DEFAULT ▸ expect ASSIGN ▸ defaultValue o ▸ expect SEMICOLON ▸ expect END-DEFUZZIFY)
 
 unfoldable pub defuzzifyNamed : Part
 defuzzifyNamed r = defuzzifyOf (outputOf (text r) (r .block)) r

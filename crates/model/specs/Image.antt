@@ -189,7 +189,8 @@ inputAt w i =
     record {
       name = nameAt w o;
       type = if eqb (w (o + 4)) 0 then real else int;
-      terms = tab (termAt w) (w (o + 6)) (w (o + 5)) }
+      terms = tab (termAt w) (w (o + 6)) (w (o + 5));
+    }
 
 unfoldable pub outputAt : (ℕ → ℕ) → ℕ → Output
 outputAt w i =
@@ -198,7 +199,8 @@ outputAt w i =
       name = nameAt w o;
       terms = tab (singletonAt w) (w (o + 5)) (w (o + 4));
       range = if eqb (w (o + 6)) 0 then none else some (record { least = crispOf (w (o + 7)); most = crispOf (w (o + 8)) });
-      default = if eqb (w (o + 9)) 0 then none else some (crispOf (w (o + 10))) }
+      default = if eqb (w (o + 9)) 0 then none else some (crispOf (w (o + 10)));
+    }
 
 -- the trees that postfix words leave, the last on top
 abbrev pub negateTop : List Condition → List Condition
@@ -234,7 +236,8 @@ ruleAt w i =
       number = w o;
       condition = treeOf (tab (λ k. w (w 14 + k)) (w (o + 2)) (w (o + 1)));
       conclusions = tab (conclusionAt w) (w (o + 4)) (w (o + 3));
-      weight = w (o + 5) }
+      weight = w (o + 5);
+    }
 
 abbrev pub pairOf : ℕ → Pair
 pairOf w = if eqb w 0 then min-max else if eqb w 1 then prod-asum else bdif-bsum
@@ -254,7 +257,8 @@ decode w = record {
   pair = pairOf (w 16);
   act = actOf (w 18);
   accu = accuOf (w 17);
-  rules = tab (ruleAt w) (w 6) 0 }
+  rules = tab (ruleAt w) (w 6) 0;
+}
 
 -- THE LOAD CHECK: the bytes are the image of the well-formed block that they stand for
 unfoldable pub isImageOf : List ℕ → Block → Bool

@@ -25,11 +25,11 @@ endOfBlock r = judged ((is END-FUNCTION-BLOCK r, 2) ∷ (partsThere (r .block), 
 unfoldable pub functionBlock : Part
 functionBlock r =
     r ▸ expect FUNCTION-BLOCK ▸ named withName
-      ▸ expect VAR-INPUT ▸ inputDeclaration ▸ repeated NAME inputDeclaration ▸ expect END-VAR
-      ▸ expect VAR-OUTPUT ▸ outputDeclaration ▸ repeated NAME outputDeclaration ▸ expect END-VAR
-      ▸ fuzzify ▸ repeated FUZZIFY fuzzify
-      ▸ defuzzify ▸ repeated DEFUZZIFY defuzzify
-      ▸ ruleBlock ▸ endOfBlock ▸ expect END
+    ▸ expect VAR-INPUT ▸ inputDeclaration ▸ repeated NAME inputDeclaration ▸ expect END-VAR
+    ▸ expect VAR-OUTPUT ▸ outputDeclaration ▸ repeated NAME outputDeclaration ▸ expect END-VAR
+    ▸ fuzzify ▸ repeated FUZZIFY fuzzify
+    ▸ defuzzify ▸ repeated DEFUZZIFY defuzzify
+    ▸ ruleBlock ▸ endOfBlock ▸ expect END
 
 abbrev pub start : List ℕ → Parse
 start s = record { rest = tokens s; why = 0; place = 0; block = emptyBlock; words = 0 }

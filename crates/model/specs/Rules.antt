@@ -33,7 +33,7 @@ unfoldable pub termNamed : ℕ → Parse → Got
 termNamed i r =
     got
     (judged ((is NAME r, 2) ∷ (isShort r, 4) ∷ (ltb (termOf i (text r) (r .block)) (length (termsOf i (r .block))), 5) ∷ [])
-      r (advance r))
+    r (advance r))
     (term (inputFirst i (r .block) + termOf i (text r) (r .block)))
 
 abbrev pub negated : Got → Got
@@ -48,7 +48,7 @@ unfoldable pub subcondition : Parse → Got
 subcondition r =
     termHere (inputOf (text r) (r .block))
     (judged ((is NAME r, 2) ∷ (isShort r, 4) ∷ (ltb (inputOf (text r) (r .block)) (length (r .block .inputs)), 5) ∷ [])
-      r (word r) ▸ expect IS)
+    r (word r) ▸ expect IS)
 
 -- part {k part}, grouped to the left
 unfoldable pub chainOn : ℕ → (Parse → Got) → ℕ → Op → Got → Got
@@ -151,7 +151,7 @@ concludedTerm o r =
     judged ((is NAME r, 2) ∷ (isShort r, 4) ∷ (ltb (singletonOf o (text r) (r .block)) (length (singletonsOf o (r .block))), 5) ∷ [])
     r
     (advance (change (changeRule (withConclusion
-      (record { output = o; term = outputFirst o (r .block) + singletonOf o (text r) (r .block) }))) r))
+    (record { output = o; term = outputFirst o (r .block) + singletonOf o (text r) (r .block) }))) r))
 
 unfoldable pub conclusion : Part
 conclusion r =
@@ -178,6 +178,6 @@ rule r = judged ((is RULE r, 2) ∷ (ltb (length (r .block .rules)) ruleLimit, 6
 unfoldable pub ruleBlock : Part
 ruleBlock r =
     r ▸ expect RULEBLOCK ▸ named withRuleBlock
-      ▸ algorithms ▸ activationLine
-      ▸ expect ACCU ▸ expect COLON ▸ accumulation ▸ expect SEMICOLON
-      ▸ rule ▸ repeated RULE rule ▸ expect END-RULEBLOCK
+    ▸ algorithms ▸ activationLine
+    ▸ expect ACCU ▸ expect COLON ▸ accumulation ▸ expect SEMICOLON
+    ▸ rule ▸ repeated RULE rule ▸ expect END-RULEBLOCK
