@@ -11,7 +11,7 @@ use Rattle.model.specs.Block.{Block}
 use Rattle.model.specs.Outcome.{Outcome, accepted, refused}
 use Rattle.model.specs.Reader.{reads}
 use Rattle.model.specs.Image.{image}
-use Rattle.model.specs.Readings.{realOf}
+use Rattle.model.specs.Readings.{realOf, valueIn}
 use Rattle.model.specs.Evaluation.{heldOf, noAnswer, padded, Evaluated, evaluate, fresh, heldAfterAll, fromFresh, Call}
 use Rattle.model.specs.declared.Answer.{Answer}
 use Rattle.model.specs.declared.Held.{Held}
@@ -23,7 +23,7 @@ use Rattle.model.proofs.Opened.{opened}
 
 -- REAL: 3e38 is clamped; an infinite one and a NaN are none
 real-values :
-    map realOf (ofBits binary32 0x7f61b1e6 ∷ ofBits binary32 0xff61b1e6 ∷ fin true 1 (negsuc 10) ∷ fin false 3 (negsuc 11) ∷ inf true ∷ nan ∷ [])
+    map (λ x. valueIn (realOf x)) (ofBits binary32 0x7f61b1e6 ∷ ofBits binary32 0xff61b1e6 ∷ fin true 1 (negsuc 10) ∷ fin false 3 (negsuc 11) ∷ inf true ∷ nan ∷ [])
     ≡ some (pos 1000000000) ∷ some (negℤ (pos 1000000000)) ∷ some (pos 0) ∷ some (pos 1) ∷ none ∷ none ∷ []
 unfolding opened
 real-values = refl

@@ -6,3 +6,4 @@ pub mod Accepted
 pub mod Crane
 pub mod Images
 pub mod Calls
+pub mod Vectors

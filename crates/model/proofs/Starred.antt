@@ -11,12 +11,12 @@ use Rattle.model.specs.declared.Answer.{Answer}
 use Rattle.model.specs.declared.Mark.the-variants.{Fired}
 use Rattle.model.specs.declared.Reading.the-variants.{Real}
 use Rattle.model.specs.Basic.{bytes}
-use Rattle.model.specs.Block.{Point, Singleton, prod-asum, bdif-bsum, and, or, term, Rule, Block}
+use Rattle.model.specs.Block.{Point, prod-asum, bdif-bsum, and, or, term, Rule, Block}
 use Rattle.model.specs.Outcome.{Outcome, accepted, refused}
 use Rattle.model.specs.Reader.{reads}
 use Rattle.model.specs.Degrees.{nearestℤ, pairs, termDegree}
 use Rattle.model.specs.Image.{image}
-use Rattle.model.specs.Readings.{realOf}
+use Rattle.model.specs.Readings.{realOf, valueIn}
 use Rattle.model.specs.Evaluation.{ruleDegree, moment, sumOf, freshOf, noAnswer, answersIn, evaluate}
 use Rattle.model.proofs.Opened.{opened}
 use Rattle.model.proofs.Example.{clear, trust}
@@ -37,14 +37,11 @@ Holds (r ∷ rs) = (r .defined ≡ r .printed) × Holds rs
 abbrev at : ℤ → ℕ → Point
 at x d = record { at = x; degree = d }
 
-abbrev singleton : ℤ → Singleton
-singleton x = record { name = []; at = x }
-
 abbrev third : List Point
 third = at (pos 0) 0 ∷ at (pos 3000) 1000000 ∷ []
 
-abbrev equally : List Singleton → List ℕ → ℤ
-equally ss hs = nearestℤ (moment ss hs) (sumOf hs)
+abbrev centre : List ℤ → List ℕ → ℤ
+centre xs hs = nearestℤ (moment xs hs) (sumOf hs)
 
 precedence : List ℕ
 precedence =
@@ -81,14 +78,14 @@ table =
     ∷ number 750000 (pairs prod-asum or 500000 500000)
     ∷ number 100000 (pairs bdif-bsum and 600000 500000)
     -- REAL 0.0625 and -0.0625, one by 2 ^ 4
-    ∷ record { Value = Option ℤ; printed = some (pos 63); defined = realOf (fin false 1 (negsuc 3)) }
-    ∷ record { Value = Option ℤ; printed = some (negsuc 61); defined = realOf (fin true 1 (negsuc 3)) }
+    ∷ record { Value = Option ℤ; printed = some (pos 63); defined = valueIn (realOf (fin false 1 (negsuc 3))) }
+    ∷ record { Value = Option ℤ; printed = some (negsuc 61); defined = valueIn (realOf (fin true 1 (negsuc 3))) }
     -- equal heights at -0.003 and 0; at -0.003, -0.002 and 0
-    ∷ record { Value = ℤ; printed = negsuc 0; defined = equally (singleton (negsuc 2) ∷ singleton (pos 0) ∷ []) (1 ∷ 1 ∷ []) }
+    ∷ record { Value = ℤ; printed = negsuc 0; defined = centre (negsuc 2 ∷ pos 0 ∷ []) (1 ∷ 1 ∷ []) }
     ∷ record {
       Value = ℤ;
       printed = negsuc 1;
-      defined = equally (singleton (negsuc 2) ∷ singleton (negsuc 1) ∷ singleton (pos 0) ∷ []) (1 ∷ 1 ∷ 1 ∷ []);
+      defined = centre (negsuc 2 ∷ negsuc 1 ∷ pos 0 ∷ []) (1 ∷ 1 ∷ 1 ∷ []);
     }
     -- degree 250,000 WITH 0.5
     ∷ number 125000 (ruleDegree trust (250000 ∷ []) (record { number = 1; condition = term 0; conclusions = []; weight = 500000 }))

@@ -8,6 +8,14 @@ use lib.IntN.{ℤ}
 use lib.ListN.{length, take, getD}
 use lib.Signed.{ltZ, leZ}
 use Rattle.model.specs.Basic.{total, gather}
+pub use Rattle.model.specs.declared.InputType.{InputType}
+pub use Rattle.model.specs.declared.InputType.the-variants.{Real as real, Int as int}
+pub use Rattle.model.specs.declared.Pair.{Pair}
+pub use Rattle.model.specs.declared.Pair.the-variants.{MinMax as min-max, ProdAsum as prod-asum, BdifBsum as bdif-bsum}
+pub use Rattle.model.specs.declared.Accumulation.{Accumulation}
+pub use Rattle.model.specs.declared.Accumulation.the-variants.{Max as by-max, Bsum as by-bsum}
+pub use Rattle.model.specs.declared.Activation.{Activation}
+pub use Rattle.model.specs.declared.Activation.the-variants.{Min as by-min, Prod as by-prod}
 
 pub record Point : Type 0 where
   pub at : ℤ
@@ -23,12 +31,9 @@ pub record Singleton : Type 0 where
   pub name : List ℕ
   pub at : ℤ
 
-pub data Type′ : Type 0 where
-  real int : Type′
-
 pub record Input : Type 0 where
   pub name : List ℕ
-  pub type : Type′
+  pub type : InputType
   pub terms : List Term
 
 pub record Range : Type 0 where
@@ -61,16 +66,6 @@ pub record Rule : Type 0 where
   pub condition : Condition
   pub conclusions : List Conclusion
   pub weight : ℕ
-
--- the algorithms for AND and OR: MIN/MAX, PROD/ASUM, BDIF/BSUM
-pub data Pair : Type 0 where
-  min-max prod-asum bdif-bsum : Pair
-
-pub data Accumulation : Type 0 where
-  by-max by-bsum : Accumulation
-
-pub data Activation : Type 0 where
-  by-min by-prod : Activation
 
 pub record Block : Type 0 where
   pub name : List ℕ

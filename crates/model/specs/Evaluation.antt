@@ -11,11 +11,11 @@ use lib.Signed.{ltZ}
 use Rattle.model.specs.Basic.{if_then_else_, all, total, gather, indexOf}
 use Rattle.model.specs.Bounds.{outputLimit}
 use Rattle.model.specs.Tokens.{inCrisp}
-use Rattle.model.specs.Block.{Term, Singleton, Input, Range, Output, Conclusion, Rule, Accumulation, by-max, by-bsum, Block, inputTerms, inRange}
+use Rattle.model.specs.Block.{Term, Input, Range, Output, Conclusion, Rule, Accumulation, by-max, by-bsum, Block, inputTerms, inRange}
 use Rattle.model.specs.Outcome.{Outcome, accepted, refused, andThen}
 use Rattle.model.specs.Image.{tab, loads}
 use Rattle.model.specs.Degrees.{nearestℤ, prodOf, bsumOf, termDegree, conditionDegree}
-use Rattle.model.specs.Readings.{readingOf, floatOf}
+use Rattle.model.specs.Readings.{taken, valueIn, floatOf}
 use Rattle.model.specs.declared.Crisp.{Crisp}
 use Rattle.model.specs.declared.Reading.{Reading}
 use Rattle.model.specs.declared.Reading.the-variants.{Absent}
@@ -52,10 +52,10 @@ height b ds t = accumulateAll (b .accu) 0 (subconclusions b ds t)
 
 -- THE ANSWER OF AN OUTPUT
 -- the sum of position times height
-unfoldable pub moment : List Singleton → List ℕ → ℤ
+unfoldable pub moment : List ℤ → List ℕ → ℤ
 moment [] hs = pos 0
-moment (s ∷ ss) [] = pos 0
-moment (s ∷ ss) (h ∷ hs) = s .at *ℤ pos h +ℤ moment ss hs
+moment (x ∷ xs) [] = pos 0
+moment (x ∷ xs) (h ∷ hs) = x *ℤ pos h +ℤ moment xs hs
 
 abbrev pub sumOf : List ℕ → ℕ
 sumOf hs = total (λ h. h) hs
@@ -70,7 +70,7 @@ unfired (some x) held = answer Default x 0
 -- by its heights and its held figure
 unfoldable pub answerOf : Output → List ℕ → ℤ → Answer
 answerOf v hs held =
-    if ltb 0 (sumOf hs) then answer Fired (nearestℤ (moment (v .terms) hs) (sumOf hs)) (sumOf hs)
+    if ltb 0 (sumOf hs) then answer Fired (nearestℤ (moment (map (λ t. t .at) (v .terms)) hs) (sumOf hs)) (sumOf hs)
     else unfired (v .default) held
 
 -- n is the first term of the next output
@@ -112,7 +112,7 @@ heldOk (v ∷ vs) (x ∷ xs) = (inCrisp x && inRange (v .range) x) && heldOk vs 
 unfoldable pub valuesOf : List Input → List Reading → List (Option ℤ)
 valuesOf [] rs = []
 valuesOf (v ∷ vs) [] = none ∷ valuesOf vs []
-valuesOf (v ∷ vs) (r ∷ rs) = readingOf (v .type) r ∷ valuesOf vs rs
+valuesOf (v ∷ vs) (r ∷ rs) = valueIn (taken (v .type) r) ∷ valuesOf vs rs
 
 abbrev pub isNone : Option ℤ → Bool
 isNone none = true

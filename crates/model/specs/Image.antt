@@ -8,7 +8,7 @@ use lib.IntN.{ℤ, pos, negsuc}
 use lib.ListN.{length, take, getD}
 use Rattle.model.specs.Basic.{if_then_else_, total, gather, run, same}
 use Rattle.model.specs.Bounds.{M}
-use Rattle.model.specs.Block.{Point, Term, Singleton, Type′, real, int, Input, Range, Output, Op, and, or, Condition, term, neg, two, Conclusion, Rule, Pair, min-max, prod-asum, bdif-bsum, Accumulation, by-max, by-bsum, Activation, by-min, by-prod, Block, inputTerms, outputTerms, conclusions, size}
+use Rattle.model.specs.Block.{Point, Term, Singleton, InputType, real, int, Input, Range, Output, Op, and, or, Condition, term, neg, two, Conclusion, Rule, Pair, min-max, prod-asum, bdif-bsum, Accumulation, by-max, by-bsum, Activation, by-min, by-prod, Block, inputTerms, outputTerms, conclusions, size}
 use Rattle.model.specs.Outcome.{Outcome, accepted, refused}
 use Rattle.model.specs.WellFormed.{wellFormed}
 
@@ -52,7 +52,7 @@ abbrev pub actWord : Activation → ℕ
 actWord by-min = 0
 actWord by-prod = 1
 
-abbrev pub typeWord : Type′ → ℕ
+abbrev pub typeWord : InputType → ℕ
 typeWord real = 0
 typeWord int = 1
 

@@ -8,7 +8,7 @@ use lib.IntN.{ℤ, pos, negsuc}
 use lib.ListN.{length, getD}
 use Rattle.model.specs.Basic.{if_then_else_, bytes, isEmpty, gather}
 use Rattle.model.specs.Bounds.{M}
-use Rattle.model.specs.Block.{Point, Term, Singleton, Type′, real, int, Input, Range, Output, Op, and, or, Condition, term, neg, two, Conclusion, Rule, Pair, min-max, prod-asum, bdif-bsum, Accumulation, by-max, by-bsum, Activation, by-min, by-prod, Block}
+use Rattle.model.specs.Block.{Point, Term, Singleton, InputType, real, int, Input, Range, Output, Op, and, or, Condition, term, neg, two, Conclusion, Rule, Pair, min-max, prod-asum, bdif-bsum, Accumulation, by-max, by-bsum, Activation, by-min, by-prod, Block}
 use Rattle.model.specs.Image.{terms}
 use Rattle.model.specs.Parentheses.{form, besideNot, leftOf, rightOf}
 
@@ -87,7 +87,7 @@ conditionText f (two o a b) =
     wrapped (leftOf o) (form a) (conditionText f a) ⊕ operator o ⊕ wrapped (rightOf o) (form b) (conditionText f b)
 
 -- THE PARTS
-abbrev pub typeText : Type′ → List ℕ
+abbrev pub typeText : InputType → List ℕ
 typeText real = bytes "REAL"
 typeText int = bytes "INT"
 

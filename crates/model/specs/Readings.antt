@@ -7,8 +7,11 @@ use lib.IntN.{ℤ, pos, negℤ, _*ℤ_}
 use lib.Signed.{ltZ}
 use Rattle.model.specs.Basic.{if_then_else_}
 use Rattle.model.specs.Bounds.{crispLimit}
-use Rattle.model.specs.Block.{Type′, real, int}
+use Rattle.model.specs.Block.{InputType, real, int}
 use Rattle.model.specs.Degrees.{nearestℤ}
+use Rattle.model.specs.declared.Crisp.{Crisp}
+use Rattle.model.specs.declared.Taken.{Taken}
+use Rattle.model.specs.declared.Taken.the-variants.{Value, Absent as Missing, NotFinite, WrongKind}
 use Rattle.model.specs.declared.Reading.{Reading}
 use Rattle.model.specs.declared.Reading.the-variants.{Real, Int, Absent}
 
@@ -19,20 +22,28 @@ clamped z =
     if ltZ (pos crispLimit) z then pos crispLimit else z
 
 -- a finite float is m * up e / down e, negative where s is true (lib.Ieee)
-unfoldable pub realOf : Float → Option ℤ
-realOf nan = none
-realOf (inf s) = none
-realOf (fin s m e) =
-    some (clamped (nearestℤ (if s then negℤ (pos (1000 * m * up e)) else pos (1000 * m * up e)) (down e)))
+abbrev pub exactly : Bool → ℕ → ℤ → ℤ
+exactly s m e = nearestℤ (if s then negℤ (pos (1000 * m * up e)) else pos (1000 * m * up e)) (down e)
+
+unfoldable pub realOf : Float → Taken
+realOf nan = NotFinite
+realOf (inf s) = NotFinite
+realOf (fin s m e) = Value (record { 0 = clamped (exactly s m e) })
+
+unfoldable pub taken : InputType → Reading → Taken
+taken real (Real x) = realOf x
+taken real (Int n) = WrongKind
+taken real Absent = Missing
+taken int (Real x) = WrongKind
+taken int (Int n) = Value (record { 0 = n *ℤ pos 1000 })
+taken int Absent = Missing
 
 -- none where the reading is absent, not finite or not of the declared type
-unfoldable pub readingOf : Type′ → Reading → Option ℤ
-readingOf real (Real x) = realOf x
-readingOf real (Int n) = none
-readingOf real Absent = none
-readingOf int (Real x) = none
-readingOf int (Int n) = some (n *ℤ pos 1000)
-readingOf int Absent = none
+abbrev pub valueIn : Taken → Option ℤ
+valueIn (Value c) = some (c .0)
+valueIn Missing = none
+valueIn NotFinite = none
+valueIn WrongKind = none
 
 -- thousandths / 1000, rounded once
 unfoldable pub floatOf : ℤ → Float

@@ -6,11 +6,44 @@ pub struct Crisp(pub i32);
 // A degree, in millionths.
 pub struct Degree(pub u32);
 
+// The declared type of an input.
+pub enum InputType {
+    Real,
+    Int,
+}
+
+// The algorithms for AND and OR: MIN/MAX, PROD/ASUM, BDIF/BSUM.
+pub enum Pair {
+    MinMax,
+    ProdAsum,
+    BdifBsum,
+}
+
+// How the degrees that rules give a term become its height: ACCU.
+pub enum Accumulation {
+    Max,
+    Bsum,
+}
+
+// ACT: singletons make it without effect.
+pub enum Activation {
+    Min,
+    Prod,
+}
+
 // One reading of an input.
 pub enum Reading {
     Real(f32),
     Int(i16),
     Absent,
+}
+
+// What a reading is to an input of a declared type.
+pub enum Taken {
+    Value(Crisp),
+    Absent,
+    NotFinite,
+    WrongKind,
 }
 
 // What an output's figure rests on.
