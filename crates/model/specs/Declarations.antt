@@ -1,5 +1,5 @@
 -- The reader's rules for VAR_INPUT, VAR_OUTPUT, FUZZIFY and DEFUZZIFY.
-use mathlib.Core.Bool.{Bool, _&&_, not}
+use mathlib.Core.Bool.{Bool, _||_, not}
 use mathlib.Core.List.{List, [], _∷_, _++_, map}
 use mathlib.Core.Option.{none, some}
 use Prim.Native.Nat.{ℕ}
@@ -7,18 +7,40 @@ use lib.Dec.{leb, ltb}
 use lib.IntN.{ℤ}
 use lib.ListN.{length, take, drop}
 use lib.Signed.{ltZ}
-use Rattle.model.specs.Basic.{if_then_else_, _▸_, isEmpty, all, indexOf, update, updateLast}
+use Rattle.model.specs.Basic.{if_then_else_, _▸_, isEmpty, indexOf, update, updateLast}
 use Rattle.model.specs.Bounds.{inputLimit, outputLimit, termLimit, pointLeast, pointLimit}
-use Rattle.model.specs.Keywords.{NAME, NUMBER, ASSIGN, DOTS, OPEN, CLOSE, COMMA, COLON, SEMICOLON, CoGS, DEFAULT, DEFUZZIFY, END-DEFUZZIFY, END-FUZZIFY, FUZZIFY, METHOD, NC, RANGE, TERM, REAL, INT}
-use Rattle.model.specs.Tokens.{sameName, isCrisp, isUnit, unitOf}
+use Rattle.model.specs.Keywords.{ASSIGN, DOTS, OPEN, CLOSE, COMMA, COLON, SEMICOLON, CoGS, DEFAULT, DEFUZZIFY, END-DEFUZZIFY, END-FUZZIFY, FUZZIFY, METHOD, NC, RANGE, TERM, REAL, INT}
+use Rattle.model.specs.Tokens.{sameName, unitOf}
 use Rattle.model.specs.Block.{Point, Term, Singleton, Input, Range, Output, Block, termsOf, singletonsOf, rangeOf, inRange, mayFollow, real, int}
-use Rattle.model.specs.Parse.{Part, text, is, advance, change, judged, expect, repeated, listed, isShort, valueHere, withInputs, withOutputs}
+use Rattle.model.specs.Parse.{Part, text, is, advance, change, judged, expect, repeated, listed, aName, aCrisp, aUnit, valueHere, withInputs, withOutputs}
 
--- DECLARATIONS
-abbrev pub isVariable : List ℕ → Block → Bool
-isVariable w b =
-    not (all (λ v. not (sameName w (v .name))) (b .inputs) && all (λ v. not (sameName w (v .name))) (b .outputs))
+-- NAMES AS DECLARED
+unfoldable pub inputOf : List ℕ → Block → ℕ
+inputOf w b = indexOf (λ v. sameName w (v .name)) (b .inputs)
 
+unfoldable pub outputOf : List ℕ → Block → ℕ
+outputOf w b = indexOf (λ v. sameName w (v .name)) (b .outputs)
+
+abbrev pub isInput : List ℕ → Block → Bool
+isInput w b = ltb (inputOf w b) (length (b .inputs))
+
+abbrev pub isOutput : List ℕ → Block → Bool
+isOutput w b = ltb (outputOf w b) (length (b .outputs))
+
+-- the term of input i, of output o, with this name
+unfoldable pub termOf : ℕ → List ℕ → Block → ℕ
+termOf i w b = indexOf (λ t. sameName w (t .name)) (termsOf i b)
+
+unfoldable pub singletonOf : ℕ → List ℕ → Block → ℕ
+singletonOf o w b = indexOf (λ t. sameName w (t .name)) (singletonsOf o b)
+
+abbrev pub isTerm : ℕ → List ℕ → Block → Bool
+isTerm i w b = ltb (termOf i w b) (length (termsOf i b))
+
+abbrev pub isSingleton : ℕ → List ℕ → Block → Bool
+isSingleton o w b = ltb (singletonOf o w b) (length (singletonsOf o b))
+
+-- VAR_INPUT AND VAR_OUTPUT
 unfoldable pub addInput : List ℕ → Block → Block
 addInput w = withInputs (λ vs. vs ++ (record { name = w; type = real; terms = [] } ∷ []))
 
@@ -32,15 +54,17 @@ asInt v = record { name = v .name; type = int; terms = v .terms }
 unfoldable pub intFrom : ℕ → Block → Block
 intFrom n = withInputs (λ vs. take n vs ++ map asInt (drop n vs))
 
-unfoldable pub declaredInput : Part
-declaredInput r =
-    judged ((is NAME r, 2) ∷ (isShort r, 4) ∷ (not (isVariable (text r) (r .block)), 4) ∷ (ltb (length (r .block .inputs)) inputLimit, 6) ∷ [])
-    r (advance (change (addInput (text r)) r))
+-- a new variable, where there are fewer than the limit
+unfoldable pub variable : (List ℕ → Block → Block) → (Block → ℕ) → ℕ → Part
+variable add count limit r =
+    judged (aName r ((not (isInput (text r) (r .block) || isOutput (text r) (r .block)), 4) ∷ (ltb (count (r .block)) limit, 6) ∷ []))
+    r (advance (change (add (text r)) r))
 
-unfoldable pub declaredOutput : Part
-declaredOutput r =
-    judged ((is NAME r, 2) ∷ (isShort r, 4) ∷ (not (isVariable (text r) (r .block)), 4) ∷ (ltb (length (r .block .outputs)) outputLimit, 6) ∷ [])
-    r (advance (change (addOutput (text r)) r))
+abbrev pub inputCount : Block → ℕ
+inputCount b = length (b .inputs)
+
+abbrev pub outputCount : Block → ℕ
+outputCount b = length (b .outputs)
 
 -- the type of the inputs from the n-th on
 unfoldable pub inputType : ℕ → Part
@@ -48,19 +72,14 @@ inputType n r = if is INT r then advance (change (intFrom n) r) else expect REAL
 
 unfoldable pub inputDeclaration : Part
 inputDeclaration r =
-    r ▸ listed declaredInput ▸ expect COLON ▸ inputType (length (r .block .inputs)) ▸ expect SEMICOLON
+    r ▸ listed (variable addInput inputCount inputLimit)
+    ▸ expect COLON ▸ inputType (inputCount (r .block)) ▸ expect SEMICOLON
 
 unfoldable pub outputDeclaration : Part
-outputDeclaration r = r ▸ listed declaredOutput ▸ expect COLON ▸ expect REAL ▸ expect SEMICOLON
+outputDeclaration r =
+    r ▸ listed (variable addOutput outputCount outputLimit) ▸ expect COLON ▸ expect REAL ▸ expect SEMICOLON
 
 -- FUZZIFY
-unfoldable pub inputOf : List ℕ → Block → ℕ
-inputOf w b = indexOf (λ v. sameName w (v .name)) (b .inputs)
-
--- the term of input i with this name
-unfoldable pub termOf : ℕ → List ℕ → Block → ℕ
-termOf i w b = indexOf (λ t. sameName w (t .name)) (termsOf i b)
-
 abbrev pub withTerms : (List Term → List Term) → Input → Input
 withTerms f v = record { name = v .name; type = v .type; terms = f (v .terms) }
 
@@ -85,13 +104,11 @@ pointsOf i b = lastPoints (termsOf i b)
 
 unfoldable pub position : ℕ → Part
 position i r =
-    judged ((is NUMBER r, 2) ∷ (isCrisp (text r), 3) ∷ (mayFollow (map (λ p. p .at) (pointsOf i (r .block))) (valueHere r), 7) ∷ [])
-    r (advance r)
+    judged (aCrisp r ((mayFollow (map (λ p. p .at) (pointsOf i (r .block))) (valueHere r), 7) ∷ [])) r (advance r)
 
 unfoldable pub degree : ℕ → ℤ → Part
 degree i x r =
-    judged ((is NUMBER r, 2) ∷ (isUnit (text r), 3) ∷ [])
-    r (advance (change (addPoint i (record { at = x; degree = unitOf (text r) })) r))
+    judged (aUnit r) r (advance (change (addPoint i (record { at = x; degree = unitOf (text r) })) r))
 
 unfoldable pub pointFrom : ℕ → Part
 pointFrom i r = r ▸ position i ▸ expect COMMA ▸ degree i (valueHere r) ▸ expect CLOSE
@@ -106,8 +123,7 @@ endOfPoints i r =
 
 unfoldable pub termName : ℕ → Part
 termName i r =
-    judged ((is NAME r, 2) ∷ (isShort r, 4) ∷ (leb (length (termsOf i (r .block))) (termOf i (text r) (r .block)), 4) ∷ [])
-    r (advance (change (addTerm i (text r)) r))
+    judged (aName r ((not (isTerm i (text r) (r .block)), 4) ∷ [])) r (advance (change (addTerm i (text r)) r))
 
 unfoldable pub inputTerm : ℕ → Part
 inputTerm i r =
@@ -116,7 +132,7 @@ inputTerm i r =
 
 unfoldable pub fuzzifyOf : ℕ → Part
 fuzzifyOf i r =
-    judged ((is NAME r, 2) ∷ (isShort r, 4) ∷ (isEmpty (termsOf i (r .block)), 4) ∷ (ltb i (length (r .block .inputs)), 5) ∷ [])
+    judged (aName r ((isEmpty (termsOf i (r .block)), 4) ∷ (isInput (text r) (r .block), 5) ∷ []))
     r (advance r ▸ inputTerm i ▸ repeated TERM (inputTerm i) ▸ expect END-FUZZIFY)
 
 unfoldable pub fuzzifyNamed : Part
@@ -126,31 +142,25 @@ unfoldable pub fuzzify : Part
 fuzzify r = r ▸ expect FUZZIFY ▸ fuzzifyNamed
 
 -- DEFUZZIFY
-unfoldable pub outputOf : List ℕ → Block → ℕ
-outputOf w b = indexOf (λ v. sameName w (v .name)) (b .outputs)
+abbrev pub withSingleton : Singleton → Output → Output
+withSingleton s v = record { name = v .name; terms = v .terms ++ (s ∷ []); range = v .range; default = v .default }
 
-unfoldable pub singletonOf : ℕ → List ℕ → Block → ℕ
-singletonOf o w b = indexOf (λ t. sameName w (t .name)) (singletonsOf o b)
+abbrev pub withRange : Range → Output → Output
+withRange g v = record { name = v .name; terms = v .terms; range = some g; default = v .default }
 
-abbrev pub asSingleton : Singleton → Output → Output
-asSingleton s v = record { name = v .name; terms = v .terms ++ (s ∷ []); range = v .range; default = v .default }
-
-abbrev pub asRange : Range → Output → Output
-asRange g v = record { name = v .name; terms = v .terms; range = some g; default = v .default }
-
-abbrev pub asDefault : ℤ → Output → Output
-asDefault x v = record { name = v .name; terms = v .terms; range = v .range; default = some x }
+abbrev pub withDefault : ℤ → Output → Output
+withDefault x v = record { name = v .name; terms = v .terms; range = v .range; default = some x }
 
 unfoldable pub changeOutput : (Output → Output) → ℕ → Block → Block
 changeOutput f o = withOutputs (update f o)
 
 unfoldable pub crisp : Part
-crisp r = judged ((is NUMBER r, 2) ∷ (isCrisp (text r), 3) ∷ []) r (advance r)
+crisp r = judged (aCrisp r []) r (advance r)
 
 unfoldable pub upperEnd : ℕ → ℤ → Part
 upperEnd o x r =
-    judged ((is NUMBER r, 2) ∷ (isCrisp (text r), 3) ∷ (ltZ x (valueHere r), 7) ∷ [])
-    r (advance (change (changeOutput (asRange (record { least = x; most = valueHere r })) o) r))
+    judged (aCrisp r ((ltZ x (valueHere r), 7) ∷ []))
+    r (advance (change (changeOutput (withRange (record { least = x; most = valueHere r })) o) r))
 
 unfoldable pub rangeFrom : ℕ → Part
 rangeFrom o r = r ▸ crisp ▸ expect DOTS ▸ upperEnd o (valueHere r) ▸ expect CLOSE ▸ expect SEMICOLON
@@ -161,24 +171,24 @@ range o r = if is RANGE r then rangeFrom o (r ▸ advance ▸ expect OPEN) else 
 -- a number inside the RANGE of output o, and what it changes
 unfoldable pub figure : (ℤ → Output → Output) → ℕ → Part
 figure with o r =
-    judged ((is NUMBER r, 2) ∷ (isCrisp (text r), 3) ∷ (inRange (rangeOf o (r .block)) (valueHere r), 7) ∷ [])
+    judged (aCrisp r ((inRange (rangeOf o (r .block)) (valueHere r), 7) ∷ []))
     r (advance (change (changeOutput (with (valueHere r)) o) r))
 
 unfoldable pub singletonNamed : ℕ → Part
 singletonNamed o r =
-    judged ((is NAME r, 2) ∷ (isShort r, 4) ∷ (leb (length (singletonsOf o (r .block))) (singletonOf o (text r) (r .block)), 4) ∷ [])
-    r (advance r ▸ expect ASSIGN ▸ figure (λ x. asSingleton (record { name = text r; at = x })) o ▸ expect SEMICOLON)
+    judged (aName r ((not (isSingleton o (text r) (r .block)), 4) ∷ []))
+    r (advance r ▸ expect ASSIGN ▸ figure (λ x. withSingleton (record { name = text r; at = x })) o ▸ expect SEMICOLON)
 
 unfoldable pub outputTerm : ℕ → Part
 outputTerm o r =
     judged ((is TERM r, 2) ∷ (ltb (length (singletonsOf o (r .block))) termLimit, 6) ∷ []) r (singletonNamed o (advance r))
 
 unfoldable pub defaultValue : ℕ → Part
-defaultValue o r = if is NC r then advance r else figure asDefault o r
+defaultValue o r = if is NC r then advance r else figure withDefault o r
 
 unfoldable pub defuzzifyOf : ℕ → Part
 defuzzifyOf o r =
-    judged ((is NAME r, 2) ∷ (isShort r, 4) ∷ (isEmpty (singletonsOf o (r .block)), 4) ∷ (ltb o (length (r .block .outputs)), 5) ∷ [])
+    judged (aName r ((isEmpty (singletonsOf o (r .block)), 4) ∷ (isOutput (text r) (r .block), 5) ∷ []))
     r
     (advance r ▸ range o ▸ outputTerm o ▸ repeated TERM (outputTerm o)
     ▸ expect METHOD ▸ expect COLON ▸ expect CoGS ▸ expect SEMICOLON

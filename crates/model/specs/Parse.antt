@@ -8,8 +8,8 @@ use lib.IntN.{ℤ}
 use lib.ListN.{length}
 use Rattle.model.specs.Basic.{if_then_else_, _▸_}
 use Rattle.model.specs.Bounds.{nameLimit}
-use Rattle.model.specs.Keywords.{END, NAME, COMMA}
-use Rattle.model.specs.Tokens.{valueOf, Token, token}
+use Rattle.model.specs.Keywords.{END, NAME, NUMBER, COMMA}
+use Rattle.model.specs.Tokens.{isCrisp, isUnit, valueOf, Token, token}
 use Rattle.model.specs.Block.{Input, Output, Rule, Pair, Accumulation, Activation, Block, min-max, by-max, by-min}
 
 -- rest: from the current token on; why: 0, or the number of the first refusal, at place;
@@ -63,8 +63,12 @@ change f r =
     then record { rest = r .rest; why = r .why; place = r .place; block = f (r .block); words = r .words }
     else r
 
--- the checks of a token in their order, each with the number it is refused by; then what follows
-unfoldable pub judged : List (Bool × ℕ) → Parse → Parse → Parse
+-- the checks of a token in their order, each with the number it is refused by
+abbrev pub Checks : Type 0
+Checks = List (Bool × ℕ)
+
+-- where all pass, what follows
+unfoldable pub judged : Checks → Parse → Parse → Parse
 judged [] r next = next
 judged ((ok, n) ∷ cs) r next = if ok then judged cs r next else refuse n r
 
@@ -83,10 +87,18 @@ repeated k part r = repeatOn (suc (length (r .rest))) k part r
 unfoldable pub listed : Part → Part
 listed part r = r ▸ part ▸ repeated COMMA (λ q. q ▸ expect COMMA ▸ part)
 
--- what the current token says, as a name and as a number
-abbrev pub isShort : Parse → Bool
-isShort r = leb (length (text r)) nameLimit
+-- what a name and a number are checked for before anything else
+abbrev pub aName : Parse → Checks → Checks
+aName r cs = (is NAME r, 2) ∷ (leb (length (text r)) nameLimit, 4) ∷ cs
 
+abbrev pub aCrisp : Parse → Checks → Checks
+aCrisp r cs = (is NUMBER r, 2) ∷ (isCrisp (text r), 3) ∷ cs
+
+-- a degree or a weight
+abbrev pub aUnit : Parse → Checks
+aUnit r = (is NUMBER r, 2) ∷ (isUnit (text r), 3) ∷ []
+
+-- the crisp value that stands here
 abbrev pub valueHere : Parse → ℤ
 valueHere r = valueOf (text r)
 
@@ -121,5 +133,4 @@ emptyBlock = record { name = []; inputs = []; outputs = []; ruleBlock = []; pair
 
 -- a name of its own: of the function block, of the rule block
 unfoldable pub named : (List ℕ → Block → Block) → Part
-named with r =
-    judged ((is NAME r, 2) ∷ (isShort r, 4) ∷ []) r (advance (change (with (text r)) r))
+named with r = judged (aName r []) r (advance (change (with (text r)) r))

@@ -7,11 +7,11 @@ use lib.Dec.{ltb, eqb}
 use lib.ListN.{length}
 use Rattle.model.specs.Basic.{if_then_else_, _▸_, all, updateLast}
 use Rattle.model.specs.Bounds.{M, ruleLimit, wordLimit, conclusionLimit, depthLimit}
-use Rattle.model.specs.Keywords.{NAME, NUMBER, OPEN, CLOSE, COLON, SEMICOLON, ACCU, ACT, AND, ASUM, BDIF, BSUM, END-RULEBLOCK, IF, IS, MAX, MIN, NOT, OR, PROD, RULE, RULEBLOCK, THEN, WITH}
-use Rattle.model.specs.Tokens.{decimal, isUnit, unitOf, isRuleNumber}
-use Rattle.model.specs.Block.{Op, Condition, Conclusion, Rule, Pair, Block, inputFirst, outputFirst, conclusions, termsOf, singletonsOf, and, or, term, neg, two, min-max, prod-asum, bdif-bsum, by-max, by-bsum, by-min, by-prod}
-use Rattle.model.specs.Parse.{Parse, Part, restOf, kind, text, is, refuse, advance, change, judged, expect, repeated, listed, isShort, withRules, withRuleBlock, withPair, withAct, withAccu, named}
-use Rattle.model.specs.Declarations.{inputOf, termOf, outputOf, singletonOf}
+use Rattle.model.specs.Keywords.{NUMBER, OPEN, CLOSE, COLON, SEMICOLON, ACCU, ACT, AND, ASUM, BDIF, BSUM, END-RULEBLOCK, IF, IS, MAX, MIN, NOT, OR, PROD, RULE, RULEBLOCK, THEN, WITH}
+use Rattle.model.specs.Tokens.{decimal, unitOf, isRuleNumber}
+use Rattle.model.specs.Block.{Op, Condition, Conclusion, Rule, Pair, Block, inputFirst, outputFirst, conclusions, and, or, term, neg, two, min-max, prod-asum, bdif-bsum, by-max, by-bsum, by-min, by-prod}
+use Rattle.model.specs.Parse.{Parse, Part, restOf, kind, text, is, refuse, advance, change, judged, expect, repeated, listed, aName, aUnit, withRules, withRuleBlock, withPair, withAct, withAccu, named}
+use Rattle.model.specs.Declarations.{inputOf, outputOf, isInput, isOutput, termOf, singletonOf, isTerm, isSingleton}
 
 -- CONDITIONS
 pub record Got : Type 0 where
@@ -32,8 +32,7 @@ word r =
 unfoldable pub termNamed : ℕ → Parse → Got
 termNamed i r =
     got
-    (judged ((is NAME r, 2) ∷ (isShort r, 4) ∷ (ltb (termOf i (text r) (r .block)) (length (termsOf i (r .block))), 5) ∷ [])
-    r (advance r))
+    (judged (aName r ((isTerm i (text r) (r .block), 5) ∷ [])) r (advance r))
     (term (inputFirst i (r .block) + termOf i (text r) (r .block)))
 
 abbrev pub negated : Got → Got
@@ -47,8 +46,7 @@ termHere i r = if is NOT r then negated (termNamed i (word r)) else termNamed i 
 unfoldable pub subcondition : Parse → Got
 subcondition r =
     termHere (inputOf (text r) (r .block))
-    (judged ((is NAME r, 2) ∷ (isShort r, 4) ∷ (ltb (inputOf (text r) (r .block)) (length (r .block .inputs)), 5) ∷ [])
-    r (word r) ▸ expect IS)
+    (judged (aName r ((isInput (text r) (r .block), 5) ∷ [])) r (word r) ▸ expect IS)
 
 -- part {k part}, grouped to the left
 unfoldable pub chainOn : ℕ → (Parse → Got) → ℕ → Op → Got → Got
@@ -148,19 +146,19 @@ ruleNumber r =
 -- a term of output o
 unfoldable pub concludedTerm : ℕ → Part
 concludedTerm o r =
-    judged ((is NAME r, 2) ∷ (isShort r, 4) ∷ (ltb (singletonOf o (text r) (r .block)) (length (singletonsOf o (r .block))), 5) ∷ [])
+    judged (aName r ((isSingleton o (text r) (r .block), 5) ∷ []))
     r
     (advance (change (changeRule (withConclusion
     (record { output = o; term = outputFirst o (r .block) + singletonOf o (text r) (r .block) }))) r))
 
 unfoldable pub conclusion : Part
 conclusion r =
-    judged ((is NAME r, 2) ∷ (isShort r, 4) ∷ (ltb (outputOf (text r) (r .block)) (length (r .block .outputs)), 5) ∷ (ltb (length (conclusions (r .block))) conclusionLimit, 6) ∷ [])
+    judged (aName r ((isOutput (text r) (r .block), 5) ∷ (ltb (length (conclusions (r .block))) conclusionLimit, 6) ∷ []))
     r (advance r ▸ expect IS ▸ concludedTerm (outputOf (text r) (r .block)))
 
 unfoldable pub weight : Part
 weight r =
-    judged ((is NUMBER r, 2) ∷ (isUnit (text r), 3) ∷ []) r (advance (change (changeRule (withWeight (unitOf (text r)))) r))
+    judged (aUnit r) r (advance (change (changeRule (withWeight (unitOf (text r)))) r))
 
 unfoldable pub weighted : Part
 weighted r = if is WITH r then weight (advance r) else r
