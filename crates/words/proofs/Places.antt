@@ -1,0 +1,92 @@
+-- A list that stands in a function from a place on; n values of a function from a place on; tests that walk over them.
+use mathlib.Core.Path.{_≡_, refl, sym, ap, _∙_, subst}
+use mathlib.Core.List.{List, [], _∷_, _++_}
+use mathlib.Core.Bool.{Bool, true, false, _&&_}
+use Prim.Native.Nat.{ℕ, zero, suc, _+_, _*_, _-_, _≤_, _<_}
+use native.Mathlib.Omega.{arith}
+use native.Mathlib.Numerals.{add-one}
+use lib.Dec.{eqb}
+use lib.ListN.{length, length-append}
+use borrow.Author.Tests.{eq-eqb, eqb-true}
+use Rattle.model.specs.Basic.{all, same}
+use Rattle.model.specs.Image.{tab}
+
+pub both : (a b : Bool) → a && b ≡ true → (a ≡ true) × (b ≡ true)
+both true b h = (refl, h)
+both false b h = let z : _≡_ {A = ℕ} 0 1 = cc in absurd (omega arith)
+
+pub and-i : (a b : Bool) → a ≡ true → b ≡ true → a && b ≡ true
+and-i a b p q = rw (p, q)
+
+-- the list xs stands in f from o on
+abbrev pub At : {A : Type 0} → (ℕ → A) → ℕ → List A → Type 0
+At f o [] = Unit {0}
+At f o (x ∷ xs) = (f o ≡ x) × At f (suc o) xs
+
+module _ {A : Type 0} (f : ℕ → A) where
+  pub at-shift : (o o′ : ℕ) (xs : List A) → o ≡ o′ → At f o xs → At f o′ xs
+  at-shift o o′ xs e h = subst (λ (k : ℕ). At f k xs) e h
+
+  pub at-cut : (o : ℕ) (xs ys : List A) → At f o (xs ++ ys) → At f o xs × At f (o + length xs) ys
+  at-cut o [] ys h = (tt, at-shift o (o + 0) ys (omega arith) h)
+  at-cut o (x ∷ xs) ys h =
+      let r = at-cut (suc o) xs ys (h .1) in
+      ((h .0, r .0), at-shift (suc o + length xs) (o + suc (length xs)) ys (omega arith) (r .1))
+
+  pub at-join : (o : ℕ) (xs ys : List A) → At f o xs → At f (o + length xs) ys → At f o (xs ++ ys)
+  at-join o [] ys g h = at-shift (o + 0) o ys (omega arith) h
+  at-join o (x ∷ xs) ys g h =
+      (g .0, at-join (suc o) xs ys (g .1) (at-shift (o + suc (length xs)) (suc o + length xs) ys (omega arith) h))
+
+  pub length-tab : (n i : ℕ) → length (tab f n i) ≡ n
+  unfolding tab
+  length-tab zero i = refl
+  length-tab (suc n) i = ap suc (length-tab n (suc i))
+
+  pub at-tab : (n i : ℕ) → At f i (tab f n i)
+  unfolding tab
+  at-tab zero i = tt
+  at-tab (suc n) i = (refl, at-tab n (suc i))
+
+  pub tab-at : (i : ℕ) (xs : List A) → At f i xs → tab f (length xs) i ≡ xs
+  unfolding tab
+  tab-at i [] h = refl
+  tab-at i (x ∷ xs) h = λ j. h .0 j ∷ tab-at (suc i) xs (h .1) j
+
+-- two lists that `same` finds equal are equal
+pub same-eq : (xs ys : List ℕ) → same xs ys ≡ true → xs ≡ ys
+unfolding same
+same-eq [] [] h = refl
+same-eq [] (y ∷ ys) h = let z : _≡_ {A = ℕ} 0 1 = cc in absurd (omega arith)
+same-eq (x ∷ xs) [] h = let z : _≡_ {A = ℕ} 0 1 = cc in absurd (omega arith)
+same-eq (x ∷ xs) (y ∷ ys) h =
+    let b = both (eqb x y) (same xs ys) h in
+    λ j. eqb-true x y (b .0) j ∷ same-eq xs ys (b .1) j
+
+pub same-refl : (xs : List ℕ) → same xs xs ≡ true
+unfolding same
+same-refl [] = refl
+same-refl (x ∷ xs) = and-i (eqb x x) (same xs xs) (eq-eqb x x refl) (same-refl xs)
+
+-- WALKS: what is left from i up to e, one element a turn
+step : (e i : ℕ) → i < e → e - i ≡ suc (e - (i + 1))
+step e i h = omega arith
+
+gone : (e i : ℕ) → e ≤ i → e - i ≡ 0
+gone e i h = omega arith
+
+module _ {A : Type 0} (g : A → Bool) (f : ℕ → A) (e i : ℕ) where
+  pub all-more : i < e → g (f i) ≡ true → all g (tab f (e - i) i) ≡ all g (tab f (e - (i + 1)) (i + 1))
+  unfolding all tab
+  all-more h q = rw (step e i h) (simp (q, add-one))
+
+  pub all-stop : i < e → g (f i) ≡ false → all g (tab f (e - i) i) ≡ false
+  unfolding all tab
+  all-stop h q = rw (step e i h) (simp q)
+
+  pub all-end : e ≤ i → all g (tab f (e - i) i) ≡ true
+  unfolding all tab
+  all-end h = rw (gone e i h)
+
+pub all-start : {A : Type 0} (g : A → Bool) (f : ℕ → A) (s k : ℕ) → all g (tab f (s + k - s) s) ≡ all g (tab f k s)
+all-start g f s k = let q : s + k - s ≡ k = omega arith in rw q

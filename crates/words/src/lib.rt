@@ -1,0 +1,32 @@
+// The words of a stored image, read where they stand. A byte past the end counts as 0, so no word needs a bound on its place.
+ghost use mathlib.Core.Path.{_≡_};
+ghost use Prim.Native.Nat.{_≤_};
+ghost use lib.ListN.{getD};
+ghost use Rattle.model.specs.Image.{wordAt};
+
+fn wide(b: u8) -> u32
+    ensures { λ r. ⌜ (r ≡ b) × (r ≤ 255) ⌝ }
+{
+    b as u32
+}
+
+fn byte(img: &[u8], k: usize) -> u32
+    ensures { λ r. ⌜ (r ≡ getD (now (img .entry)) k 0) × (r ≤ 255) ⌝ }
+{
+    if k < img.len() {
+        return wide(img[k]);
+    }
+    0
+}
+
+// The word at place i.
+pub fn word(img: &[u8], i: usize) -> usize
+    requires { ⌜ i ≤ 1000000000000 ⌝ }
+    ensures { λ r. ⌜ (r ≡ wordAt (now (img .entry)) i) × (r ≤ 4294967295) ⌝ }
+{
+    let k = i * 4;
+    (byte(img, k)
+        + byte(img, k + 1) * 256
+        + byte(img, k + 2) * 65536
+        + byte(img, k + 3) * 16777216) as usize
+}
