@@ -1,0 +1,37 @@
+-- The tree of postfix words, and how many words there are.
+use mathlib.Core.Path.{_≡_, refl, ap, _∙_}
+use mathlib.Core.List.{List, [], _∷_, _++_, append-assoc, append-nil}
+use Prim.Native.Nat.{ℕ, _+_, _-_}
+use native.Mathlib.Omega.{arith}
+use borrow.Author.Tests.{le-leb}
+use lib.ListN.{length, length-append}
+use Rattle.model.specs.Block.{Op, and, or, Condition, term, neg, two, size}
+use Rattle.model.specs.Image.{postfix, opWord, joinTop, grown, trees, treeOf}
+
+grown-term : (t : ℕ) (st : List Condition) → grown (16 + t) st ≡ term t ∷ st
+unfolding grown
+grown-term t st = let q : 16 + t - 16 ≡ t = omega arith in simp (le-leb 16 (16 + t) (omega arith), q)
+
+grown-two : (o : Op) (st : List Condition) → grown (opWord o) st ≡ joinTop o st
+unfolding grown
+grown-two and st = refl
+grown-two or st = refl
+
+trees-postfix : (c : Condition) (rest : List ℕ) (st : List Condition) → trees (postfix c ++ rest) st ≡ trees rest (c ∷ st)
+unfolding trees postfix grown
+trees-postfix (term t) rest st = ap (trees rest) (grown-term t st)
+trees-postfix (neg c) rest st = rw append-assoc (trees-postfix c (0 ∷ rest) st)
+trees-postfix (two o a b) rest st =
+    simp append-assoc (trees-postfix a (postfix b ++ (opWord o ∷ rest)) st ∙ trees-postfix b (opWord o ∷ rest) (a ∷ st)
+    ∙ ap (trees rest) (grown-two o (b ∷ a ∷ st)))
+
+pub tree-postfix : (c : Condition) → treeOf (postfix c) ≡ c
+unfolding treeOf trees
+tree-postfix c = let q = rw (append-nil (postfix c)) at (trees-postfix c [] []) in rw q refl
+
+pub length-postfix : (c : Condition) → length (postfix c) ≡ size c
+unfolding postfix size
+length-postfix (term t) = refl
+length-postfix (neg c) = omega (arith, length-append (postfix c) (0 ∷ []), length-postfix c)
+length-postfix (two o a b) =
+    omega (arith, length-append (postfix a) (postfix b ++ (opWord o ∷ [])), length-append (postfix b) (opWord o ∷ []), length-postfix a, length-postfix b)

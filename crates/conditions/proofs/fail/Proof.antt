@@ -1,0 +1,15 @@
+use borrow.Author.Needs.{needs}
+use mathlib.Core.Path.{refl}
+use Rattle.conditions.specs.Shapes.{view}
+use Rattle.conditions.proofs.fail.Statement.{statement}
+use Rattle.conditions.proofs.fail.Tie as tie
+use Rattle.conditions.proofs.fail.Reads as reads
+use Rattle.conditions.proofs.fail.Lts as lts
+
+-- src/lib.rt:50:1
+returns : tie.Need-returns
+unfolding view
+returns c = (refl, search needs)
+
+pub fail-spec : {M : Type 1} → statement M
+fail-spec = tie.close (tie.spec returns)

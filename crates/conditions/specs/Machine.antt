@@ -1,0 +1,58 @@
+-- One pass over postfix words with a stack, for any meaning of a term, NOT and the operators.
+use mathlib.Core.List.{List, [], _∷_}
+use mathlib.Core.Bool.{Bool, true, false}
+use mathlib.Core.Option.{Option, none, some}
+use Prim.Native.Nat.{ℕ, zero, suc, _-_}
+use lib.Dec.{leb, ltb, eqb}
+use lib.ListN.{length, getD}
+use Rattle.model.specs.Basic.{if_then_else_}
+use Rattle.model.specs.Block.{Op, and, or, Condition, term, neg, two}
+
+-- known: which terms there are; fine: what may stand on the stack
+pub record Meaning (A : Type 0) : Type 0 where
+  pub leaf : ℕ → A
+  pub no : A → A
+  pub join : Op → A → A → A
+  pub fine : A → Bool
+  pub known : ℕ → Bool
+
+unfoldable pub fold : {A : Type 0} → Meaning A → Condition → A
+fold g (term t) = g .leaf t
+fold g (neg c) = g .no (fold g c)
+fold g (two o a b) = g .join o (fold g a) (fold g b)
+
+-- places on the stack: no condition of eight parentheses needs more
+abbrev pub room : ℕ
+room = 19
+
+unfoldable pub added : {A : Type 0} → Meaning A → A → List A → Option (List A)
+added g x st = if g .fine x then (if ltb (length st) room then some (x ∷ st) else none) else none
+
+unfoldable pub unary : {A : Type 0} → Meaning A → List A → Option (List A)
+unary g [] = none
+unary g (a ∷ st) = added g (g .no a) st
+
+unfoldable pub binary : {A : Type 0} → Meaning A → Op → List A → Option (List A)
+binary g o [] = none
+binary g o (b ∷ []) = none
+binary g o (b ∷ a ∷ st) = added g (g .join o a b) st
+
+unfoldable pub step : {A : Type 0} → Meaning A → ℕ → List A → Option (List A)
+step g w st =
+    if leb 16 w then (if g .known (w - 16) then added g (g .leaf (w - 16)) st else none) else
+    if eqb w 0 then unary g st else
+    if eqb w 1 then binary g and st else
+    if eqb w 2 then binary g or st else none
+
+unfoldable pub turn : {A : Type 0} → Meaning A → ℕ → Option (List A) → Option (List A)
+turn g w none = none
+turn g w (some st) = step g w st
+
+unfoldable pub pass : {A : Type 0} → Meaning A → List ℕ → Option (List A) → Option (List A)
+pass g [] s = s
+pass g (w ∷ ws) s = pass g ws (turn g w s)
+
+-- the first n of an array as a stack, the last on top
+unfoldable pub stackOf : {A : Type 0} → A → List A → ℕ → List A
+stackOf d l zero = []
+stackOf d l (suc n) = getD l n d ∷ stackOf d l n

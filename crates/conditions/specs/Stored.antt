@@ -1,0 +1,18 @@
+-- Which words of an image are a condition.
+use mathlib.Core.Bool.{Bool, true, false, _&&_}
+use mathlib.Core.List.{List}
+use Prim.Native.Nat.{ℕ}
+use lib.Dec.{leb}
+use Rattle.model.specs.Basic.{same}
+use Rattle.model.specs.Bounds.{depthLimit}
+use Rattle.model.specs.Parentheses.{depth}
+use Rattle.model.specs.WellFormed.{termsBelow}
+use Rattle.model.specs.Image.{postfix, treeOf, tab}
+
+-- the words are a condition over the first m terms that can be written with at most eight open parentheses
+abbrev pub isCondition : ℕ → List ℕ → Bool
+isCondition m ws = same ws (postfix (treeOf ws)) && (termsBelow m (treeOf ws) && leb (depth (treeOf ws)) depthLimit)
+
+-- n words from place d on
+unfoldable pub conditionStored : (ℕ → ℕ) → ℕ → ℕ → ℕ → Bool
+conditionStored w d n m = isCondition m (tab w n d)
