@@ -1,0 +1,4 @@
+pub mod Fours
+pub mod Spelling
+pub mod Stored
+pub mod Tables

@@ -1,0 +1,22 @@
+use Rattle.names.specs.Stored.{keywordWords}
+use Rattle.model.specs.Image.{wordAt, nameWords, tab}
+use Rattle.model.specs.Keywords.{keywords}
+use Rattle.model.specs.Basic.{gather}
+use borrow.Author.Needs.{needs}
+use Rattle.names.proofs.no_keyword.Statement.{statement}
+use Rattle.names.proofs.no_keyword.Tie as tie
+use Rattle.names.proofs.no_keyword.Reads as reads
+use Rattle.names.proofs.no_keyword.Lts as lts
+use Rattle.names.proofs.absent_in.Reads as absent-in-reads
+
+-- src/lib.rt:154:5
+absent-in-requires : tie.Need-absent-in-requires
+absent-in-requires c κs = search needs
+
+-- src/lib.rt:151:1
+returns : tie.Need-returns
+unfolding keywordWords gather keywords nameWords wordAt tab
+returns c = c .absent-in .ensures
+
+pub no-keyword-spec : {M : Type 1} → statement M
+no-keyword-spec = tie.close (tie.spec absent-in-requires returns)
