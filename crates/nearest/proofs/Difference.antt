@@ -37,7 +37,7 @@ pos-is n = ap pos (omega arith) ∙ sym (sub-pos n 0 (omega arith))
 pub negsuc-is : (n : ℕ) → negsuc n ≡ subℕ 0 (suc n)
 negsuc-is n = ap negsuc (omega arith) ∙ sym (sub-neg 0 (suc n) (omega arith))
 
-neg-is : (n : ℕ) → negℤ (pos n) ≡ subℕ 0 n
+pub neg-is : (n : ℕ) → negℤ (pos n) ≡ subℕ 0 n
 neg-is zero = pos-is 0
 neg-is (suc n) = negsuc-is n
 
