@@ -1,15 +1,18 @@
 -- Between a crisp value and its distance above the lowest one: back, bounds, order, difference.
-use mathlib.Core.Path.{_≡_, refl, sym, ap, _∙_}
-use Prim.Native.Nat.{ℕ, zero, suc, _+_, _-_, _≤_, _<_}
+use mathlib.Core.Path.{_≡_, refl, sym, ap, _∙_, subst}
+use mathlib.Core.Bool.{false}
+use Prim.Native.Nat.{ℕ, suc, _+_, _-_, _≤_, _<_}
 use native.Mathlib.Omega.{arith}
-use lib.Dec.{T, ltb→lt, leb→le, le→leb}
+use native.Mathlib.Decide.{decLe}
+use borrow.Author.Tests.{le-leb}
+use lib.Dec.{T, leb, ltb→lt, leb→le, le→leb}
 use lib.IntN.{ℤ, pos, negsuc, natAbs, _+ℤ_, _-ℤ_, subℕ}
-use lib.Signed.{leZ, ltZ, _<ℤ_, _≤ℤ_, <ℤ-≤ℤ-trans}
+use lib.Signed.{leZ, _<ℤ_, _≤ℤ_}
 use mir.Syntax.{w32}
 use mir.Val.{SFits}
 use Rattle.model.specs.Bounds.{crispLimit}
 use Rattle.model.specs.Degrees.{distance}
-use Rattle.nearest.proofs.Difference.{sub-pos, by-sign, same, pos-is, negsuc-is}
+use Rattle.nearest.proofs.Difference.{sub-pos, by-sign, same, pos-is, negsuc-is, diff-neg, diff-add}
 use Rattle.crisp.specs.Crisp.{InCrisp, above}
 
 above-negsuc : (n : ℕ) → suc n ≤ crispLimit → above (negsuc n) ≡ crispLimit - suc n
@@ -37,6 +40,13 @@ crisp-sfits (negsuc n) h = record { sfits = omega arith }
 pub lifted-sfits : (z : ℤ) → InCrisp z → SFits w32 (z +ℤ pos crispLimit)
 lifted-sfits z h = rw (above-is z h) (record { sfits = omega (arith, above-le z h) })
 
+leb-false : (m n : ℕ) → leb m n ≡ false → n ≤ m
+leb-false m n h = go (decLe n m)
+  where
+    go : Dec (n ≤ m) → n ≤ m
+    go (yes p) = p
+    go (no p) = absurd (subst T (sym (le-leb m n (omega arith)) ∙ h) tt)
+
 -- the order of two crisp values is that of their distances
 pub above-mono : (a b : ℤ) → InCrisp a → InCrisp b → a ≤ℤ b → above a ≤ above b
 above-mono (pos m) (pos n) ha hb h = omega (arith, leb→le m n (h .le))
@@ -61,24 +71,28 @@ diff-le a b k h = record {
     no-way : k ≤ a → b < k → ⊥
     no-way p q = omega arith
 
-pub <ℤ-to-≤ℤ : {a b : ℤ} → a <ℤ b → a ≤ℤ b
-<ℤ-to-≤ℤ {a} {b} h = record { le = go a b (h .lt) }
-  where
-    go : (a b : ℤ) → T (ltZ a b) → T (leZ a b)
-    go (pos m) (pos n) h = le→leb m n (omega (arith, ltb→lt m n h))
-    go (pos m) (negsuc n) h = h
-    go (negsuc m) (pos n) h = tt
-    go (negsuc m) (negsuc n) h = le→leb n m (omega (arith, ltb→lt n m h))
+-- what `above-mono` says, back
+pub at-most : (a b : ℤ) → InCrisp a → InCrisp b → above a ≤ above b → a ≤ℤ b
+at-most a b ha hb h =
+    subst (λ (z : ℤ). z ≤ℤ b) (sym (crisp-is a ha))
+    (subst (λ (z : ℤ). subℕ (above a) crispLimit ≤ℤ z) (sym (crisp-is b hb)) (diff-le (above a) (above b) crispLimit h))
 
--- the distance between two crisp values is the difference
-pub distance-is : (a b : ℤ) → InCrisp a → InCrisp b → a ≤ℤ b → distance a b ≡ above b - above a
-distance-is (pos zero) (pos n) ha hb h = omega arith
-distance-is (pos (suc m)) (pos n) ha hb h =
-    let l : suc m ≤ n = leb→le (suc m) n (h .le) in
-    rw (sub-pos n (suc m) l) (omega arith)
-distance-is (pos zero) (negsuc n) ha hb h = absurd (h .le)
-distance-is (pos (suc m)) (negsuc n) ha hb h = absurd (h .le)
-distance-is (negsuc m) (pos n) ha hb h = omega (arith, above-negsuc m ha)
-distance-is (negsuc m) (negsuc n) ha hb h =
-    let l : suc n ≤ suc m = omega (arith, leb→le n m (h .le)) in
-    rw (sub-pos (suc m) (suc n) l) (omega (arith, above-negsuc m ha, above-negsuc n hb))
+-- the difference of two crisp values is that of their distances
+pub minus-is : (a b : ℤ) → InCrisp a → InCrisp b → b -ℤ a ≡ subℕ (above b) (above a)
+minus-is a b ha hb =
+    let m = above a in
+    let n = above b in
+    ap (λ (z : ℤ). z -ℤ a) (crisp-is b hb)
+    ∙ ap (λ (z : ℤ). subℕ n crispLimit -ℤ z) (crisp-is a ha)
+    ∙ ap (λ (z : ℤ). subℕ n crispLimit +ℤ z) (diff-neg m crispLimit)
+    ∙ diff-add n crispLimit crispLimit m
+    ∙ same (n + crispLimit) (crispLimit + m) n m (omega arith)
+
+pub distance-is : (a b : ℤ) → InCrisp a → InCrisp b → above a ≤ above b → distance a b ≡ above b - above a
+distance-is a b ha hb h = ap natAbs (minus-is a b ha hb ∙ sub-pos (above b) (above a) h)
+
+pub not-at-most : (a b : ℤ) → leZ a b ≡ false → b ≤ℤ a
+not-at-most (pos m) (pos n) h = record { le = le→leb n m (leb-false m n h) }
+not-at-most (pos m) (negsuc n) h = record { le = tt }
+not-at-most (negsuc m) (pos n) h = absurd (subst T h tt)
+not-at-most (negsuc m) (negsuc n) h = record { le = le→leb m n (leb-false n m h) }

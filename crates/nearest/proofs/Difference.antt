@@ -41,6 +41,11 @@ pub neg-is : (n : ℕ) → negℤ (pos n) ≡ subℕ 0 n
 neg-is zero = pos-is 0
 neg-is (suc n) = negsuc-is n
 
+pub diff-neg : (a b : ℕ) → negℤ (subℕ a b) ≡ subℕ b a
+diff-neg a b = by-sign (λ (z : ℤ). negℤ z ≡ subℕ b a) a b
+    (λ h. neg-is (a - b) ∙ same 0 (a - b) b a (omega arith))
+    (λ h. pos-is (suc (b - suc a)) ∙ same (suc (b - suc a)) 0 b a (omega arith))
+
 pub diff-add : (a b c d : ℕ) → subℕ a b +ℤ subℕ c d ≡ subℕ (a + c) (b + d)
 diff-add a b c d = by-sign (λ (z : ℤ). z +ℤ subℕ c d ≡ subℕ (a + c) (b + d)) a b
     (λ h. by-sign (λ (z : ℤ). pos (a - b) +ℤ z ≡ subℕ (a + c) (b + d)) c d
