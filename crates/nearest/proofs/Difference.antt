@@ -1,6 +1,6 @@
 -- A whole number with a sign as a difference of two naturals, `subℕ a b`: the sum, a product by a natural, the division that
 -- rounds down, and `nearestℤ`, each as the same on naturals.
-use mathlib.Core.Path.{_≡_, refl, sym, ap, _∙_, subst}
+use mathlib.Core.Path.{_≡_, sym, ap, _∙_, subst}
 use Prim.Native.Nat.{ℕ, zero, suc, _+_, _*_, _-_, _/_, _%_, _≤_, _<_}
 use native.Mathlib.Nat.{add-mul, suc-mul, mul-assoc, mul-comm, add-mul-div-right, div-add-mod', mod-lt, div-lt-iff-lt-mul}
 use native.Mathlib.Decide.{decLe}

@@ -6,7 +6,7 @@ use native.Mathlib.Nat.{mul-assoc}
 use native.Mathlib.Omega.{arith}
 use lib.Pow.{pow-pos}
 use lib.Dec.{T, leb, eqb}
-use lib.IntN.{ℤ, pos, negℤ, _-ℤ_, +ℤ-idl, natAbs}
+use lib.IntN.{ℤ, pos, negℤ, _-ℤ_, +ℤ-idl}
 use lib.Ieee.{Float, nan, inf, fin, binary32, fits, isNan, ne, odd, ofFields, ofBits, toBits, up, down}
 use lib.Ieee.Exact.{HasValue, odd-sign}
 use lib.Ieee.Bits.{ofBits-toBits}
@@ -25,7 +25,7 @@ use Rattle.model.specs.declared.Taken.the-variants.{Value, NotFinite}
 use Rattle.readings.specs.Fields.{significandOf, magnitudeOf}
 use Rattle.readings.proofs.Rounding.{side, side-le, signed, nearest-signed, same-fraction, clamp-signed}
 
-abbrev pub rounded : Bool → ℕ → ℕ → Taken
+abbrev rounded : Bool → ℕ → ℕ → Taken
 rounded s a d = Value (record { 0 = signed s (min (magnitudeOf (side s) (1000 * a) d) crispLimit) })
 
 -- a float of the value a / d

@@ -1,7 +1,7 @@
 -- The three cases of `magnitude`: past the crisp limit, too small to count, and between.
 use mathlib.Core.Path.{_≡_, refl, sym, ap, _∙_}
-use Prim.Native.Nat.{ℕ, _+_, _*_, _-_, _/_, _%_, _^_, _≤_, _<_, min}
-use native.Mathlib.Nat.{mul-assoc, div-eq-of-lt, le-trans, mul-le-mul-left, mul-le-mul-right, le-div-iff-mul-le, mod-eq-of-lt}
+use Prim.Native.Nat.{ℕ, _+_, _*_, _-_, _%_, _^_, _≤_, _<_, min}
+use native.Mathlib.Nat.{mul-assoc, div-eq-of-lt, le-trans, mul-le-mul-left, mul-le-mul-right, mod-eq-of-lt}
 use native.Mathlib.Omega.{arith}
 use lib.Pow.{pow-pos, pow-add, pow-mono}
 use Rattle.model.specs.Bounds.{crispLimit}

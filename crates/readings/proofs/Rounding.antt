@@ -1,5 +1,5 @@
 -- Rounding a signed fraction by its magnitude; the result depends on the fraction alone; the clamp.
-use mathlib.Core.Path.{_≡_, refl, sym, ap, _∙_, subst}
+use mathlib.Core.Path.{_≡_, refl, sym, ap, _∙_}
 use mathlib.Core.Bool.{Bool, true, false}
 use Prim.Native.Nat.{ℕ, zero, suc, _+_, _*_, _-_, _/_, _≤_, _<_, min}
 use native.Mathlib.Nat.{mul-assoc, mul-comm, add-mul, div-div-eq-div-mul, div-eq-of-lt, add-div-right, mul-div-mul-right, mul-pos}
@@ -10,7 +10,6 @@ use lib.Arith.{digits-div}
 use lib.IntN.{ℤ, pos, negsuc, negℤ, natAbs, subℕ, _+ℤ_, _*ℤ_}
 use lib.Signed.{shrZ}
 use borrow.Author.Tests.{le-ltb, lt-ltb}
-use Rattle.model.specs.Basic.{if_then_else_}
 use Rattle.model.specs.Bounds.{crispLimit}
 use Rattle.model.specs.Degrees.{nearestℤ}
 use Rattle.model.specs.Readings.{clamped}

@@ -8,7 +8,7 @@ use lib.IntN.{ℤ, pos, _+ℤ_, _-ℤ_, _*ℤ_}
 use lib.Signed.{_≤ℤ_, _<ℤ_}
 use Rattle.model.specs.Bounds.{M}
 use Rattle.model.specs.Block.{Point}
-use Rattle.model.specs.Degrees.{nearest, distance, onLine}
+use Rattle.model.specs.Degrees.{nearest, onLine}
 use Rattle.nearest.proofs.Laws.{nearest-le, nearest-ge, nearest-upper, nearest-lower}
 use Rattle.nearest.proofs.Difference.{sub-pos}
 use Rattle.crisp.specs.Crisp.{InCrisp, above}
@@ -19,10 +19,10 @@ module _ (u v w d1 d2 : ℕ) (width : u + v ≡ w) (some : 0 < w) where
   spread : (k : ℕ) → k * u + k * v ≡ k * w
   spread k = sym (mul-add k u v) ∙ ap (λ (x : ℕ). k * x) width
 
-  pub mixed-ge : (k : ℕ) → k ≤ d1 → k ≤ d2 → k ≤ nearest (d1 * u + d2 * v) w
+  mixed-ge : (k : ℕ) → k ≤ d1 → k ≤ d2 → k ≤ nearest (d1 * u + d2 * v) w
   mixed-ge k p q = nearest-ge k (d1 * u + d2 * v) w some (omega (arith, spread k, mul-le-mul-right u p, mul-le-mul-right v q))
 
-  pub mixed-le : (k : ℕ) → d1 ≤ k → d2 ≤ k → nearest (d1 * u + d2 * v) w ≤ k
+  mixed-le : (k : ℕ) → d1 ≤ k → d2 ≤ k → nearest (d1 * u + d2 * v) w ≤ k
   mixed-le k p q = nearest-le k (d1 * u + d2 * v) w some (omega (arith, spread k, mul-le-mul-right u p, mul-le-mul-right v q))
 
 -- a product of a degree and a distance

@@ -1,26 +1,18 @@
 -- The degree of a term, point by point: what is left to compare after each.
-use mathlib.Core.Path.{_≡_, refl, sym, ap, _∙_}
+use mathlib.Core.Path.{_≡_, sym, ap, _∙_}
 use mathlib.Core.Bool.{true, false}
 use mathlib.Core.List.{List, [], _∷_, map}
-use Prim.Native.Nat.{ℕ, zero, suc, _+_, _≤_, _<_}
-use native.Mathlib.Nat.{le-of-suc-le-suc, not-suc-le-zero}
+use Prim.Native.Nat.{ℕ, suc, _+_, _≤_, _<_}
 use native.Mathlib.Numerals.{add-one}
 use native.Mathlib.Omega.{arith}
 use lib.IntN.{ℤ}
-use lib.ListN.{length, getD, take, drop, length-take, drop-of-length-le}
-use lib.Seq.{drop-cons, length-take-le}
+use lib.ListN.{length, take, drop, drop-of-length-le}
+use lib.Seq.{drop-cons, getD-take, length-take-le}
 use lib.Signed.{leZ, ltZ}
 use Rattle.model.specs.Block.{Point as BlockPoint}
 use Rattle.model.specs.Degrees.{onLine, degreeFrom, termDegree}
 use Rattle.terms.specs.declared.Point.{Point}
 use Rattle.terms.specs.Points.{pointView, noPoint, pointAt, pointViews}
-
-getD-take : {A : Type 0} (l : List A) (n i : ℕ) (d : A) → i < n → getD (take n l) i d ≡ getD l i d
-getD-take [] zero i d h = refl
-getD-take [] (suc n) i d h = refl
-getD-take (x ∷ l) zero i d h = absurd (not-suc-le-zero h)
-getD-take (x ∷ l) (suc n) zero d h = refl
-getD-take (x ∷ l) (suc n) (suc i) d h = getD-take l n i d (le-of-suc-le-suc h)
 
 -- from the i-th of the first n on
 abbrev pub rest : List Point → ℕ → ℕ → List BlockPoint
@@ -30,7 +22,7 @@ module _ (ps : List Point) (n : ℕ) (all : n ≤ length ps) where
   rest-next : (i : ℕ) → i < n → rest ps n i ≡ pointView (pointAt ps i) ∷ rest ps n (i + 1)
   rest-next i h =
       let l : i < length (take n ps) = omega (arith, length-take-le n ps all) in
-      ap (map pointView) (drop-cons (take n ps) i noPoint l ∙ ap (λ (p : Point). p ∷ drop (suc i) (take n ps)) (getD-take ps n i noPoint h))
+      ap (map pointView) (drop-cons (take n ps) i noPoint l ∙ ap (λ (p : Point). p ∷ drop (suc i) (take n ps)) (getD-take n ps i noPoint h))
       ∙ ap (λ (k : ℕ). pointView (pointAt ps i) ∷ rest ps n k) (sym (add-one i))
 
   rest-none : (i : ℕ) → n ≤ i → rest ps n i ≡ []

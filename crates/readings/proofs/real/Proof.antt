@@ -1,10 +1,10 @@
 use borrow.Author.Needs.{needs}
 use mathlib.Core.Path.{_≡_, refl, sym, ap, _∙_, subst}
 use mathlib.Core.Bool.{Bool, true, false}
-use Prim.Native.Nat.{ℕ, _-_, _*_, _/_, _%_, _^_, _≤_, _<_, min}
+use Prim.Native.Nat.{ℕ, _*_, _/_, _%_, _^_, min}
 use native.Mathlib.Omega.{arith}
 use lib.Dec.{T, leb}
-use lib.IntN.{ℤ, pos, negℤ}
+use lib.IntN.{ℤ}
 use lib.Ieee.{binary32, fits, toBits}
 use lib.Ieee.Bits.{toBits-lt}
 use mir.Syntax.{w32}
@@ -15,7 +15,7 @@ use Rattle.model.specs.Readings.{realOf}
 use Rattle.model.specs.declared.Taken.the-variants.{Value}
 use Rattle.readings.specs.Fields.{magnitudeOf, significandOf}
 use Rattle.readings.proofs.Rounding.{side, signed}
-use Rattle.readings.proofs.Bits.{rounded, finite, special, at-bits, no-nan, is-nan, minus-fits, taken-from-zero, negated}
+use Rattle.readings.proofs.Bits.{finite, special, at-bits, no-nan, is-nan, minus-fits, taken-from-zero, negated}
 use Rattle.readings.proofs.real.Statement.{statement}
 use Rattle.readings.proofs.real.Tie as tie
 

@@ -1,10 +1,12 @@
 use borrow.Author.Needs.{needs}
+use mathlib.Core.Path.{_≡_}
 use Prim.Native.Nat.{_*_, _-_, _≤_, _<_}
 use native.Mathlib.Omega.{arith}
 use Rattle.model.specs.Bounds.{M}
+use Rattle.model.specs.Degrees.{onLine}
 use Rattle.crisp.proofs.Laws.{above-mono, above-lt}
 use Rattle.terms.specs.Points.{pointView}
-use Rattle.terms.proofs.Line.{mixed-le, product-le, naturals}
+use Rattle.terms.proofs.Line.{product-le, naturals, between}
 use Rattle.terms.proofs.on_line.Statement.{statement}
 use Rattle.terms.proofs.on_line.Tie as tie
 
@@ -54,16 +56,22 @@ facts c =
       product-le (a .q .degree .0) (l .before .lift2 .result - l .before .before .lift .result) (i .2 .1) (omega (arith, e)),
     )
 
-result-le : (c : tie.After-nearest-quotient) → c .nearest-quotient .result ≤ M
-result-le c =
-    let l = c .before .before .before in
-    let s = l .before .before .before in
-    let a1 = l .before .before .lift .result in
-    let a = l .before .lift2 .result in
-    let a2 = l .lift3 .result in
-    let f = facts (c .before) in
-    rw (c .nearest-quotient .ensures)
-    (mixed-le (a2 - a) (a - a1) (a2 - a1) (s .args .p .degree .0) (s .args .q .degree .0) (omega (arith, f)) (omega (arith, f)) M (s .pre .0 .1 .1) (s .pre .0 .2 .1))
+module _ (c : tie.After-nearest-quotient) where
+  is-line : let a = c .before .before .before .before .before .before .args in c .nearest-quotient .result ≡ onLine (a .x .0) (pointView (a .p)) (pointView (a .q))
+  is-line =
+      let l = c .before .before .before in
+      let s = l .before .before .before in
+      let a = s .args in
+      let i = s .pre .0 in
+      rw (naturals (a .x .0) (pointView (a .p)) (pointView (a .q)) (i .0) (i .1 .0) (i .2 .0) (s .pre .1 .0) (s .pre .1 .1), ← l .before .before .lift .ensures .0, ← l .before .lift2 .ensures .0, ← l .lift3 .ensures .0)
+      (c .nearest-quotient .ensures)
+
+  result-le : c .nearest-quotient .result ≤ M
+  result-le =
+      let s = c .before .before .before .before .before .before in
+      let a = s .args in
+      let i = s .pre .0 in
+      omega (arith, is-line, between (a .x .0) (pointView (a .p)) (pointView (a .q)) (i .0) (i .1 .0) (i .2 .0) (s .pre .1 .0) (s .pre .1 .1), i .1 .1, i .2 .1)
 
 sub-n : tie.Need-sub-n
 sub-n c = omega (arith, facts c)
@@ -90,15 +98,7 @@ cast-r : tie.Need-cast-r
 cast-r c = omega (arith, result-le c)
 
 returns : tie.Need-returns
-returns c =
-    let l = c .before .before .before in
-    let s = l .before .before .before in
-    let a = s .args in
-    let i = s .pre .0 in (
-      rw (naturals (a .x .0) (pointView (a .p)) (pointView (a .q)) (i .0) (i .1 .0) (i .2 .0) (s .pre .1 .0) (s .pre .1 .1), ← l .before .before .lift .ensures .0, ← l .before .lift2 .ensures .0, ← l .lift3 .ensures .0)
-          (c .nearest-quotient .ensures),
-      result-le c,
-    )
+returns c = (is-line c, result-le c)
 
 pub on-line-spec : {M : Type 1} → statement M
 on-line-spec =
