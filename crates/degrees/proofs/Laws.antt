@@ -1,14 +1,13 @@
 -- Each pair stays a degree and obeys De Morgan's laws, exactly.
 use mathlib.Core.Path.{_≡_, ap, _∙_}
-use Prim.Native.Nat.{ℕ, _+_, _*_, _-_, _≤_, min, max}
+use Prim.Native.Nat.{ℕ, _+_, _*_, _≤_}
 use native.Mathlib.Nat.{mul-le-mul-left, mul-le-mul-right, mul-add, add-mul, mul-comm}
 use native.Mathlib.Omega.{arith}
 use Rattle.model.specs.Bounds.{M}
 use Rattle.model.specs.Block.{Op, and, or}
 use Rattle.model.specs.declared.Pair.{Pair}
 use Rattle.model.specs.declared.Pair.the-variants.{MinMax, ProdAsum, BdifBsum}
-use Rattle.model.specs.Degrees.{notOf, prodOf, asumOf, bdifOf, bsumOf, pairs}
-use Rattle.model.specs.Evaluation.{accumulated}
+use Rattle.model.specs.Degrees.{notOf, prodOf, pairs}
 use Rattle.nearest.proofs.Laws.{nearest-le}
 
 prod-le : (a b : ℕ) → a ≤ M → b ≤ M → prodOf a b ≤ a

@@ -1,6 +1,6 @@
 -- A whole number with a sign as a difference of two naturals, `subℕ a b`: the sum, a product by a natural, the division that
 -- rounds down, and `nearestℤ`, each as the same on naturals.
-use mathlib.Core.Path.{_≡_, refl, sym, ap, _∙_, subst}
+use mathlib.Core.Path.{_≡_, sym, ap, _∙_, subst}
 use Prim.Native.Nat.{ℕ, zero, suc, _+_, _*_, _-_, _/_, _%_, _≤_, _<_}
 use native.Mathlib.Nat.{add-mul, suc-mul, mul-assoc, mul-comm, add-mul-div-right, div-add-mod', mod-lt, div-lt-iff-lt-mul}
 use native.Mathlib.Decide.{decLe}
@@ -37,9 +37,14 @@ pos-is n = ap pos (omega arith) ∙ sym (sub-pos n 0 (omega arith))
 pub negsuc-is : (n : ℕ) → negsuc n ≡ subℕ 0 (suc n)
 negsuc-is n = ap negsuc (omega arith) ∙ sym (sub-neg 0 (suc n) (omega arith))
 
-neg-is : (n : ℕ) → negℤ (pos n) ≡ subℕ 0 n
+pub neg-is : (n : ℕ) → negℤ (pos n) ≡ subℕ 0 n
 neg-is zero = pos-is 0
 neg-is (suc n) = negsuc-is n
+
+pub diff-neg : (a b : ℕ) → negℤ (subℕ a b) ≡ subℕ b a
+diff-neg a b = by-sign (λ (z : ℤ). negℤ z ≡ subℕ b a) a b
+    (λ h. neg-is (a - b) ∙ same 0 (a - b) b a (omega arith))
+    (λ h. pos-is (suc (b - suc a)) ∙ same (suc (b - suc a)) 0 b a (omega arith))
 
 pub diff-add : (a b c d : ℕ) → subℕ a b +ℤ subℕ c d ≡ subℕ (a + c) (b + d)
 diff-add a b c d = by-sign (λ (z : ℤ). z +ℤ subℕ c d ≡ subℕ (a + c) (b + d)) a b

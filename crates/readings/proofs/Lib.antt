@@ -1,0 +1,4 @@
+pub mod Rounding
+pub mod Cases
+pub mod Bits
+pub mod Bounds
