@@ -1,7 +1,7 @@
 -- Every definition of specs/, opened: an example whose line says `unfolding opened` is computed.
 use Prim.Native.Nat.{ℕ}
 use lib.Ieee
-use Rattle.model.specs.Basic.{all, total, gather, indexOf, run, distinct, update, updateLast, same}
+use Rattle.model.specs.Basic.{every, all, total, gather, indexOf, run, distinct, update, updateLast, same}
 use Rattle.model.specs.Outcome.{into}
 use Rattle.model.specs.Keywords.{keywords, keywordAt, isKeyword}
 use Rattle.model.specs.Tokens.{tidy, sameName, isName, decimalFrom, magnitude, valueOf, isCrisp, isUnit, unitOf, isRuleNumber, wordKind, numberPart, commentPart, wordPiece, pieceAt, scan, tokens}
@@ -20,5 +20,5 @@ use Rattle.model.specs.Readings.{realOf, taken, floatOf}
 use Rattle.model.specs.Evaluation.{termDegrees, ruleDegree, accumulateAll, subconclusions, height, moment, answerOf, answersFrom, freshOf, heldOk, valuesOf, answers, called, evaluate, fresh, calls, heldAfterAll, fromFresh}
 
 unfoldable pub opened : ℕ
-unfolding all total gather indexOf run distinct update updateLast same into keywords keywordAt isKeyword tidy sameName isName decimalFrom magnitude valueOf isCrisp isUnit unitOf isRuleNumber wordKind numberPart commentPart wordPiece pieceAt scan tokens inputFirst outputFirst size termsOf singletonsOf rangeOf mayFollow kind text here refuse advance change judged expect repeatOn repeated listed named inputOf outputOf termOf singletonOf addInput addOutput intFrom variable inputType inputDeclaration outputDeclaration addTerm addPoint pointsOf position degree pointFrom point endOfPoints termName inputTerm fuzzifyOf fuzzifyNamed fuzzify changeOutput crisp upperEnd rangeFrom range figure singletonNamed outputTerm defaultValue defuzzifyOf defuzzifyNamed defuzzify word termNamed termHere subcondition chainOn chain plain operand conditionWith parenthesis condition addRule changeRule algorithm algorithmLine algorithms activation activationLine accumulation ruleNumber concludedTerm conclusion weight weighted ruleGiven ruleFrom rule ruleBlock partsThere endOfBlock functionBlock reads form depth unitOk pointOk rising termOk inputOk singletonOk outputOk termsBelow conditionOk conclusionOk ruleOk wellFormed bytesOf wordAt crispOf nameWords postfix inputTable outputTable termTable ruleTable offsets endOf header words image tab nameAt pointAt termAt singletonAt inputAt outputAt grown trees treeOf conclusionAt ruleAt decode isImageOf loads commaed digitsOn digits trimmed natural listing-crisp inputTermNames inputTermName conditionText termLine fuzzifyText singletonLine defuzzifyText conclusionText ruleLine ruleBlockText listing readsInto listsInto degreeFrom termDegree conditionDegree realOf taken floatOf termDegrees ruleDegree accumulateAll subconclusions height moment answerOf answersFrom freshOf heldOk valuesOf answers called evaluate fresh calls heldAfterAll fromFresh Ieee.span Ieee.climb Ieee.size Ieee.odd Ieee.units Ieee.round Ieee.div Ieee.ofInt Ieee.ofFields Ieee.ofBits Ieee.nanBits Ieee.toBits
+unfolding every all total gather indexOf run distinct update updateLast same into keywords keywordAt isKeyword tidy sameName isName decimalFrom magnitude valueOf isCrisp isUnit unitOf isRuleNumber wordKind numberPart commentPart wordPiece pieceAt scan tokens inputFirst outputFirst size termsOf singletonsOf rangeOf mayFollow kind text here refuse advance change judged expect repeatOn repeated listed named inputOf outputOf termOf singletonOf addInput addOutput intFrom variable inputType inputDeclaration outputDeclaration addTerm addPoint pointsOf position degree pointFrom point endOfPoints termName inputTerm fuzzifyOf fuzzifyNamed fuzzify changeOutput crisp upperEnd rangeFrom range figure singletonNamed outputTerm defaultValue defuzzifyOf defuzzifyNamed defuzzify word termNamed termHere subcondition chainOn chain plain operand conditionWith parenthesis condition addRule changeRule algorithm algorithmLine algorithms activation activationLine accumulation ruleNumber concludedTerm conclusion weight weighted ruleGiven ruleFrom rule ruleBlock partsThere endOfBlock functionBlock reads form depth unitOk pointOk rising termOk inputOk singletonOk outputOk termsBelow conditionOk conclusionOk ruleOk wellFormed bytesOf wordAt crispOf nameWords postfix inputTable outputTable termTable ruleTable offsets endOf header words image tab nameAt pointAt termAt singletonAt inputAt outputAt grown trees treeOf conclusionAt ruleAt decode isImageOf loads commaed digitsOn digits trimmed natural listing-crisp inputTermNames inputTermName conditionText termLine fuzzifyText singletonLine defuzzifyText conclusionText ruleLine ruleBlockText listing readsInto listsInto degreeFrom termDegree conditionDegree realOf taken floatOf termDegrees ruleDegree accumulateAll subconclusions height moment answerOf answersFrom freshOf heldOk valuesOf answers called evaluate fresh calls heldAfterAll fromFresh Ieee.span Ieee.climb Ieee.size Ieee.odd Ieee.units Ieee.round Ieee.div Ieee.ofInt Ieee.ofFields Ieee.ofBits Ieee.nanBits Ieee.toBits
 opened = 0

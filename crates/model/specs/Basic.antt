@@ -29,6 +29,11 @@ abbrev pub isEmpty : {A : Type 0} → List A → Bool
 isEmpty [] = true
 isEmpty (x ∷ xs) = false
 
+-- all tests of a list pass
+unfoldable pub every : List Bool → Bool
+every [] = true
+every (b ∷ bs) = b && every bs
+
 unfoldable pub all : {A : Type 0} → (A → Bool) → List A → Bool
 all f [] = true
 all f (x ∷ xs) = f x && all f xs

@@ -7,7 +7,7 @@ use lib.Dec.{leb, ltb, eqb}
 use lib.IntN.{ℤ}
 use lib.ListN.{length, getD}
 use lib.Signed.{ltZ}
-use Rattle.model.specs.Basic.{between, isEmpty, all, total, distinct}
+use Rattle.model.specs.Basic.{between, isEmpty, every, all, total, distinct}
 use Rattle.model.specs.Bounds.{M, inputLimit, outputLimit, termLimit, pointLeast, pointLimit, ruleLimit, wordLimit, conclusionLimit, ruleNumberLimit, depthLimit}
 use Rattle.model.specs.Tokens.{isName, sameName, inCrisp}
 use Rattle.model.specs.Block.{Point, Term, Singleton, Input, Range, Output, Condition, term, neg, two, Conclusion, Rule, Block, inputTerms, outputFirst, conclusions, size, singletonsOf, inRange, mayFollow}
@@ -26,14 +26,20 @@ rising before [] = true
 rising before (x ∷ xs) = mayFollow before x && rising (before ++ (x ∷ [])) xs
 
 unfoldable pub termOk : Term → Bool
-termOk t =
+termOk t = every (
     isName (t .name)
-    && (between pointLeast pointLimit (length (t .points)) && (all pointOk (t .points) && rising [] (map (λ p. p .at) (t .points))))
+    ∷ between pointLeast pointLimit (length (t .points))
+    ∷ all pointOk (t .points)
+    ∷ rising [] (map (λ p. p .at) (t .points))
+    ∷ [])
 
 unfoldable pub inputOk : Input → Bool
-inputOk v =
+inputOk v = every (
     isName (v .name)
-    && (between 1 termLimit (length (v .terms)) && (all termOk (v .terms) && distinct sameName (map (λ t. t .name) (v .terms))))
+    ∷ between 1 termLimit (length (v .terms))
+    ∷ all termOk (v .terms)
+    ∷ distinct sameName (map (λ t. t .name) (v .terms))
+    ∷ [])
 
 abbrev pub rangeOk : Option Range → Bool
 rangeOk none = true
@@ -50,12 +56,14 @@ unfoldable pub singletonOk : Option Range → Singleton → Bool
 singletonOk g s = isName (s .name) && figureOk g (s .at)
 
 unfoldable pub outputOk : Output → Bool
-outputOk v =
+outputOk v = every (
     isName (v .name)
-    && (between 1 termLimit (length (v .terms))
-    && (rangeOk (v .range)
-    && (all (singletonOk (v .range)) (v .terms)
-    && (distinct sameName (map (λ t. t .name) (v .terms)) && defaultOk (v .range) (v .default)))))
+    ∷ between 1 termLimit (length (v .terms))
+    ∷ rangeOk (v .range)
+    ∷ all (singletonOk (v .range)) (v .terms)
+    ∷ distinct sameName (map (λ t. t .name) (v .terms))
+    ∷ defaultOk (v .range) (v .default)
+    ∷ [])
 
 -- every term is one of the first n
 unfoldable pub termsBelow : ℕ → Condition → Bool
@@ -68,28 +76,33 @@ conditionOk b c = termsBelow (length (inputTerms b)) c && leb (depth c) depthLim
 
 -- the output is there, and the term is its own
 unfoldable pub conclusionOk : Block → Conclusion → Bool
-conclusionOk b k =
+conclusionOk b k = every (
     ltb (k .output) (length (b .outputs))
-    && (leb (outputFirst (k .output) b) (k .term)
-    && ltb (k .term) (outputFirst (k .output) b + length (singletonsOf (k .output) b)))
+    ∷ leb (outputFirst (k .output) b) (k .term)
+    ∷ ltb (k .term) (outputFirst (k .output) b + length (singletonsOf (k .output) b))
+    ∷ [])
 
 unfoldable pub ruleOk : Block → Rule → Bool
-ruleOk b r =
+ruleOk b r = every (
     between 1 ruleNumberLimit (r .number)
-    && (conditionOk b (r .condition)
-    && (not (isEmpty (r .conclusions)) && (all (conclusionOk b) (r .conclusions) && unitOk (r .weight))))
+    ∷ conditionOk b (r .condition)
+    ∷ not (isEmpty (r .conclusions))
+    ∷ all (conclusionOk b) (r .conclusions)
+    ∷ unitOk (r .weight)
+    ∷ [])
 
 unfoldable pub wellFormed : Block → Bool
-wellFormed b =
+wellFormed b = every (
     isName (b .name)
-    && (between 1 inputLimit (length (b .inputs))
-    && (between 1 outputLimit (length (b .outputs))
-    && (all inputOk (b .inputs)
-    && (all outputOk (b .outputs)
-    && (distinct sameName (map (λ v. v .name) (b .inputs) ++ map (λ v. v .name) (b .outputs))
-    && (isName (b .ruleBlock)
-    && (between 1 ruleLimit (length (b .rules))
-    && (all (ruleOk b) (b .rules)
-    && (distinct eqb (map (λ r. r .number) (b .rules))
-    && (leb (total (λ r. size (r .condition)) (b .rules)) wordLimit
-    && leb (length (conclusions b)) conclusionLimit))))))))))
+    ∷ isName (b .ruleBlock)
+    ∷ between 1 inputLimit (length (b .inputs))
+    ∷ between 1 outputLimit (length (b .outputs))
+    ∷ all inputOk (b .inputs)
+    ∷ all outputOk (b .outputs)
+    ∷ distinct sameName (map (λ v. v .name) (b .inputs) ++ map (λ v. v .name) (b .outputs))
+    ∷ between 1 ruleLimit (length (b .rules))
+    ∷ all (ruleOk b) (b .rules)
+    ∷ distinct eqb (map (λ r. r .number) (b .rules))
+    ∷ leb (total (λ r. size (r .condition)) (b .rules)) wordLimit
+    ∷ leb (length (conclusions b)) conclusionLimit
+    ∷ [])

@@ -1,0 +1,6 @@
+pub mod RowLaws
+pub mod TableLaws
+pub mod Parts
+pub mod Whole
+pub mod Bytes
+pub mod Groups

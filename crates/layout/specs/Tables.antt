@@ -1,0 +1,153 @@
+-- The rows of each table, as document 01 lays them out, and what the words of an image must satisfy to be laid out so.
+use mathlib.Core.Bool.{Bool, true, false, _&&_}
+use mathlib.Core.List.{List, [], _∷_, _++_}
+use Prim.Native.Nat.{ℕ, zero, suc, _+_, _*_}
+use lib.Dec.{leb, eqb}
+use lib.ListN.{length}
+use Rattle.model.specs.Basic.{every, all, same}
+use Rattle.model.specs.Bounds.{M}
+use Rattle.model.specs.Block.{Point, Term, Input, Output, Conclusion, Rule, size}
+use Rattle.model.specs.Image.{nameWords, nameAt, typeWord, rangeWords, defaultWords, pointWords, conclusionWords, postfix, singletonTerm, tab, pointAt, termAt, singletonAt, inputAt, outputAt, ruleAt}
+use Rattle.layout.specs.Rows.{rowsOk}
+
+-- ROWS, n being the first term, point or word of the next one
+abbrev pub inputRow : ℕ → Input → List ℕ
+inputRow n v = nameWords (v .name) ++ (typeWord (v .type) ∷ n ∷ length (v .terms) ∷ [])
+
+abbrev pub inputNext : ℕ → Input → ℕ
+inputNext n v = n + length (v .terms)
+
+abbrev pub outputRow : ℕ → Output → List ℕ
+outputRow n v = nameWords (v .name) ++ (n ∷ length (v .terms) ∷ (rangeWords (v .range) ++ defaultWords (v .default)))
+
+abbrev pub outputNext : ℕ → Output → ℕ
+outputNext n v = n + length (v .terms)
+
+abbrev pub termRow : ℕ → Term → List ℕ
+termRow n t = nameWords (t .name) ++ (n ∷ length (t .points) ∷ [])
+
+abbrev pub termNext : ℕ → Term → ℕ
+termNext n t = n + length (t .points)
+
+abbrev pub ruleRow : ℕ × ℕ → Rule → List ℕ
+ruleRow σ r = r .number ∷ σ .0 ∷ size (r .condition) ∷ σ .1 ∷ length (r .conclusions) ∷ r .weight ∷ []
+
+abbrev pub ruleNext : ℕ × ℕ → Rule → ℕ × ℕ
+ruleNext σ r = (σ .0 + size (r .condition), σ .1 + length (r .conclusions))
+
+-- rows that hold no first
+abbrev pub alone : {R : Type 0} → (R → List ℕ) → Unit {0} → R → List ℕ
+alone f σ r = f r
+
+abbrev pub onward : {R : Type 0} → Unit {0} → R → Unit {0}
+onward σ r = σ
+
+-- the sum of k counts from the i-th on
+unfoldable pub sums : (ℕ → ℕ) → ℕ → ℕ → ℕ
+sums c zero i = 0
+sums c (suc k) i = c i + sums c k (suc i)
+
+-- an output's term as the table has it: one point, of degree M
+abbrev pub outputTermAt : (ℕ → ℕ) → ℕ → Term
+outputTermAt w i = singletonTerm (singletonAt w i)
+
+abbrev pub outputPointAt : (ℕ → ℕ) → ℕ → Point
+outputPointAt w i = record { at = pointAt w i .at; degree = M }
+
+-- COUNTS of a row's terms, points, condition words and conclusions
+abbrev pub inputCount : (ℕ → ℕ) → ℕ → ℕ
+inputCount w i = w (w 9 + i * 7 + 6)
+
+abbrev pub outputCount : (ℕ → ℕ) → ℕ → ℕ
+outputCount w i = w (w 10 + i * 11 + 5)
+
+abbrev pub termCount : (ℕ → ℕ) → ℕ → ℕ
+termCount w i = w (w 11 + i * 6 + 5)
+
+abbrev pub wordCount : (ℕ → ℕ) → ℕ → ℕ
+wordCount w i = w (w 13 + i * 6 + 2)
+
+abbrev pub conclusionCount : (ℕ → ℕ) → ℕ → ℕ
+conclusionCount w i = w (w 13 + i * 6 + 4)
+
+-- input terms, output terms, points of input terms
+abbrev pub inputTermsIn : (ℕ → ℕ) → ℕ
+inputTermsIn w = sums (inputCount w) (w 2) 0
+
+abbrev pub outputTermsIn : (ℕ → ℕ) → ℕ
+outputTermsIn w = sums (outputCount w) (w 3) 0
+
+abbrev pub inputPointsIn : (ℕ → ℕ) → ℕ
+inputPointsIn w = sums (termCount w) (inputTermsIn w) 0
+
+abbrev pub wordsIn : (ℕ → ℕ) → ℕ
+wordsIn w = sums (wordCount w) (w 6) 0
+
+abbrev pub conclusionsIn : (ℕ → ℕ) → ℕ
+conclusionsIn w = sums (conclusionCount w) (w 6) 0
+
+-- TABLES
+unfoldable pub inputRows : (ℕ → ℕ) → Bool
+inputRows w = rowsOk inputRow inputNext (inputAt w) w (w 9) 7 (w 2) 0 0
+
+unfoldable pub outputRows : (ℕ → ℕ) → Bool
+outputRows w = rowsOk outputRow outputNext (outputAt w) w (w 10) 11 (w 3) 0 (inputTermsIn w)
+
+unfoldable pub inputTermRows : (ℕ → ℕ) → Bool
+inputTermRows w = rowsOk termRow termNext (termAt w) w (w 11) 6 (inputTermsIn w) 0 0
+
+unfoldable pub outputTermRows : (ℕ → ℕ) → Bool
+outputTermRows w = rowsOk termRow termNext (outputTermAt w) w (w 11) 6 (outputTermsIn w) (inputTermsIn w) (inputPointsIn w)
+
+unfoldable pub outputPointRows : (ℕ → ℕ) → Bool
+outputPointRows w = rowsOk (alone pointWords) onward (outputPointAt w) w (w 12) 2 (outputTermsIn w) (inputPointsIn w) tt
+
+unfoldable pub ruleRows : (ℕ → ℕ) → Bool
+ruleRows w = rowsOk ruleRow ruleNext (ruleAt w) w (w 13) 6 (w 6) 0 (0, 0)
+
+-- a rule's condition words are the postfix of the tree that they stand for
+unfoldable pub conditionExact : (ℕ → ℕ) → ℕ → Bool
+conditionExact w i = same (tab (λ k. w (w 14 + k)) (wordCount w i) (w (w 13 + i * 6 + 1))) (postfix (ruleAt w i .condition))
+
+unfoldable pub conditionRows : (ℕ → ℕ) → Bool
+conditionRows w = all (conditionExact w) (tab (λ i. i) (w 6) 0)
+
+-- THE HEADER
+-- a name's four words, zero padded
+unfoldable pub nameExact : (ℕ → ℕ) → ℕ → Bool
+nameExact w o = same (tab w 4 o) (nameWords (nameAt w o))
+
+-- layout, offsets without gaps, total, pair, ACCU, ACT, the spare word, the two names
+unfoldable pub headerOk : (ℕ → ℕ) → Bool
+headerOk w = every (
+    eqb (w 0) 1
+    ∷ eqb (w 9) 28
+    ∷ eqb (w 10) (w 9 + w 2 * 7)
+    ∷ eqb (w 11) (w 10 + w 3 * 11)
+    ∷ eqb (w 12) (w 11 + w 4 * 6)
+    ∷ eqb (w 13) (w 12 + w 5 * 2)
+    ∷ eqb (w 14) (w 13 + w 6 * 6)
+    ∷ eqb (w 15) (w 14 + w 7)
+    ∷ eqb (w 1) (w 15 + w 8 * 2)
+    ∷ leb (w 16) 2
+    ∷ leb (w 17) 1
+    ∷ leb (w 18) 1
+    ∷ eqb (w 19) 0
+    ∷ nameExact w 20
+    ∷ nameExact w 24
+    ∷ [])
+
+-- the counts of terms, points, condition words and conclusions are the sums of the rows' counts
+unfoldable pub countsOk : (ℕ → ℕ) → Bool
+countsOk w = every (
+    eqb (w 4) (inputTermsIn w + outputTermsIn w)
+    ∷ eqb (w 5) (inputPointsIn w + outputTermsIn w)
+    ∷ eqb (w 7) (wordsIn w)
+    ∷ eqb (w 8) (conclusionsIn w)
+    ∷ [])
+
+-- the words are those of the block that they stand for
+unfoldable pub shapeOk : (ℕ → ℕ) → Bool
+shapeOk w = every (
+    headerOk w ∷ inputRows w ∷ outputRows w ∷ inputTermRows w ∷ outputTermRows w ∷ outputPointRows w
+    ∷ ruleRows w ∷ conditionRows w ∷ countsOk w ∷ [])
