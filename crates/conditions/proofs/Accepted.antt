@@ -3,18 +3,17 @@ use mathlib.Core.Path.{_≡_, refl, sym, ap, _∙_}
 use mathlib.Core.List.{List, [], _∷_}
 use mathlib.Core.Bool.{Bool, true, false, _&&_}
 use mathlib.Core.Option.{Option, none, some}
-use Prim.Native.Nat.{ℕ, _≤_, max}
+use Prim.Native.Nat.{ℕ, _≤_}
 use native.Mathlib.Omega.{arith}
 use borrow.Author.Tests.{le-leb, leb-true}
 use lib.Dec.{leb}
 use Rattle.model.specs.Basic.{same}
 use Rattle.model.specs.Bounds.{depthLimit}
-use Rattle.model.specs.Block.{Op, Condition, term, neg, two}
-use Rattle.model.specs.Parentheses.{form, besideNot, leftOf, rightOf, opened, depth}
+use Rattle.model.specs.Block.{Condition, term, neg, two}
+use Rattle.model.specs.Parentheses.{form, besideNot, leftOf, rightOf, depth}
 use Rattle.model.specs.WellFormed.{termsBelow}
 use Rattle.model.specs.Image.{postfix, treeOf}
 use Rattle.words.proofs.Places.{both, and-i, same-eq, same-refl}
-use Rattle.conditions.specs.declared.Shape.{Shape}
 use Rattle.conditions.specs.Machine.{fold, pass}
 use Rattle.conditions.specs.Shapes.{shape, negatedShape, joinedShape, shapes, isOne, accepts}
 use Rattle.conditions.specs.Stored.{isCondition}

@@ -4,4 +4,5 @@ pub mod Passes
 pub mod Accepted
 pub mod Stacks
 pub mod Steps
+pub mod Stored
 pub mod Vectors

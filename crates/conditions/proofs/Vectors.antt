@@ -1,7 +1,7 @@
 -- Words that are a condition, and words that are none.
 use mathlib.Core.Path.{_≡_, refl}
-use mathlib.Core.List.{List, [], _∷_}
-use mathlib.Core.Bool.{Bool, true, false}
+use mathlib.Core.List.{[], _∷_}
+use mathlib.Core.Bool.{true, false}
 use Prim.Native.Nat.{ℕ, zero, suc}
 use Rattle.model.specs.Basic.{same}
 use Rattle.model.specs.Block.{Condition, term, neg, two, and, or}

@@ -1,8 +1,8 @@
-use borrow.Author.Tests.{not-true, not-false}
-use borrow.Author.Needs.{needs}
 use mathlib.Core.Bool.{true}
 use mathlib.Core.Path.{_≡_}
 use Prim.Native.Nat.{_-_, _≤_}
+use borrow.Author.Tests.{not-true, not-false}
+use borrow.Author.Needs.{needs}
 use Rattle.model.specs.Image.{wordAt}
 use Rattle.conditions.specs.Machine.{room, stackOf}
 use Rattle.conditions.specs.Shapes.{shapes, view}

@@ -1,5 +1,5 @@
-use borrow.Author.Needs.{needs}
 use mathlib.Core.Path.{refl}
+use borrow.Author.Needs.{needs}
 use Rattle.conditions.specs.Shapes.{view}
 use Rattle.conditions.proofs.fail.Statement.{statement}
 use Rattle.conditions.proofs.fail.Tie as tie

@@ -1,7 +1,7 @@
-use native.Mathlib.Omega.{arith}
 use mathlib.Core.Path.{_∙_}
-use Rattle.conditions.proofs.Steps as laws
+use native.Mathlib.Omega.{arith}
 use borrow.Author.Needs.{needs}
+use Rattle.conditions.proofs.Steps as laws
 use Rattle.conditions.proofs.join.Statement.{statement}
 use Rattle.conditions.proofs.join.Tie as tie
 use Rattle.conditions.proofs.join.Reads as reads

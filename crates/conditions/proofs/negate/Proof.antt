@@ -1,9 +1,9 @@
-use native.Mathlib.Omega.{arith}
 use mathlib.Core.Path.{_∙_}
+use native.Mathlib.Omega.{arith}
 use Prim.Native.Nat.{_<_}
-use Rattle.conditions.proofs.Steps as laws
-use Rattle.conditions.specs.Machine.{unary, stackOf}
 use borrow.Author.Needs.{needs}
+use Rattle.conditions.specs.Machine.{unary, stackOf}
+use Rattle.conditions.proofs.Steps as laws
 use Rattle.conditions.proofs.negate.Statement.{statement}
 use Rattle.conditions.proofs.negate.Tie as tie
 use Rattle.conditions.proofs.negate.Reads as reads

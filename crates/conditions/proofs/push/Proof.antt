@@ -2,10 +2,10 @@ use native.Mathlib.Omega.{arith}
 use Prim.Native.Nat.{_<_}
 use lib.ListN.{length, length-map}
 use borrow.Author.Tests.{lt-ltb, le-ltb, le-leb, lt-leb}
+use borrow.Author.Needs.{needs}
 use Rattle.conditions.specs.Machine.{added}
 use Rattle.conditions.specs.Shapes.{shape, view}
 use Rattle.conditions.proofs.Stacks.{length-stack, stack-push}
-use borrow.Author.Needs.{needs}
 use Rattle.conditions.proofs.push.Statement.{statement}
 use Rattle.conditions.proofs.push.Tie as tie
 use Rattle.conditions.proofs.push.Reads as reads

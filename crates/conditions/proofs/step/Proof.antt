@@ -1,9 +1,9 @@
 use mathlib.Core.Path.{refl}
-use Rattle.model.specs.Block.{and, or}
 use borrow.Author.Tests.{le-ltb, lt-ltb, le-leb, lt-leb, eq-eqb, ne-eqb}
+use borrow.Author.Needs.{needs}
+use Rattle.model.specs.Block.{and, or}
 use Rattle.conditions.specs.Machine.{step, turn}
 use Rattle.conditions.specs.Shapes.{view}
-use borrow.Author.Needs.{needs}
 use Rattle.conditions.proofs.step.Statement.{statement}
 use Rattle.conditions.proofs.step.Tie as tie
 use Rattle.conditions.proofs.step.Reads as reads
