@@ -1,5 +1,6 @@
 -- What the load check tests, in the three groups in which the code goes about it.
-use mathlib.Core.Bool.{Bool}
+use mathlib.Core.Bool.{Bool, true}
+use mathlib.Core.Path.{_≡_}
 use mathlib.Core.List.{List, [], _∷_, _++_, map}
 use Prim.Native.Nat.{ℕ, _+_}
 use lib.Dec.{leb, eqb}
@@ -50,3 +51,9 @@ rulesOk w = every (
     ∷ leb (total (λ r. size (r .condition)) (decode w .rules)) wordLimit
     ∷ leb (length (conclusions (decode w))) conclusionLimit
     ∷ [])
+
+-- the words of an accepted image
+pub record Sound (w : ℕ → ℕ) : Type 0 where
+  pub frame : frameOk w ≡ true
+  pub variables : variablesOk w ≡ true
+  pub rules : rulesOk w ≡ true
