@@ -2,7 +2,8 @@
 ghost use mathlib.Core.Path.{_≡_};
 ghost use Prim.Native.Nat.{_≤_};
 ghost use lib.ListN.{getD};
-ghost use Rattle.model.specs.Image.{wordAt};
+ghost use Rattle.model.specs.Image.{wordAt, crispOf};
+use model::Crisp;
 
 fn wide(b: u8) -> u32
     ensures { λ r. ⌜ (r ≡ b) × (r ≤ 255) ⌝ }
@@ -29,4 +30,16 @@ pub fn word(img: &[u8], i: usize) -> usize
         + byte(img, k + 1) * 256
         + byte(img, k + 2) * 65536
         + byte(img, k + 3) * 16777216) as usize
+}
+
+// The word at place i as a crisp value, in two's complement.
+pub fn crisp_at(img: &[u8], i: usize) -> Crisp
+    requires { ⌜ i ≤ 1000000000000 ⌝ }
+    ensures { λ r. ⌜ r .0 ≡ crispOf (wordAt (now (img .entry)) i) ⌝ }
+{
+    let x = word(img, i);
+    if x < 2147483648 {
+        return Crisp(x as i32);
+    }
+    Crisp((x as i64 - 4294967296) as i32)
 }
