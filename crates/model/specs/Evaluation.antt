@@ -73,12 +73,12 @@ answerOf v hs held =
     if ltb 0 (sumOf hs) then answer Fired (nearestℤ (moment (map (λ t. t .at) (v .terms)) hs) (sumOf hs)) (sumOf hs)
     else unfired (v .default) held
 
--- n is the first term of the next output
-unfoldable pub answersFrom : Block → List ℕ → ℕ → List Output → List ℤ → List Answer
-answersFrom b ds n [] held = []
-answersFrom b ds n (v ∷ vs) [] = []
-answersFrom b ds n (v ∷ vs) (x ∷ held) =
-    answerOf v (tab (height b ds) (length (v .terms)) n) x ∷ answersFrom b ds (n + length (v .terms)) vs held
+-- by the heights of all terms; n is the first term of the next output
+unfoldable pub answersFrom : (ℕ → ℕ) → ℕ → List Output → List ℤ → List Answer
+answersFrom h n [] held = []
+answersFrom h n (v ∷ vs) [] = []
+answersFrom h n (v ∷ vs) (x ∷ held) =
+    answerOf v (tab h (length (v .terms)) n) x ∷ answersFrom h (n + length (v .terms)) vs held
 
 abbrev pub noAnswer : Answer
 noAnswer = record { mark = None; thousandths = record { 0 = pos 0 }; sum = 0; value = fin false 0 (pos 0) }
@@ -131,7 +131,8 @@ pub record Evaluated : Type 0 where
   pub held : Held
 
 unfoldable pub answers : Block → List ℤ → List ℤ → List Answer
-answers b xs held = answersFrom b (termDegrees (b .inputs) xs) (length (inputTerms b)) (b .outputs) held
+answers b xs held =
+    answersFrom (height b (termDegrees (b .inputs) xs)) (length (inputTerms b)) (b .outputs) held
 
 -- an accepted call stores every output's thousandths
 abbrev pub evaluated : List Answer → Evaluated

@@ -1,12 +1,13 @@
 -- A list that stands in a function from a place on; n values of a function from a place on; tests that walk over them.
 use mathlib.Core.Path.{_≡_, refl, sym, ap, _∙_, subst}
-use mathlib.Core.List.{List, [], _∷_, _++_}
+use mathlib.Core.List.{List, [], _∷_, _++_, map, map-append}
 use mathlib.Core.Bool.{Bool, true, false, _&&_}
 use Prim.Native.Nat.{ℕ, zero, suc, _+_, _*_, _-_, _≤_, _<_}
 use native.Mathlib.Omega.{arith}
 use native.Mathlib.Numerals.{add-one}
 use lib.Dec.{eqb}
-use lib.ListN.{length, length-append}
+use lib.ListN.{length, take, set}
+use lib.Seq.{take-suc-set}
 use borrow.Author.Tests.{eq-eqb, eqb-true}
 use Rattle.model.specs.Basic.{every, all, same}
 use Rattle.model.specs.Image.{tab}
@@ -105,3 +106,22 @@ module _ {A : Type 0} (g : A → Bool) (f : ℕ → A) (e i : ℕ) where
 
 pub all-start : {A : Type 0} (g : A → Bool) (f : ℕ → A) (s k : ℕ) → all g (tab f (s + k - s) s) ≡ all g (tab f k s)
 all-start g f s k = let q : s + k - s ≡ k = omega arith in rw q
+
+-- ARRAYS FILLED FROM THE FRONT: one element more
+tab-last : {A : Type 0} (f : ℕ → A) (n p : ℕ) → tab f (suc n) p ≡ tab f n p ++ (f (p + n) ∷ [])
+unfolding tab
+tab-last {A} f zero p = ap {B = List A} (λ (k : ℕ). f k ∷ []) (omega arith)
+tab-last {A} f (suc n) p =
+    let e : suc p + n ≡ p + suc n = omega arith in
+    ap (λ (l : List A). f p ∷ l) (tab-last f n (suc p) ∙ ap (λ (k : ℕ). tab f n (suc p) ++ (f k ∷ [])) e)
+
+pub fill : {A B : Type 0} (π : A → B) (f : ℕ → B) (p i : ℕ) (xs : List A) (y : A) → i < length xs → map π (take i xs) ≡ tab f i p → π y ≡ f (p + i)
+    → map π (take (i + 1) (set xs i y)) ≡ tab f (i + 1) p
+fill {A} {B} π f p i xs y h e q =
+    let one : i + 1 ≡ suc i = omega arith in
+    ap (λ (k : ℕ). map π (take k (set xs i y))) one
+    ∙ ap (map π) (take-suc-set xs i y h)
+    ∙ map-append π (take i xs) (y ∷ [])
+    ∙ (λ j. e j ++ (q j ∷ []))
+    ∙ sym (tab-last f i p)
+    ∙ ap (λ (k : ℕ). tab f k p) (sym one)

@@ -1,0 +1,83 @@
+use borrow.Author.Needs.{needs}
+use mathlib.Core.Path.{_≡_, refl, sym, ap, _∙_}
+use mathlib.Core.List.{map}
+use Prim.Native.Nat.{ℕ, _+_, _-_, _≤_, _<_}
+use native.Mathlib.Omega.{arith}
+use lib.ListN.{length, length-set}
+use Rattle.model.specs.Image.{wordAt, tab, singletonAt}
+use Rattle.centre.specs.Centre.{positions}
+use Rattle.words.proofs.Places.{fill}
+use Rattle.layout.proofs.TableLaws.{map-tab}
+use Rattle.defuzzification.proofs.positions_of.Statement.{statement}
+use Rattle.defuzzification.proofs.positions_of.Tie as tie
+use Rattle.defuzzification.proofs.positions_of.Reads as reads
+use Rattle.defuzzification.proofs.positions_of.Lts as lts
+use Rattle.defuzzification.proofs.position.Reads as position-reads
+
+abbrev Inv-loop : tie.InvT-loop
+Inv-loop img first n ps₀ i₀ ps i = (i ≤ n) × (length ps ≡ 7) × (positions ps i ≡ tab (λ k. singletonAt (wordAt img) k .at) i first)
+
+abbrev μ-loop : tie.MeasureT-loop
+μ-loop img first n ps₀ i₀ ps i = n - i
+
+-- src/lib.rt:36:5
+loop-holds : tie.Need-loop-holds Inv-loop μ-loop
+unfolding tab
+loop-holds c = (search needs, refl, refl)
+
+-- src/lib.rt:37:31
+add-position : tie.Need-add-position Inv-loop μ-loop
+add-position c = search needs
+
+-- src/lib.rt:37:13
+position-requires : tie.Need-position-requires Inv-loop μ-loop
+position-requires c κs = search needs
+
+-- src/lib.rt:38:9
+mul-ps : tie.Need-mul-ps Inv-loop μ-loop
+mul-ps c = search needs
+
+-- src/lib.rt:38:9
+array-set-from-ps : tie.Need-array-set-from-ps Inv-loop μ-loop
+array-set-from-ps c = search needs
+
+-- src/lib.rt:39:9
+add-i : tie.Need-add-i Inv-loop μ-loop
+add-i c = search needs
+
+-- src/lib.rt:36:5
+loop-less : tie.Need-loop-less Inv-loop μ-loop
+loop-less c = search needs
+
+-- src/lib.rt:36:5
+loop-again : tie.Need-loop-again Inv-loop μ-loop
+loop-again c =
+    let l = c .before .before .loop in
+    let a = c .before .before .before .before .args in
+    let h : l .i < length (l .ps) = omega (arith, l .inv .1) in
+    (search needs, length-set (l .ps) (l .i) (c .position .result) ∙ l .inv .1,
+     fill (λ x. x .0) (λ k. singletonAt (wordAt (a .img .now)) k .at) (a .first) (l .i) (l .ps) (c .position .result) h (l .inv .2) (c .position .ensures))
+
+-- src/lib.rt:30:1
+returns : tie.Need-returns Inv-loop μ-loop
+returns c =
+    let l = c .before .loop in
+    let a = c .before .before .before .args in
+    let e : l .i ≡ a .n = omega arith in
+    rw (← e) (l .inv .2) ∙ sym (map-tab (λ s. s .at) (singletonAt (wordAt (a .img .now))) (a .n) (a .first))
+
+pub positions-of-spec : {M : Type 1} → statement M
+positions-of-spec =
+    tie.close
+    (tie.spec
+    Inv-loop
+    μ-loop
+    loop-holds
+    add-position
+    position-requires
+    mul-ps
+    array-set-from-ps
+    add-i
+    loop-less
+    loop-again
+    returns)
