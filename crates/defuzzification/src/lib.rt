@@ -1,14 +1,14 @@
 // From the heights of the output terms to the answer of each output, and the held record after it.
 ghost use mathlib.Core.Path.{_≡_};
-ghost use mathlib.Core.List.{List, map};
-ghost use Prim.Native.Nat.{ℕ, _+_, _*_, _-_, _≤_, _<_};
-ghost use lib.ListN.{length, take};
-ghost use Rattle.model.specs.Bounds.{M};
-ghost use Rattle.model.specs.Image.{wordAt, tab, singletonAt, outputAt, decode};
-ghost use Rattle.model.specs.Evaluation.{answerOf, answersFrom, evaluated, figuresOf};
-ghost use Rattle.crisp.specs.Crisp.{InCrisp};
+ghost use mathlib.Core.List.{map};
+ghost use Prim.Native.Nat.{_+_, _≤_, _<_};
+ghost use Rattle.model.specs.Image.{wordAt, tab, singletonAt, outputAt};
+ghost use Rattle.model.specs.Evaluation.{unfired, answerOf};
 ghost use Rattle.centre.specs.Centre.{positions, heights};
-ghost use Rattle.defuzzification.specs.Outputs.{heightOf};
+ghost use Rattle.layout.specs.Tables.{inputTermsIn, outputCount};
+ghost use Rattle.layout.specs.Groups.{Sound};
+ghost use Rattle.layout.proofs.Parts.{outputFirst};
+ghost use Rattle.defuzzification.specs.Outputs.{heightOf, HeightsOk};
 use model::Answer;
 use model::Crisp;
 use model::Degree;
@@ -19,7 +19,7 @@ use words::word;
 
 // The position of output term t.
 fn position(img: &[u8], t: usize) -> Crisp
-    requires { ⌜ t ≤ 4294967295 ⌝ }
+    requires { ⌜ t ≤ 10000000000 ⌝ }
     ensures { λ r. ⌜ r .0 ≡ singletonAt (wordAt (now (img .entry))) t .at ⌝ }
 {
     let first = word(img, word(img, 11) + t * 6 + 4);
@@ -28,7 +28,7 @@ fn position(img: &[u8], t: usize) -> Crisp
 
 // The positions of the n terms from the first on.
 fn positions_of(img: &[u8], first: usize, n: usize) -> [Crisp; 7]
-    requires { ⌜ (first ≤ 4294967288) × (n ≤ 7) ⌝ }
+    requires { ⌜ (first ≤ 4294967295) × (n ≤ 7) ⌝ }
     ensures { λ r. ⌜ positions r n ≡ map (λ s. s .at) (tab (singletonAt (wordAt (now (img .entry)))) n first) ⌝ }
 {
     let mut ps = [Crisp(0); 7];
@@ -54,4 +54,53 @@ fn heights_of(hs: [Degree; 42], from: usize, n: usize) -> [Degree; 7]
         i += 1;
     }
     r
+}
+
+// The answer of output i where no height is above 0.
+fn without_rule(img: &[u8], i: usize, held: Crisp) -> Answer
+    requires { ⌜ i ≤ 4294967295 ⌝ }
+    ensures { λ r. ⌜ r ≡ unfired (outputAt (wordAt (now (img .entry))) i .default) (held .0) ⌝ }
+{
+    let row = word(img, 10) + i * 11;
+    if word(img, row + 9) == 0 {
+        let value = crisp::to_float(held);
+        return Answer {
+            mark: Mark::Held,
+            thousandths: held,
+            sum: 0,
+            value: value,
+        };
+    }
+    let x = crisp_at(img, row + 10);
+    let value = crisp::to_float(x);
+    Answer {
+        mark: Mark::Default,
+        thousandths: x,
+        sum: 0,
+        value: value,
+    }
+}
+
+// The answer of output i by the heights of the output terms, of which m is the first.
+fn answer(img: &[u8], i: usize, hs: [Degree; 42], m: usize, held: Crisp) -> Answer
+    requires { ⌜ Sound (wordAt (now img)) × (i < wordAt (now img) 3) × (m ≡ inputTermsIn (wordAt (now img))) × HeightsOk hs ⌝ }
+    ensures { λ r. ⌜ r ≡ answerOf (outputAt (wordAt (now (img .entry))) i) (tab (heightOf hs m) (outputCount (wordAt (now (img .entry))) i) (outputFirst (wordAt (now (img .entry))) i)) (held .0) ⌝ }
+{
+    let row = word(img, 10) + i * 11;
+    let first = word(img, row + 4);
+    let n = word(img, row + 5);
+    let ps = positions_of(img, first, n);
+    let ws = heights_of(hs, first - m, n);
+    let c = centre::centre_of(ps, ws, n);
+    if c.sum == 0 {
+        return without_rule(img, i, held);
+    }
+    let x = c.figure;
+    let value = crisp::to_float(x);
+    Answer {
+        mark: Mark::Fired,
+        thousandths: x,
+        sum: c.sum,
+        value: value,
+    }
 }

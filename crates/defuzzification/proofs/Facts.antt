@@ -1,0 +1,89 @@
+-- What an accepted image says of one output: where its terms stand, how many they are, and that their positions are crisp.
+use mathlib.Core.Path.{_≡_, refl, sym, ap, _∙_, subst}
+use mathlib.Core.List.{List, [], _∷_}
+use mathlib.Core.Bool.{Bool, true, false, _&&_}
+use Prim.Native.Nat.{ℕ, zero, suc, _+_, _*_, _-_, _≤_, _<_}
+use native.Mathlib.Nat.{suc-mul}
+use native.Mathlib.Omega.{arith}
+use lib.Dec.{leb}
+use lib.IntN.{ℤ, natAbs}
+use lib.ListN.{length}
+use borrow.Author.Tests.{leb-true}
+use Rattle.model.specs.Basic.{all, between}
+use Rattle.model.specs.Bounds.{crispLimit}
+use Rattle.model.specs.Block.{Singleton, inRange}
+use Rattle.model.specs.Tokens.{isName, inCrisp}
+use Rattle.model.specs.WellFormed.{outputOk, singletonOk}
+use Rattle.model.specs.Image.{tab, singletonAt, outputAt, decode}
+use Rattle.words.proofs.Places.{both, passed, length-tab}
+use Rattle.crisp.specs.Crisp.{InCrisp}
+use Rattle.layout.specs.Tables.{sums, outputCount, inputTermsIn, outputTermsIn, outputRow, outputNext, outputRows}
+use Rattle.layout.specs.Groups.{frameOk, variablesOk, Sound}
+use Rattle.layout.proofs.TableLaws.{Runs, runs-from}
+use Rattle.layout.proofs.Parts.{outputFirst, output-row}
+
+-- one element of a walk
+pub all-at : {A : Type 0} (g : A → Bool) (f : ℕ → A) (n s i : ℕ) → i < n → all g (tab f n s) ≡ true → g (f (s + i)) ≡ true
+unfolding all tab
+all-at g f zero s i h a = absurd (omega arith)
+all-at g f (suc n) s zero h a = ap (λ (k : ℕ). g (f k)) (omega arith) ∙ both (g (f s)) (all g (tab f n (suc s))) a .0
+all-at g f (suc n) s (suc i) h a = ap (λ (k : ℕ). g (f k)) (omega arith) ∙ all-at g f n (suc s) i (omega arith) (both (g (f s)) (all g (tab f n (suc s))) a .1)
+
+-- one first of a run
+pub runs-at : (f c : ℕ → ℕ) (k i p j : ℕ) → j < k → Runs f c k i p → f (i + j) ≡ p + sums c j i
+unfolding Runs sums
+runs-at f c zero i p j h r = absurd (omega arith)
+runs-at f c (suc k) i p zero h r = ap f (omega arith) ∙ r .0 ∙ omega arith
+runs-at f c (suc k) i p (suc j) h r = ap f (omega arith) ∙ runs-at f c k (suc i) (p + c i) j (omega arith) (r .1) ∙ omega arith
+
+-- sums of small counts
+pub sums-le : (c : ℕ → ℕ) (m : ℕ) (k i : ℕ) → ((j : ℕ) → j < i + k → c j ≤ m) → sums c k i ≤ k * m
+unfolding sums
+sums-le c m zero i h = omega arith
+sums-le c m (suc k) i h = omega (arith, h i (omega arith), sums-le c m k (suc i) (λ j l. h j (omega arith)), suc-mul k m)
+
+module _ (w : ℕ → ℕ) (s : Sound w) where
+  outputs-run : Runs (outputFirst w) (outputCount w) (w 3) 0 (inputTermsIn w)
+  unfolding frameOk outputRows
+  outputs-run =
+      runs-from outputRow outputNext (outputAt w) w (w 10) 11 (λ n. n) (outputFirst w) (outputCount w) (λ i n e. output-row w i n e) (w 3) 0 (inputTermsIn w) (passed _ (s .frame) .1 .1 .0)
+
+  pub outputs-few : w 3 ≤ 6
+  unfolding variablesOk decode
+  outputs-few =
+      let b = both (leb 1 (length (tab (outputAt w) (w 3) 0))) (leb (length (tab (outputAt w) (w 3) 0)) 6) (passed _ (s .variables) .1 .1 .1 .0) in
+      let l : length (tab (outputAt w) (w 3) 0) ≤ 6 = leb-true _ _ (b .1) in
+      omega (arith, length-tab (outputAt w) (w 3) 0)
+
+  good : (i : ℕ) → i < w 3 → outputOk (outputAt w i) ≡ true
+  unfolding variablesOk decode
+  good i h = ap (λ (k : ℕ). outputOk (outputAt w k)) (omega arith) ∙ all-at outputOk (outputAt w) (w 3) 0 i h (passed _ (s .variables) .1 .1 .1 .1 .1 .0)
+
+  pub terms-few : (i : ℕ) → i < w 3 → outputCount w i ≤ 7
+  unfolding outputOk outputAt
+  terms-few i h =
+      let n = length (outputAt w i .terms) in
+      let b = both (leb 1 n) (leb n 7) (passed _ (good i h) .1 .0) in
+      let l : length (outputAt w i .terms) ≤ 7 = leb-true _ _ (b .1) in
+      omega (arith, length-tab (singletonAt w) (w (w 10 + i * 11 + 5)) (w (w 10 + i * 11 + 4)))
+
+  pub first-is : (i : ℕ) → i < w 3 → outputFirst w i ≡ inputTermsIn w + sums (outputCount w) i 0
+  first-is i h = ap (outputFirst w) (omega arith) ∙ runs-at (outputFirst w) (outputCount w) (w 3) 0 (inputTermsIn w) i h outputs-run
+
+  -- the terms before output i
+  pub before-few : (i : ℕ) → i < w 3 → sums (outputCount w) i 0 ≤ i * 7
+  before-few i h = sums-le (outputCount w) 7 i 0 (λ j l. terms-few j (omega arith))
+
+  pub positions-crisp : (i : ℕ) → i < w 3 → (k : ℕ) → k < outputCount w i → InCrisp (singletonAt w (outputFirst w i + k) .at)
+  unfolding outputOk outputAt singletonOk
+  positions-crisp i h k l =
+      let g = outputAt w i .range in
+      let a = all-at (singletonOk g) (singletonAt w) (outputCount w i) (outputFirst w i) k l (passed _ (good i h) .1 .1 .1 .0) in
+      leb-true _ _ (both (inCrisp x) (inRange g x) (both (isName (singletonAt w (outputFirst w i + k) .name)) (inCrisp x && inRange g x) a .1) .0)
+    where
+      x : ℤ
+      x = singletonAt w (outputFirst w i + k) .at
+
+  -- in numbers
+  pub output-numbers : (i : ℕ) → i < w 3 → (i ≤ 5) × (outputCount w i ≤ 7) × (inputTermsIn w ≤ outputFirst w i) × (outputFirst w i - inputTermsIn w + outputCount w i ≤ 42)
+  output-numbers i h = omega (arith, outputs-few, terms-few i h, first-is i h, before-few i h)
