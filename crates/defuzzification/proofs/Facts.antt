@@ -43,7 +43,7 @@ sums-le c m zero i h = omega arith
 sums-le c m (suc k) i h = omega (arith, h i (omega arith), sums-le c m k (suc i) (λ j l. h j (omega arith)), suc-mul k m)
 
 module _ (w : ℕ → ℕ) (s : Sound w) where
-  outputs-run : Runs (outputFirst w) (outputCount w) (w 3) 0 (inputTermsIn w)
+  pub outputs-run : Runs (outputFirst w) (outputCount w) (w 3) 0 (inputTermsIn w)
   unfolding frameOk outputRows
   outputs-run =
       runs-from outputRow outputNext (outputAt w) w (w 10) 11 (λ n. n) (outputFirst w) (outputCount w) (λ i n e. output-row w i n e) (w 3) 0 (inputTermsIn w) (passed _ (s .frame) .1 .1 .0)

@@ -3,12 +3,12 @@ ghost use mathlib.Core.Path.{_≡_};
 ghost use mathlib.Core.List.{map};
 ghost use Prim.Native.Nat.{_+_, _≤_, _<_};
 ghost use Rattle.model.specs.Image.{wordAt, tab, singletonAt, outputAt};
-ghost use Rattle.model.specs.Evaluation.{unfired, answerOf};
+ghost use Rattle.model.specs.Evaluation.{unfired, answerOf, noAnswer, padded, heldOf};
 ghost use Rattle.centre.specs.Centre.{positions, heights};
 ghost use Rattle.layout.specs.Tables.{inputTermsIn, outputCount};
 ghost use Rattle.layout.specs.Groups.{Sound};
 ghost use Rattle.layout.proofs.Parts.{outputFirst};
-ghost use Rattle.defuzzification.specs.Outputs.{heightOf, HeightsOk};
+ghost use Rattle.defuzzification.specs.Outputs.{heightOf, HeightsOk, answersBy};
 use model::Answer;
 use model::Crisp;
 use model::Degree;
@@ -102,5 +102,46 @@ fn answer(img: &[u8], i: usize, hs: [Degree; 42], m: usize, held: Crisp) -> Answ
         thousandths: x,
         sum: c.sum,
         value: value,
+    }
+}
+
+// The answer of a place past the last output.
+pub fn no_answer() -> Answer
+    ensures { λ r. ⌜ r ≡ noAnswer ⌝ }
+{
+    Answer {
+        mark: Mark::None,
+        thousandths: Crisp(0),
+        sum: 0,
+        value: 0.0,
+    }
+}
+
+// The answers of all outputs, and the held record that stores their figures.
+pub struct Answered {
+    pub answers: [Answer; 6],
+    pub held: Held,
+}
+
+// By the heights of the output terms, of which m is the first, and the held figures.
+pub fn outputs(img: &[u8], hs: [Degree; 42], m: usize, was: [Crisp; 6]) -> Answered
+    requires { ⌜ Sound (wordAt (now img)) × (m ≡ inputTermsIn (wordAt (now img))) × HeightsOk hs ⌝ }
+    ensures { λ r. ⌜ r .answers ≡ padded noAnswer (answersBy (wordAt (now (img .entry))) hs m was) ⌝ }
+    ensures { λ r. ⌜ r .held ≡ heldOf (map (λ a. a .thousandths .0) (answersBy (wordAt (now (img .entry))) hs m was)) ⌝ }
+{
+    let mut answers = [no_answer(); 6];
+    let mut figures = [Crisp(0); 6];
+    let n = word(img, 3);
+    let mut i = 0usize;
+    while i < n {
+        let a = answer(img, i, hs, m, was[i]);
+        answers[i] = a;
+        let x = a.thousandths;
+        figures[i] = x;
+        i += 1;
+    }
+    Answered {
+        answers: answers,
+        held: Held { figures: figures },
     }
 }

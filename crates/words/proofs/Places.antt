@@ -108,7 +108,7 @@ pub all-start : {A : Type 0} (g : A → Bool) (f : ℕ → A) (s k : ℕ) → al
 all-start g f s k = let q : s + k - s ≡ k = omega arith in rw q
 
 -- ARRAYS FILLED FROM THE FRONT: one element more
-tab-last : {A : Type 0} (f : ℕ → A) (n p : ℕ) → tab f (suc n) p ≡ tab f n p ++ (f (p + n) ∷ [])
+pub tab-last : {A : Type 0} (f : ℕ → A) (n p : ℕ) → tab f (suc n) p ≡ tab f n p ++ (f (p + n) ∷ [])
 unfolding tab
 tab-last {A} f zero p = ap {B = List A} (λ (k : ℕ). f k ∷ []) (omega arith)
 tab-last {A} f (suc n) p =

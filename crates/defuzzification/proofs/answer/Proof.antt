@@ -34,9 +34,10 @@ reads-are : (c : tie.After-word3) →
     (c .before .word2 .result ≡ outputFirst (wordAt (a .img .now)) (a .i)) × (c .word3 .result ≡ outputCount (wordAt (a .img .now)) (a .i))
 reads-are c =
     let a = c .before .before .before .before .args in
-    let e = c .before .before .word .ensures .0 in
-    (c .before .word2 .ensures .0 ∙ ap (λ (x : ℕ). wordAt (a .img .now) (x + a .i * 11 + 4)) e,
-     c .word3 .ensures .0 ∙ ap (λ (x : ℕ). wordAt (a .img .now) (x + a .i * 11 + 5)) e)
+    let e = c .before .before .word .ensures .0 in (
+      c .before .word2 .ensures .0 ∙ ap (λ (x : ℕ). wordAt (a .img .now) (x + a .i * 11 + 4)) e,
+      c .word3 .ensures .0 ∙ ap (λ (x : ℕ). wordAt (a .img .now) (x + a .i * 11 + 5)) e,
+    )
 
 numbers : (s : tie.Start) →
     let w = wordAt (s .args .img .now) in
@@ -55,7 +56,7 @@ place c k h =
     let n = w3 .word3 .result in
     let p = w3 .before .word2 .result in
     element (λ x. x .0) (c .before .positions-of .result) (λ j. singletonAt w j .at) n p k (record { 0 = pos 0 })
-      (c .before .positions-of .ensures ∙ map-tab (λ s. s .at) (singletonAt w) n p) h
+    (c .before .positions-of .ensures ∙ map-tab (λ s. s .at) (singletonAt w) n p) h
     ∙ ap (λ (x : ℕ). singletonAt w (x + k) .at) (reads-are w3 .0)
 
 heights-are : (c : tie.After-heights-of) →
@@ -129,10 +130,11 @@ centre-of-requires c κs =
     let w3 = c .before .before in
     let t = w3 .before .before .before .before in
     let w = wordAt (t .args .img .now) in
-    let r = reads-are w3 in
-    (omega (arith, numbers t, r),
-     (λ k h. subst (λ (z : ℤ). InCrisp z) (sym (place c k h)) (positions-crisp w (t .pre .0) (t .args .i) (t .pre .1) k (omega (arith, r)))),
-     (λ k h. subst (λ (z : ℕ). z ≤ M) (sym (element (λ d. d .0) (c .heights-of .result) (heightOf (t .args .hs) 0) (w3 .word3 .result) (w3 .before .word2 .result - t .args .m) k (record { 0 = 0 }) (c .heights-of .ensures) h)) (t .pre .3 _)))
+    let r = reads-are w3 in (
+      omega (arith, numbers t, r),
+      (λ k h. subst (λ (z : ℤ). InCrisp z) (sym (place c k h)) (positions-crisp w (t .pre .0) (t .args .i) (t .pre .1) k (omega (arith, r)))),
+      (λ k h. subst (λ (z : ℕ). z ≤ M) (sym (element (λ d. d .0) (c .heights-of .result) (heightOf (t .args .hs) 0) (w3 .word3 .result) (w3 .before .word2 .result - t .args .m) k (record { 0 = 0 }) (c .heights-of .ensures) h)) (t .pre .3 _)),
+    )
 
 -- src/lib.rt:96:9
 without-rule-requires : tie.Need-without-rule-requires
@@ -146,7 +148,7 @@ returns c =
     let w = wordAt (t .args .img .now) in
     c .without-rule .ensures
     ∙ unfired-is (outputAt w (t .args .i)) (tab (heightOf (t .args .hs) (t .args .m)) (outputCount w (t .args .i)) (outputFirst w (t .args .i))) (t .args .held .0) (c .before .before .before .centre-of .result .sum)
-      (c .before .before .before .centre-of .ensures .0 .0 ∙ ap sumOf (heights-are h)) (c .before .if1 .taken)
+    (c .before .before .before .centre-of .ensures .0 .0 ∙ ap sumOf (heights-are h)) (c .before .if1 .taken)
 
 -- src/lib.rt:99:9
 to-float-requires : tie.Need-to-float-requires
@@ -161,8 +163,8 @@ returns-2 c =
     let w = wordAt (t .args .img .now) in
     ap (λ (x : Float). record { mark = Fired; thousandths = e .centre-of .result .figure; sum = e .centre-of .result .sum; value = x }) (c .to-float .ensures)
     ∙ fired-is (outputAt w (t .args .i)) (positions (h .before .positions-of .result) (h .before .before .word3 .result))
-      (tab (heightOf (t .args .hs) (t .args .m)) (outputCount w (t .args .i)) (outputFirst w (t .args .i))) (t .args .held .0) (e .centre-of .result .figure .0) (e .centre-of .result .sum)
-      (positions-are h) (e .centre-of .ensures .0 .0 ∙ ap sumOf (heights-are h)) (e .centre-of .ensures .1 .0 ∙ ap (figureOf (positions (h .before .positions-of .result) (h .before .before .word3 .result))) (heights-are h)) (omega (arith, c .before .before .if1 .left))
+    (tab (heightOf (t .args .hs) (t .args .m)) (outputCount w (t .args .i)) (outputFirst w (t .args .i))) (t .args .held .0) (e .centre-of .result .figure .0) (e .centre-of .result .sum)
+    (positions-are h) (e .centre-of .ensures .0 .0 ∙ ap sumOf (heights-are h)) (e .centre-of .ensures .1 .0 ∙ ap (figureOf (positions (h .before .positions-of .result) (h .before .before .word3 .result))) (heights-are h)) (omega (arith, c .before .before .if1 .left))
 
 pub answer-spec : {M : Type 1} → statement M
 answer-spec =

@@ -54,9 +54,11 @@ loop-again : tie.Need-loop-again Inv-loop μ-loop
 loop-again c =
     let l = c .before .before .loop in
     let a = c .before .before .before .before .args in
-    let h : l .i < length (l .ps) = omega (arith, l .inv .1) in
-    (search needs, length-set (l .ps) (l .i) (c .position .result) ∙ l .inv .1,
-     fill (λ x. x .0) (λ k. singletonAt (wordAt (a .img .now)) k .at) (a .first) (l .i) (l .ps) (c .position .result) h (l .inv .2) (c .position .ensures))
+    let h : l .i < length (l .ps) = omega (arith, l .inv .1) in (
+      search needs,
+      length-set (l .ps) (l .i) (c .position .result) ∙ l .inv .1,
+      fill (λ x. x .0) (λ k. singletonAt (wordAt (a .img .now)) k .at) (a .first) (l .i) (l .ps) (c .position .result) h (l .inv .2) (c .position .ensures),
+    )
 
 -- src/lib.rt:30:1
 returns : tie.Need-returns Inv-loop μ-loop

@@ -1,0 +1,14 @@
+use mathlib.Core.Path.{refl}
+use lib.Ieee.{ofBits}
+use Rattle.defuzzification.proofs.no_answer.Statement.{statement}
+use Rattle.defuzzification.proofs.no_answer.Tie as tie
+use Rattle.defuzzification.proofs.no_answer.Reads as reads
+use Rattle.defuzzification.proofs.no_answer.Lts as lts
+
+-- src/lib.rt:109:1
+returns : tie.Need-returns
+unfolding ofBits
+returns c = refl
+
+pub no-answer-spec : {M : Type 1} → statement M
+no-answer-spec = tie.close (tie.spec returns)

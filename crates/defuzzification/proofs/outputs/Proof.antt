@@ -1,0 +1,142 @@
+use borrow.Author.Needs.{needs}
+use mathlib.Core.Path.{_≡_, refl, sym, ap, _∙_}
+use mathlib.Core.List.{List, [], _∷_, _++_, map}
+use Prim.Native.Nat.{ℕ, _+_, _-_, _≤_, _<_}
+use native.Mathlib.Omega.{arith}
+use lib.IntN.{pos}
+use lib.ListN.{length, set, replicate}
+use Rattle.model.specs.Image.{wordAt, tab, decode}
+use Rattle.model.specs.Evaluation.{answersFrom, noAnswer, padded, heldOf}
+use Rattle.model.specs.declared.Answer.{Answer}
+use Rattle.model.specs.declared.Crisp.{Crisp}
+use Rattle.defuzzification.specs.Outputs.{heightOf, answersBy}
+use Rattle.defuzzification.proofs.Facts.{outputs-few}
+use Rattle.defuzzification.proofs.Answers.{answerAt, answers-are, fill-front, padded-is, held-is}
+use Rattle.defuzzification.proofs.outputs.Statement.{statement}
+use Rattle.defuzzification.proofs.outputs.Tie as tie
+use Rattle.defuzzification.proofs.outputs.Reads as reads
+use Rattle.defuzzification.proofs.outputs.Lts as lts
+use Rattle.defuzzification.proofs.answer.Reads as answer-reads
+use Rattle.defuzzification.proofs.no_answer.Reads as no-answer-reads
+use Rattle.words.proofs.word.Reads as word-reads
+
+abbrev Inv-loop : tie.InvT-loop
+Inv-loop img hs m was answers₀ figures₀ n i₀ answers figures i =
+    (i ≤ n) × (n ≤ 6)
+    × (answers ≡ tab (answerAt (wordAt img) (heightOf hs m) was) i 0 ++ replicate (6 - i) noAnswer)
+    × (figures ≡ tab (λ j. answerAt (wordAt img) (heightOf hs m) was j .thousandths) i 0 ++ replicate (6 - i) (record { 0 = pos 0 }))
+
+abbrev μ-loop : tie.MeasureT-loop
+μ-loop img hs m was answers₀ figures₀ n i₀ answers figures i = n - i
+
+-- src/lib.rt:132:24
+no-answer-requires : tie.Need-no-answer-requires Inv-loop μ-loop
+no-answer-requires c κs = search needs
+
+-- src/lib.rt:134:9
+word-requires : tie.Need-word-requires Inv-loop μ-loop
+word-requires c κs = search needs
+
+-- src/lib.rt:136:5
+loop-holds : tie.Need-loop-holds Inv-loop μ-loop
+unfolding tab
+loop-holds c =
+    let t = c .before .before .before in
+    let e = c .before .no-answer .ensures in
+    (search needs, omega (arith, outputs-few (wordAt (t .args .img .now)) (t .pre .0), c .word .ensures .0), (λ j. e j ∷ e j ∷ e j ∷ e j ∷ e j ∷ e j ∷ []), refl)
+
+-- src/lib.rt:137:39
+mul-answer : tie.Need-mul-answer Inv-loop μ-loop
+mul-answer c = search needs
+
+-- src/lib.rt:137:39
+array-copy-out-answer : tie.Need-array-copy-out-answer Inv-loop μ-loop
+array-copy-out-answer c = search needs
+
+-- src/lib.rt:137:13
+answer-requires : tie.Need-answer-requires Inv-loop μ-loop
+answer-requires c κs =
+    let l = c .before .before in
+    let t = l .before .before .before .before in
+    (t .pre .0, omega (arith, l .before .word .ensures .0), t .pre .1, t .pre .2)
+
+-- src/lib.rt:138:9
+mul-answers : tie.Need-mul-answers Inv-loop μ-loop
+mul-answers c = search needs
+
+-- src/lib.rt:138:9
+array-set-from-answers : tie.Need-array-set-from-answers Inv-loop μ-loop
+array-set-from-answers c = search needs
+
+-- src/lib.rt:140:9
+mul-figures : tie.Need-mul-figures Inv-loop μ-loop
+mul-figures c = search needs
+
+-- src/lib.rt:140:9
+array-set-from-figures : tie.Need-array-set-from-figures Inv-loop μ-loop
+array-set-from-figures c = search needs
+
+-- src/lib.rt:141:9
+add-i : tie.Need-add-i Inv-loop μ-loop
+add-i c = search needs
+
+-- src/lib.rt:136:5
+loop-less : tie.Need-loop-less Inv-loop μ-loop
+loop-less c = search needs
+
+-- src/lib.rt:136:5
+loop-again : tie.Need-loop-again Inv-loop μ-loop
+unfolding answerAt
+loop-again c =
+    let l = c .before .before .before .before in
+    let t = l .before .before .before .before in
+    let w = wordAt (t .args .img .now) in
+    let f = answerAt w (heightOf (t .args .hs) (t .args .m)) (t .args .t4) in
+    let i = l .loop .i in
+    let h : i < 6 = omega (arith, l .loop .inv .1) in
+    let e : c .before .answer .result ≡ f i = c .before .answer .ensures in (
+      search needs,
+      l .loop .inv .1,
+      ap (λ (x : List Answer). set x i (c .before .answer .result)) (l .loop .inv .2) ∙ fill-front f noAnswer (c .before .answer .result) 6 i h e,
+      ap (λ (x : List Crisp). set x i (c .before .answer .result .thousandths)) (l .loop .inv .3)
+          ∙ fill-front (λ j. f j .thousandths) (record { 0 = pos 0 }) (c .before .answer .result .thousandths) 6 i h (ap (λ (a : Answer). a .thousandths) e),
+    )
+
+-- src/lib.rt:127:1
+returns : tie.Need-returns Inv-loop μ-loop
+returns c =
+    let l = c .before in
+    let t = l .before .before .before .before in
+    let w = wordAt (t .args .img .now) in
+    let h = heightOf (t .args .hs) (t .args .m) in
+    let f = answerAt w h (t .args .t4) in
+    let e : l .loop .i ≡ w 3 = omega (arith, l .before .word .ensures .0) in
+    let k : length (t .args .t4) ≡ 6 = omega (arith, t .good) in
+    let g : answersBy w (t .args .hs) (t .args .m) (t .args .t4) ≡ tab f (w 3) 0 =
+    ap (λ (n : ℕ). answersFrom h n (decode w .outputs) (map (λ x. x .0) (t .args .t4))) (t .pre .1) ∙ answers-are w h (t .args .t4) (t .pre .0) k in (
+      l .loop .inv .2 ∙ ap (λ (n : ℕ). tab f n 0 ++ replicate (6 - n) noAnswer) e ∙ padded-is f (w 3) ∙ ap (padded noAnswer) (sym g),
+      ap (λ (x : List Crisp). record { figures = x })
+          (l .loop .inv .3 ∙ ap (λ (n : ℕ). tab (λ j. f j .thousandths) n 0 ++ replicate (6 - n) (record { 0 = pos 0 })) e ∙ held-is f (w 3))
+          ∙ ap (λ (x : List Answer). heldOf (map (λ a. a .thousandths .0) x)) (sym g),
+    )
+
+pub outputs-spec : {M : Type 1} → statement M
+outputs-spec =
+    tie.close
+    (tie.spec
+    Inv-loop
+    μ-loop
+    no-answer-requires
+    word-requires
+    loop-holds
+    mul-answer
+    array-copy-out-answer
+    answer-requires
+    mul-answers
+    array-set-from-answers
+    mul-figures
+    array-set-from-figures
+    add-i
+    loop-less
+    loop-again
+    returns)
