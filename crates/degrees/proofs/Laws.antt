@@ -1,4 +1,4 @@
--- Each pair stays a degree and obeys De Morgan's laws, exactly.
+-- Each pair stays a degree, as the heights do, and obeys De Morgan's laws, exactly.
 use mathlib.Core.Path.{_≡_, ap, _∙_}
 use Prim.Native.Nat.{ℕ, _+_, _*_, _≤_}
 use native.Mathlib.Nat.{mul-le-mul-left, mul-le-mul-right, mul-add, add-mul, mul-comm}
@@ -8,6 +8,9 @@ use Rattle.model.specs.Block.{Op, and, or}
 use Rattle.model.specs.declared.Pair.{Pair}
 use Rattle.model.specs.declared.Pair.the-variants.{MinMax, ProdAsum, BdifBsum}
 use Rattle.model.specs.Degrees.{notOf, prodOf, pairs}
+use Rattle.model.specs.Evaluation.{accumulated}
+use Rattle.model.specs.declared.Accumulation.{Accumulation}
+use Rattle.model.specs.declared.Accumulation.the-variants.{Max, Bsum}
 use Rattle.nearest.proofs.Laws.{nearest-le}
 
 prod-le : (a b : ℕ) → a ≤ M → b ≤ M → prodOf a b ≤ a
@@ -58,3 +61,7 @@ not-or p a b ha hb =
     let e : notOf (pairs p and (notOf a) (notOf b)) ≡ pairs p or a b =
     not-and p (notOf a) (notOf b) na nb ∙ ap (λ (x : ℕ). pairs p or x (notOf (notOf b))) ea ∙ ap (pairs p or a) eb in
     omega (arith, pair-degree p and (notOf a) (notOf b) na nb)
+
+pub accumulated-degree : (k : Accumulation) (h d : ℕ) → h ≤ M → d ≤ M → accumulated k h d ≤ M
+accumulated-degree Max h d hh hd = omega arith
+accumulated-degree Bsum h d hh hd = omega arith

@@ -79,11 +79,11 @@ pub fn taken(kind: InputType, reading: Reading) -> Taken
     match kind {
         InputType::Real => match reading {
             Reading::Real(x) => real(x),
-            Reading::Int(n) => Taken::WrongKind,
+            Reading::Int(_) => Taken::WrongKind,
             Reading::Absent => Taken::Absent,
         },
         InputType::Int => match reading {
-            Reading::Real(x) => Taken::WrongKind,
+            Reading::Real(_) => Taken::WrongKind,
             Reading::Int(n) => Taken::Value(int(n)),
             Reading::Absent => Taken::Absent,
         },

@@ -65,17 +65,20 @@ sub-t15 c =
 -- what the code's magnitude is, under the sign s of x
 answered : (c : tie.After-magnitude) →
     let x = c .before .before .before .before .before .args .x in
-    let n = toBits binary32 x in
-    (s : Bool) → leb 2147483648 n ≡ s → n / 2147483648 ≡ side s → (z : ℤ) → z ≡ signed s (c .magnitude .result) → Value (record { 0 = z }) ≡ realOf x
-answered c s es ed z ez =
+    let q = c .before .before .significand .result in
+    let k = c .before .exponent .result in
+    (s : Bool) → leb 2147483648 (toBits binary32 x) ≡ s
+    → (d : ℕ) → c .magnitude .result ≡ min (magnitudeOf d (1000 * (q * 2 ^ k)) (2 ^ 149)) crispLimit → d ≡ side s
+    → (z : ℤ) → z ≡ signed s (c .magnitude .result) → Value (record { 0 = z }) ≡ realOf x
+answered c s es d em ed z ez =
     let x = c .before .before .before .before .before .args .x in
     let n = toBits binary32 x in
     let e = n % 2147483648 / 8388608 in
     let t = n % 8388608 in
     let q = c .before .before .significand in
     let k = c .before .exponent in
-    ap (λ (z : ℤ). Value (record { 0 = z })) (ez ∙ ap (signed s) (c .magnitude .ensures .0
-    ∙ ap (λ (d : ℕ). min (magnitudeOf d (1000 * (q .result * 2 ^ k .result)) (2 ^ 149)) crispLimit) ed
+    ap (λ (z : ℤ). Value (record { 0 = z })) (ez ∙ ap (signed s) (em
+    ∙ ap (λ (y : ℕ). min (magnitudeOf y (1000 * (q .result * 2 ^ k .result)) (2 ^ 149)) crispLimit) ed
     ∙ ap (λ (y : ℕ). min (magnitudeOf (side s) (1000 * (y * 2 ^ k .result)) (2 ^ 149)) crispLimit) (q .ensures .0)
     ∙ ap (λ (y : ℕ). min (magnitudeOf (side s) (1000 * (significandOf e t * 2 ^ y)) (2 ^ 149)) crispLimit) (k .ensures)))
     ∙ sym (at-bits x (fits-x (c .before .before .before .before)) s es ∙ finite s e t (c .before .before .before .if2 .left))
@@ -84,14 +87,14 @@ returns-3 : tie.Need-returns-3
 returns-3 c =
     let v = c .before .magnitude in
     let n = toBits binary32 (c .before .before .before .before .before .before .args .x) in
-    answered (c .before) false (lt-leb 2147483648 n (c .if3 .taken)) (omega arith) _ (toZ-pos w32 (v .result) (omega (arith, v .ensures .1)))
+    answered (c .before) false (lt-leb 2147483648 n (c .if3 .taken)) _ (v .ensures .0) (omega arith) _ (toZ-pos w32 (v .result) (omega (arith, v .ensures .1)))
 
 returns-4 : tie.Need-returns-4
 returns-4 c =
     let v = c .before .magnitude in
     let s = c .before .before .before .before .before in
     let n = toBits binary32 (s .before .args .x) in
-    answered (c .before) true (le-leb 2147483648 n (c .if3 .left)) (omega (arith, toBits-lt binary32 (s .before .args .x) (fits-x s))) _ (negated (v .result) (v .ensures .1))
+    answered (c .before) true (le-leb 2147483648 n (c .if3 .left)) _ (v .ensures .0) (omega (arith, toBits-lt binary32 (s .before .args .x) (fits-x s))) _ (negated (v .result) (v .ensures .1))
 
 pub real-spec : {M : Type 1} → statement M
 real-spec =

@@ -1,0 +1,46 @@
+-- The degree of a term is a degree, at every crisp value.
+use mathlib.Core.Path.{_≡_, refl, sym, subst}
+use mathlib.Core.Bool.{Bool, true, false, not}
+use mathlib.Core.List.{List, [], _∷_}
+use Prim.Native.Nat.{ℕ, suc, _≤_, _<_}
+use native.Mathlib.Omega.{arith}
+use lib.Dec.{T}
+use lib.IntN.{ℤ, pos}
+use lib.ListN.{length, getD}
+use lib.Signed.{leZ, ltZ, _≤ℤ_, ltZ-yes, ltZ-no}
+use Rattle.model.specs.Bounds.{M}
+use Rattle.model.specs.Block.{Point}
+use Rattle.model.specs.Degrees.{degreeFrom, termDegree}
+use Rattle.crisp.specs.Crisp.{InCrisp}
+use Rattle.crisp.proofs.Laws.{not-at-most}
+use Rattle.terms.proofs.Line.{between}
+
+abbrev Ok : Point → Type 0
+Ok p = InCrisp (p .at) × (p .degree ≤ M)
+
+abbrev none : Point
+none = record { at = pos 0; degree = 0 }
+
+from-le : (x : ℤ) → InCrisp x → (p : Point) (ps : List Point) → Ok p → p .at ≤ℤ x → ((k : ℕ) → k < length ps → Ok (getD ps k none)) → degreeFrom x p ps ≤ M
+unfolding degreeFrom
+from-le x i p [] o h f = o .1
+from-le x i p (q ∷ qs) o h f = go (ltZ x (q .at)) refl (λ l. from-le x i q qs (f 0 (omega arith)) l (λ k b. f (suc k) (omega arith)))
+  where
+    oq : Ok q
+    oq = f 0 (omega arith)
+
+    go : (b : Bool) → ltZ x (q .at) ≡ b → (q .at ≤ℤ x → degreeFrom x q qs ≤ M) → degreeFrom x p (q ∷ qs) ≤ M
+    go true e next = rw e (omega (arith, between x p q i (o .0) (oq .0) h (ltZ-yes (subst T (sym e) tt)), o .1, oq .1))
+    go false e next = rw e (next (ltZ-no (subst (λ (b : Bool). T (not b)) (sym e) tt)))
+
+pub term-le : (ps : List Point) (x : ℤ) → InCrisp x → ((k : ℕ) → k < length ps → Ok (getD ps k none)) → termDegree ps x ≤ M
+unfolding termDegree
+term-le [] x i f = omega arith
+term-le (p ∷ ps) x i f = go (leZ x (p .at)) refl
+  where
+    op : Ok p
+    op = f 0 (omega arith)
+
+    go : (b : Bool) → leZ x (p .at) ≡ b → termDegree (p ∷ ps) x ≤ M
+    go true e = rw e (op .1)
+    go false e = rw e (from-le x i p ps op (not-at-most x (p .at) e) (λ k l. f (suc k) (omega arith)))
