@@ -1,12 +1,12 @@
--- The answer of an output by what the code computes of it; elements of arrays and of lists of values.
+-- The answer of an output by what the code computes of it, and the answers of all.
 use mathlib.Core.Path.{_≡_, refl, sym, ap, _∙_, subst}
-use mathlib.Core.List.{List, [], _∷_, _++_, map, map-append}
+use mathlib.Core.List.{List, [], _∷_, _++_, map}
 use mathlib.Core.Bool.{Bool, true, false}
 use Prim.Native.Nat.{ℕ, zero, suc, _+_, _-_, _≤_, _<_}
 use native.Mathlib.Omega.{arith}
 use lib.IntN.{ℤ, pos}
-use lib.ListN.{length, getD, take, drop, set, replicate, List·getD-map}
-use lib.Seq.{getD-take, drop-cons, set-at, append-snoc}
+use lib.ListN.{length, getD, drop, replicate}
+use lib.Seq.{drop-cons}
 use borrow.Author.Tests.{lt-ltb, le-ltb}
 use Rattle.model.specs.Block.{Output}
 use Rattle.model.specs.Image.{tab, singletonAt, outputAt, decode}
@@ -15,34 +15,14 @@ use Rattle.model.specs.Evaluation.{moment, sumOf, answer, unfired, answerOf, an
 use Rattle.model.specs.declared.Mark.the-variants.{Fired}
 use Rattle.model.specs.declared.Answer.{Answer}
 use Rattle.model.specs.declared.Crisp.{Crisp}
-use Rattle.words.proofs.Places.{length-tab, tab-last}
+use Rattle.words.proofs.Places.{length-tab}
 use Rattle.centre.specs.Centre.{figureOf}
+use Rattle.held.proofs.Laws.{held-tab}
 use Rattle.layout.specs.Tables.{outputCount, inputTermsIn}
 use Rattle.layout.specs.Groups.{Sound}
 use Rattle.layout.proofs.TableLaws.{Runs, map-tab}
 use Rattle.layout.proofs.Parts.{outputFirst}
-use Rattle.defuzzification.proofs.Facts.{outputs-run, outputs-few}
-
-pub tab-nth : {A : Type 0} (f : ℕ → A) (n p k : ℕ) (d : A) → k < n → getD (tab f n p) k d ≡ f (p + k)
-unfolding tab
-tab-nth f zero p k d h = absurd (omega arith)
-tab-nth f (suc n) p zero d h = ap f (omega arith)
-tab-nth f (suc n) p (suc k) d h = tab-nth f n (suc p) k d (omega arith) ∙ ap f (omega arith)
-
-pub tab-ext : {A : Type 0} (f g : ℕ → A) (n p q : ℕ) → ((k : ℕ) → k < n → f (p + k) ≡ g (q + k)) → tab f n p ≡ tab g n q
-unfolding tab
-tab-ext f g zero p q e = refl
-tab-ext f g (suc n) p q e =
-    let a : p + 0 ≡ p = omega arith in
-    let b : q + 0 ≡ q = omega arith in
-    let z = e 0 (omega arith) in
-    let r = tab-ext f g n (suc p) (suc q) (λ k h. ap f (omega arith) ∙ e (suc k) (omega arith) ∙ ap g (omega arith)) in
-    λ j. (ap f (sym a) ∙ z ∙ ap g b) j ∷ r j
-
--- an element of an array whose first n are values of f
-pub element : {A B : Type 0} (π : A → B) (xs : List A) (f : ℕ → B) (n p k : ℕ) (d : A) → map π (take n xs) ≡ tab f n p → k < n → π (getD xs k d) ≡ f (p + k)
-element {B = B} π xs f n p k d e h =
-    ap π (sym (getD-take n xs k d h)) ∙ sym (List·getD-map π (take n xs) k d) ∙ ap (λ (l : List B). getD l k (π d)) e ∙ tab-nth f n p k (π d) h
+use Rattle.layout.proofs.Sound.{outputs-run, outputs-few}
 
 pub fired-is : (v : Output) (ps : List ℤ) (hs : List ℕ) (held z : ℤ) (s : ℕ) → ps ≡ map (λ t. t .at) (v .terms) → s ≡ sumOf hs → z ≡ figureOf ps hs → 0 < s
     → answer Fired z s ≡ answerOf v hs held
@@ -81,33 +61,8 @@ pub answers-are : (w h : ℕ → ℕ) (was : List Crisp) → Sound w → length 
 unfolding decode
 answers-are w h was s l = answers-on w h was (w 3) 0 (inputTermsIn w) (omega (arith, outputs-few w s)) (outputs-run w s)
 
--- an array of which the first i are values of f and the rest are d: one more
-pub fill-front : {A : Type 0} (f : ℕ → A) (d y : A) (n i : ℕ) → i < n → y ≡ f i → set (tab f i 0 ++ replicate (n - i) d) i y ≡ tab f (i + 1) 0 ++ replicate (n - (i + 1)) d
-fill-front {A} f d y n i h e =
-    let m : n - i ≡ suc (n - (i + 1)) = omega arith in
-    let rest = replicate (n - (i + 1)) d in
-    ap (λ (k : ℕ). set (tab f i 0 ++ replicate k d) i y) m
-    ∙ set-at (tab f i 0) d rest y i (length-tab f i 0)
-    ∙ ap (λ (x : A). tab f i 0 ++ x ∷ rest) (e ∙ ap f (omega arith))
-    ∙ sym (append-snoc (tab f i 0) (f (0 + i)) rest)
-    ∙ ap (λ (l : List A). l ++ rest) (sym (tab-last f i 0) ∙ ap (λ (k : ℕ). tab f k 0) (omega arith))
-
-map-replicate : {A B : Type 0} (g : A → B) (n : ℕ) (a : A) → map g (replicate n a) ≡ replicate n (g a)
-map-replicate g zero a = refl
-map-replicate {B = B} g (suc n) a = ap (λ (l : List B). g a ∷ l) (map-replicate g n a)
-
 pub padded-is : (f : ℕ → Answer) (n : ℕ) → tab f n 0 ++ replicate (6 - n) noAnswer ≡ padded noAnswer (tab f n 0)
 padded-is f n = ap (λ (k : ℕ). tab f n 0 ++ replicate (6 - k) noAnswer) (sym (length-tab f n 0))
 
 pub held-is : (f : ℕ → Answer) (n : ℕ) → tab (λ j. f j .thousandths) n 0 ++ replicate (6 - n) (record { 0 = pos 0 }) ≡ heldOf (map (λ a. a .thousandths .0) (tab f n 0)) .figures
-held-is f n = sym (
-    ap (λ (l : List ℤ). map mk (padded (pos 0) l)) (map-tab (λ a. a .thousandths .0) f n 0)
-    ∙ ap (λ (k : ℕ). map mk (tab t n 0 ++ replicate (6 - k) (pos 0))) (length-tab t n 0)
-    ∙ map-append mk (tab t n 0) (replicate (6 - n) (pos 0))
-    ∙ (λ j. map-tab mk t n 0 j ++ map-replicate mk (6 - n) (pos 0) j))
-  where
-    t : ℕ → ℤ
-    t j = f j .thousandths .0
-
-    mk : ℤ → Crisp
-    mk x = record { 0 = x }
+held-is f n = held-tab (λ j. f j .thousandths .0) n ∙ ap (λ (l : List ℤ). heldOf l .figures) (sym (map-tab (λ a. a .thousandths .0) f n 0))

@@ -4,3 +4,4 @@ pub mod Parts
 pub mod Whole
 pub mod Bytes
 pub mod Groups
+pub mod Sound

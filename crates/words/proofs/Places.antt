@@ -6,8 +6,8 @@ use Prim.Native.Nat.{ℕ, zero, suc, _+_, _*_, _-_, _≤_, _<_}
 use native.Mathlib.Omega.{arith}
 use native.Mathlib.Numerals.{add-one}
 use lib.Dec.{eqb}
-use lib.ListN.{length, take, set}
-use lib.Seq.{take-suc-set}
+use lib.ListN.{length, getD, take, set, replicate, List·getD-map}
+use lib.Seq.{take-suc-set, getD-take, set-at, append-snoc}
 use borrow.Author.Tests.{eq-eqb, eqb-true}
 use Rattle.model.specs.Basic.{every, all, same}
 use Rattle.model.specs.Image.{tab}
@@ -125,3 +125,40 @@ fill {A} {B} π f p i xs y h e q =
     ∙ (λ j. e j ++ (q j ∷ []))
     ∙ sym (tab-last f i p)
     ∙ ap (λ (k : ℕ). tab f k p) (sym one)
+
+-- an array of which the first i are values of f and the rest are d: one more
+pub fill-front : {A : Type 0} (f : ℕ → A) (d y : A) (n i : ℕ) → i < n → y ≡ f i → set (tab f i 0 ++ replicate (n - i) d) i y ≡ tab f (i + 1) 0 ++ replicate (n - (i + 1)) d
+fill-front {A} f d y n i h e =
+    let m : n - i ≡ suc (n - (i + 1)) = omega arith in
+    let rest = replicate (n - (i + 1)) d in
+    ap (λ (k : ℕ). set (tab f i 0 ++ replicate k d) i y) m
+    ∙ set-at (tab f i 0) d rest y i (length-tab f i 0)
+    ∙ ap (λ (x : A). tab f i 0 ++ x ∷ rest) (e ∙ ap f (omega arith))
+    ∙ sym (append-snoc (tab f i 0) (f (0 + i)) rest)
+    ∙ ap (λ (l : List A). l ++ rest) (sym (tab-last f i 0) ∙ ap (λ (k : ℕ). tab f k 0) (omega arith))
+
+pub map-replicate : {A B : Type 0} (g : A → B) (n : ℕ) (a : A) → map g (replicate n a) ≡ replicate n (g a)
+map-replicate g zero a = refl
+map-replicate {B = B} g (suc n) a = ap (λ (l : List B). g a ∷ l) (map-replicate g n a)
+
+-- ELEMENTS
+pub tab-nth : {A : Type 0} (f : ℕ → A) (n p k : ℕ) (d : A) → k < n → getD (tab f n p) k d ≡ f (p + k)
+unfolding tab
+tab-nth f zero p k d h = absurd (omega arith)
+tab-nth f (suc n) p zero d h = ap f (omega arith)
+tab-nth f (suc n) p (suc k) d h = tab-nth f n (suc p) k d (omega arith) ∙ ap f (omega arith)
+
+pub tab-ext : {A : Type 0} (f g : ℕ → A) (n p q : ℕ) → ((k : ℕ) → k < n → f (p + k) ≡ g (q + k)) → tab f n p ≡ tab g n q
+unfolding tab
+tab-ext f g zero p q e = refl
+tab-ext f g (suc n) p q e =
+    let a : p + 0 ≡ p = omega arith in
+    let b : q + 0 ≡ q = omega arith in
+    let z = e 0 (omega arith) in
+    let r = tab-ext f g n (suc p) (suc q) (λ k h. ap f (omega arith) ∙ e (suc k) (omega arith) ∙ ap g (omega arith)) in
+    λ j. (ap f (sym a) ∙ z ∙ ap g b) j ∷ r j
+
+-- an element of an array whose first n are values of f
+pub element : {A B : Type 0} (π : A → B) (xs : List A) (f : ℕ → B) (n p k : ℕ) (d : A) → map π (take n xs) ≡ tab f n p → k < n → π (getD xs k d) ≡ f (p + k)
+element {B = B} π xs f n p k d e h =
+    ap π (sym (getD-take n xs k d h)) ∙ sym (List·getD-map π (take n xs) k d) ∙ ap (λ (l : List B). getD l k (π d)) e ∙ tab-nth f n p k (π d) h

@@ -16,8 +16,9 @@ use Rattle.layout.specs.Tables.{inputTermsIn, outputCount}
 use Rattle.layout.proofs.TableLaws.{map-tab}
 use Rattle.layout.proofs.Parts.{outputFirst}
 use Rattle.defuzzification.specs.Outputs.{heightOf, HeightsOk}
-use Rattle.defuzzification.proofs.Facts.{output-numbers, positions-crisp}
-use Rattle.defuzzification.proofs.Answers.{element, tab-ext, fired-is, unfired-is}
+use Rattle.layout.proofs.Sound.{output-numbers, positions-crisp}
+use Rattle.defuzzification.proofs.Answers.{fired-is, unfired-is}
+use Rattle.words.proofs.Places.{element, tab-ext}
 use Rattle.defuzzification.proofs.answer.Statement.{statement}
 use Rattle.defuzzification.proofs.answer.Tie as tie
 use Rattle.defuzzification.proofs.answer.Reads as reads

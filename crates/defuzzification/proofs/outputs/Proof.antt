@@ -10,8 +10,9 @@ use Rattle.model.specs.Evaluation.{answersFrom, noAnswer, padded, heldOf}
 use Rattle.model.specs.declared.Answer.{Answer}
 use Rattle.model.specs.declared.Crisp.{Crisp}
 use Rattle.defuzzification.specs.Outputs.{heightOf, answersBy}
-use Rattle.defuzzification.proofs.Facts.{outputs-few}
-use Rattle.defuzzification.proofs.Answers.{answerAt, answers-are, fill-front, padded-is, held-is}
+use Rattle.layout.proofs.Sound.{outputs-few}
+use Rattle.defuzzification.proofs.Answers.{answerAt, answers-are, padded-is, held-is}
+use Rattle.words.proofs.Places.{fill-front}
 use Rattle.defuzzification.proofs.outputs.Statement.{statement}
 use Rattle.defuzzification.proofs.outputs.Tie as tie
 use Rattle.defuzzification.proofs.outputs.Reads as reads

@@ -1,4 +1,4 @@
--- What an accepted image says of one output: where its terms stand, how many they are, and that their positions are crisp.
+-- What an accepted image says of its outputs: where their terms stand, how many they are, and that their positions are crisp.
 use mathlib.Core.Path.{_≡_, refl, sym, ap, _∙_, subst}
 use mathlib.Core.List.{List, [], _∷_}
 use mathlib.Core.Bool.{Bool, true, false, _&&_}
@@ -16,11 +16,10 @@ use Rattle.model.specs.Tokens.{isName, inCrisp}
 use Rattle.model.specs.WellFormed.{outputOk, singletonOk}
 use Rattle.model.specs.Image.{tab, singletonAt, outputAt, decode}
 use Rattle.words.proofs.Places.{both, passed, length-tab}
-use Rattle.crisp.specs.Crisp.{InCrisp}
 use Rattle.layout.specs.Tables.{sums, outputCount, inputTermsIn, outputTermsIn, outputRow, outputNext, outputRows}
 use Rattle.layout.specs.Groups.{frameOk, variablesOk, Sound}
 use Rattle.layout.proofs.TableLaws.{Runs, runs-from}
 use Rattle.layout.proofs.Parts.{outputFirst, output-row}
 
 -- one element of a walk
 pub all-at : {A : Type 0} (g : A → Bool) (f : ℕ → A) (n s i : ℕ) → i < n → all g (tab f n s) ≡ true → g (f (s + i)) ≡ true
@@ -74,7 +73,7 @@ module _ (w : ℕ → ℕ) (s : Sound w) where
   pub before-few : (i : ℕ) → i < w 3 → sums (outputCount w) i 0 ≤ i * 7
   before-few i h = sums-le (outputCount w) 7 i 0 (λ j l. terms-few j (omega arith))
 
-  pub positions-crisp : (i : ℕ) → i < w 3 → (k : ℕ) → k < outputCount w i → InCrisp (singletonAt w (outputFirst w i + k) .at)
+  pub positions-crisp : (i : ℕ) → i < w 3 → (k : ℕ) → k < outputCount w i → natAbs (singletonAt w (outputFirst w i + k) .at) ≤ crispLimit
   unfolding outputOk outputAt singletonOk
   positions-crisp i h k l =
       let g = outputAt w i .range in

@@ -1,0 +1,98 @@
+use borrow.Author.Needs.{needs}
+use mathlib.Core.Path.{_≡_, refl, sym, ap, _∙_}
+use mathlib.Core.List.{List, [], _∷_, _++_}
+use Prim.Native.Nat.{ℕ, _+_, _-_, _≤_, _<_}
+use native.Mathlib.Omega.{arith}
+use lib.IntN.{ℤ, pos}
+use lib.ListN.{set, replicate}
+use Rattle.model.specs.Image.{wordAt, tab, outputAt, decode}
+use Rattle.model.specs.Evaluation.{startOf, heldOf, freshOf}
+use Rattle.model.specs.declared.Crisp.{Crisp}
+use Rattle.words.proofs.Places.{fill-front}
+use Rattle.layout.proofs.TableLaws.{map-tab}
+use Rattle.layout.proofs.Sound.{outputs-few}
+use Rattle.held.proofs.Laws.{held-tab}
+use Rattle.held.proofs.fresh_record.Statement.{statement}
+use Rattle.held.proofs.fresh_record.Tie as tie
+use Rattle.held.proofs.fresh_record.Reads as reads
+use Rattle.held.proofs.fresh_record.Lts as lts
+use Rattle.held.proofs.start_of.Reads as start-of-reads
+use Rattle.words.proofs.word.Reads as word-reads
+
+abbrev Inv-loop : tie.InvT-loop
+Inv-loop img figures₀ n i₀ figures i =
+    (i ≤ n) × (n ≤ 6) × (figures ≡ tab (λ j. record { 0 = startOf (outputAt (wordAt img) j .range) }) i 0 ++ replicate (6 - i) (record { 0 = pos 0 }))
+
+abbrev μ-loop : tie.MeasureT-loop
+μ-loop img figures₀ n i₀ figures i = n - i
+
+-- src/lib.rt:127:9
+word-requires : tie.Need-word-requires Inv-loop μ-loop
+word-requires c κs = search needs
+
+-- src/lib.rt:129:5
+loop-holds : tie.Need-loop-holds Inv-loop μ-loop
+unfolding tab
+loop-holds c = (search needs, omega (arith, outputs-few (wordAt (c .before .before .args .img .now)) (c .before .before .pre), c .word .ensures .0), refl)
+
+-- src/lib.rt:130:13
+start-of-requires : tie.Need-start-of-requires Inv-loop μ-loop
+start-of-requires c κs = search needs
+
+-- src/lib.rt:131:9
+mul-figures : tie.Need-mul-figures Inv-loop μ-loop
+mul-figures c = search needs
+
+-- src/lib.rt:131:9
+array-set-from-figures : tie.Need-array-set-from-figures Inv-loop μ-loop
+array-set-from-figures c = search needs
+
+-- src/lib.rt:132:9
+add-i : tie.Need-add-i Inv-loop μ-loop
+add-i c = search needs
+
+-- src/lib.rt:129:5
+loop-less : tie.Need-loop-less Inv-loop μ-loop
+loop-less c = search needs
+
+-- src/lib.rt:129:5
+loop-again : tie.Need-loop-again Inv-loop μ-loop
+loop-again c =
+    let l = c .before .before in
+    let t = l .before .before .before in
+    let i = l .loop .i in
+    let h : i < 6 = omega (arith, l .loop .inv .1) in (
+      search needs,
+      l .loop .inv .1,
+      ap (λ (x : List Crisp). set x i (c .start-of .result)) (l .loop .inv .2)
+          ∙ fill-front (λ j. record { 0 = startOf (outputAt (wordAt (t .args .img .now)) j .range) }) (record { 0 = pos 0 }) (c .start-of .result) 6 i h (ap (λ (z : ℤ). record { 0 = z }) (c .start-of .ensures)),
+    )
+
+-- src/lib.rt:122:1
+returns : tie.Need-returns Inv-loop μ-loop
+unfolding freshOf decode
+returns c =
+    let l = c .before in
+    let t = l .before .before .before in
+    let w = wordAt (t .args .img .now) in
+    let f : ℕ → ℤ = λ j. startOf (outputAt w j .range) in
+    let e : l .loop .i ≡ w 3 = omega (arith, l .before .word .ensures .0) in
+    ap (λ (x : List Crisp). record { figures = x })
+    (l .loop .inv .2 ∙ ap (λ (n : ℕ). tab (λ j. record { 0 = f j }) n 0 ++ replicate (6 - n) (record { 0 = pos 0 })) e ∙ held-tab f (w 3))
+    ∙ ap heldOf (sym (map-tab (λ v. startOf (v .range)) (outputAt w) (w 3) 0))
+
+pub fresh-record-spec : {M : Type 1} → statement M
+fresh-record-spec =
+    tie.close
+    (tie.spec
+    Inv-loop
+    μ-loop
+    word-requires
+    loop-holds
+    start-of-requires
+    mul-figures
+    array-set-from-figures
+    add-i
+    loop-less
+    loop-again
+    returns)
