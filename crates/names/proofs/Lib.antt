@@ -2,3 +2,4 @@ pub mod Fours
 pub mod Spelling
 pub mod Stored
 pub mod Tables
+pub mod Blocks

@@ -2,22 +2,22 @@
 use mathlib.Core.Path.{_≡_, refl, sym, ap, _∙_, subst}
 use mathlib.Core.List.{List, [], _∷_, _++_}
 use mathlib.Core.Bool.{Bool, true, false, _&&_, not}
-use Prim.Native.Nat.{ℕ, zero, suc, _+_, _*_, _≤_, _<_, compare·suc-suc}
+use Prim.Native.Nat.{ℕ, zero, suc, _+_, _*_, _≤_, compare·suc-suc}
 use native.Mathlib.Omega.{arith}
-use borrow.Author.Tests.{leb-true, leb-false, le-leb, lt-ltb, ltb-true}
-use lib.Dec.{leb, ltb, eqb}
-use lib.ListN.{length, take, getD, List·getD-eq-default}
-use Rattle.model.specs.Basic.{if_then_else_, between, all, run, gather, indexOf, same}
+use borrow.Author.Tests.{leb-false, le-leb, lt-ltb}
+use lib.Dec.{leb, ltb}
+use lib.ListN.{length, getD, List·getD-eq-default}
+use Rattle.model.specs.Basic.{if_then_else_, all, run, gather, indexOf, same}
 use Rattle.model.specs.Bounds.{nameLimit}
 use Rattle.model.specs.Keywords.{keywords, keywordAt, isKeyword}
 use Rattle.model.specs.Tokens.{startsName, isNameByte, starts, tidy, isName, sameName}
 use Rattle.model.specs.Image.{wordAt, bytesOf, nameWords, tab, nameAt}
 use Rattle.words.proofs.Places.{both, same-eq, same-refl}
 use Rattle.words.proofs.Bytes.{words-at, length-bytes}
-use Rattle.names.specs.Steps.{step, steps, spelt}
+use Rattle.names.specs.Steps.{steps, spelt}
 use Rattle.names.specs.Stored.{nameStored, absent, keywordWords}
 use Rattle.names.proofs.Fours.{and-true, four}
-use Rattle.names.proofs.Spelling.{before, padded, walk, spelling, before-le, before-short, padded-in, padded-out}
+use Rattle.names.proofs.Spelling.{before, padded, spelling, before-le, before-short, padded-in, padded-out}
 
 -- two tests are equal where each passes when the other does
 iff : (a b : Bool) → (a ≡ true → b ≡ true) → (b ≡ true → a ≡ true) → a ≡ b

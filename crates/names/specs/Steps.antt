@@ -1,6 +1,5 @@
 -- A name read byte by byte: 0 at its start, 1 after an underscore, 2 after a letter or digit, 3 in the padding, 4 refused.
 use mathlib.Core.Bool.{Bool}
-use mathlib.Core.List.{List, [], _∷_}
 use Prim.Native.Nat.{ℕ, _/_, _%_}
 use lib.Dec.{leb, eqb}
 use Rattle.model.specs.Basic.{if_then_else_, between}

@@ -1,5 +1,5 @@
 -- A stored name: four words, zero padded, that stand for a name. Tables of entries that begin with one.
-use mathlib.Core.Bool.{Bool, true, false, _&&_, not}
+use mathlib.Core.Bool.{Bool, _&&_, not}
 use mathlib.Core.List.{List, [], _∷_}
 use Prim.Native.Nat.{ℕ, _+_, _*_}
 use lib.Dec.{leb}
@@ -29,6 +29,6 @@ apart eq xs ys = all (λ x. absent eq x ys) xs
 unfoldable pub keywordWords : List (List ℕ)
 keywordWords = gather (λ k. if leb (length k) nameLimit then nameWords k ∷ [] else []) keywords
 
--- the i-th four numbers of a list
-abbrev pub fourOf : List ℕ → ℕ → List ℕ
-fourOf t i = tab (λ k. getD t k 0) 4 (i * 4)
+-- the four words of row i
+abbrev pub rowOf : List (List ℕ) → ℕ → List ℕ
+rowOf t i = tab (λ j. getD (getD t i []) j 0) 4 0

@@ -1,183 +1,56 @@
 // Names in a stored image: whether one stands at a place, whether two are the same, whether those of tables are distinct.
 ghost use mathlib.Core.Path.{_≡_};
-ghost use Prim.Native.Nat.{_+_, _*_, _-_, _≤_};
-ghost use lib.ListN.{getD};
+ghost use Prim.Native.Nat.{_+_, _*_, _-_, _≤_, _<_};
 ghost use mathlib.Core.List.{[], _∷_};
 ghost use Rattle.model.specs.Basic.{between, distinct, same};
 ghost use Rattle.model.specs.Image.{wordAt, tab};
 ghost use Rattle.names.specs.Steps.{step, steps, spelt};
-ghost use Rattle.names.specs.Stored.{nameStored, wordsIn, absent, apart, keywordWords, fourOf};
+ghost use Rattle.names.specs.Stored.{nameStored, wordsIn, absent, apart, keywordWords, rowOf};
 
 // The words of each keyword of at most 16 bytes.
-const KEYWORDS: [usize; 168] = [
-    1430471489,
-    0,
-    0,
-    0,
-    5522241,
-    0,
-    0,
-    0,
-    4476481,
-    0,
-    0,
-    0,
-    1297437505,
-    0,
-    0,
-    0,
-    1179206722,
-    0,
-    0,
-    0,
-    1297437506,
-    0,
-    0,
-    0,
-    4288323,
-    0,
-    0,
-    0,
-    4681539,
-    0,
-    0,
-    0,
-    1397190467,
-    0,
-    0,
-    0,
-    1095124292,
-    5524565,
-    0,
-    0,
-    1430668612,
-    1179212378,
-    89,
-    0,
-    1598312005,
-    1430668612,
-    1179212378,
-    89,
-    1598312005,
-    1515869510,
-    5850697,
-    0,
-    1598312005,
-    1230262351,
-    5459535,
-    0,
-    1598312005,
-    1162630482,
-    1129270338,
-    75,
-    1598312005,
-    5390678,
-    0,
-    0,
-    1129207110,
-    1313818964,
-    1330397791,
-    19267,
-    1515869510,
-    5850697,
-    0,
-    0,
-    17993,
-    0,
-    0,
-    0,
-    21321,
-    0,
-    0,
-    0,
-    19788,
-    0,
-    0,
-    0,
-    5783885,
-    0,
-    0,
-    0,
-    1213482317,
-    17487,
-    0,
-    0,
-    5130573,
-    0,
-    0,
-    0,
-    17230,
-    0,
-    0,
-    0,
-    5525326,
-    0,
-    0,
-    0,
-    1297437518,
-    0,
-    0,
-    0,
-    1230262351,
-    5459535,
-    0,
-    0,
-    21071,
-    0,
-    0,
-    0,
-    1146049104,
-    0,
-    0,
-    0,
-    1196310866,
-    69,
-    0,
-    0,
-    19794,
-    0,
-    0,
-    0,
-    1162630482,
-    0,
-    0,
-    0,
-    1162630482,
-    1129270338,
-    75,
-    0,
-    1297237332,
-    0,
-    0,
-    0,
-    1313163348,
-    0,
-    0,
-    0,
-    5390678,
-    0,
-    0,
-    0,
-    1599226198,
-    1431326281,
-    84,
-    0,
-    1599226198,
-    1347704143,
-    21589,
-    0,
-    1213483351,
-    0,
-    0,
-    0,
-    1279346002,
-    0,
-    0,
-    0,
-    5525065,
-    0,
-    0,
-    0,
+const KEYWORDS: [[usize; 4]; 42] = [
+    [1430471489, 0, 0, 0],
+    [5522241, 0, 0, 0],
+    [4476481, 0, 0, 0],
+    [1297437505, 0, 0, 0],
+    [1179206722, 0, 0, 0],
+    [1297437506, 0, 0, 0],
+    [4288323, 0, 0, 0],
+    [4681539, 0, 0, 0],
+    [1397190467, 0, 0, 0],
+    [1095124292, 5524565, 0, 0],
+    [1430668612, 1179212378, 89, 0],
+    [1598312005, 1430668612, 1179212378, 89],
+    [1598312005, 1515869510, 5850697, 0],
+    [1598312005, 1230262351, 5459535, 0],
+    [1598312005, 1162630482, 1129270338, 75],
+    [1598312005, 5390678, 0, 0],
+    [1129207110, 1313818964, 1330397791, 19267],
+    [1515869510, 5850697, 0, 0],
+    [17993, 0, 0, 0],
+    [21321, 0, 0, 0],
+    [19788, 0, 0, 0],
+    [5783885, 0, 0, 0],
+    [1213482317, 17487, 0, 0],
+    [5130573, 0, 0, 0],
+    [17230, 0, 0, 0],
+    [5525326, 0, 0, 0],
+    [1297437518, 0, 0, 0],
+    [1230262351, 5459535, 0, 0],
+    [21071, 0, 0, 0],
+    [1146049104, 0, 0, 0],
+    [1196310866, 69, 0, 0],
+    [19794, 0, 0, 0],
+    [1162630482, 0, 0, 0],
+    [1162630482, 1129270338, 75, 0],
+    [1297237332, 0, 0, 0],
+    [1313163348, 0, 0, 0],
+    [5390678, 0, 0, 0],
+    [1599226198, 1431326281, 84, 0],
+    [1599226198, 1347704143, 21589, 0],
+    [1213483351, 0, 0, 0],
+    [1279346002, 0, 0, 0],
+    [5525065, 0, 0, 0],
 ];
 
 fn within(a: usize, b: usize, c: usize) -> bool
@@ -244,29 +117,29 @@ fn spelt_ok(a: usize, b: usize, c: usize, d: usize) -> bool
     within(2, 3, m)
 }
 
-// The four words from place k on of the table are a, b, c, d.
-fn same_at(t: &[usize; 168], k: usize, a: usize, b: usize, c: usize, d: usize) -> bool
-    requires { ⌜ k ≤ 164 ⌝ }
-    ensures { λ r. ⌜ r ≡ same (a ∷ b ∷ c ∷ d ∷ []) (tab (λ j. getD (now (t .entry)) j 0) 4 k) ⌝ }
+// Row i of the table is a, b, c, d.
+fn same_at(t: &[[usize; 4]; 42], i: usize, a: usize, b: usize, c: usize, d: usize) -> bool
+    requires { ⌜ i < 42 ⌝ }
+    ensures { λ r. ⌜ r ≡ same (a ∷ b ∷ c ∷ d ∷ []) (rowOf (now (t .entry)) i) ⌝ }
 {
-    if a != t[k] {
+    if a != t[i][0] {
         return false;
     }
-    if b != t[k + 1] {
+    if b != t[i][1] {
         return false;
     }
-    if c != t[k + 2] {
+    if c != t[i][2] {
         return false;
     }
-    d == t[k + 3]
+    d == t[i][3]
 }
 
-fn absent_in(t: &[usize; 168], a: usize, b: usize, c: usize, d: usize) -> bool
-    ensures { λ r. ⌜ r ≡ absent same (a ∷ b ∷ c ∷ d ∷ []) (tab (fourOf (now (t .entry))) 42 0) ⌝ }
+fn absent_in(t: &[[usize; 4]; 42], a: usize, b: usize, c: usize, d: usize) -> bool
+    ensures { λ r. ⌜ r ≡ absent same (a ∷ b ∷ c ∷ d ∷ []) (tab (rowOf (now (t .entry))) 42 0) ⌝ }
 {
     let mut i: usize = 0;
     while i < 42 {
-        if same_at(t, i * 4, a, b, c, d) {
+        if same_at(t, i, a, b, c, d) {
             return false;
         }
         i += 1;

@@ -3,7 +3,7 @@ use Rattle.names.proofs.Tables.{entry}
 use Rattle.model.specs.Image.{wordAt, tab}
 use Rattle.names.specs.Stored.{absent, wordsIn}
 use Rattle.model.specs.Basic.{same}
-use Prim.Native.Nat.{_*_, _-_, _+_, _≤_}
+use Prim.Native.Nat.{_-_, _≤_}
 use mathlib.Core.Bool.{not}
 use mathlib.Core.Path.{_≡_, refl, sym, ap, _∙_}
 use native.Mathlib.Omega.{arith}

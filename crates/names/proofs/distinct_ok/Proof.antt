@@ -2,9 +2,9 @@ use borrow.Author.Needs.{needs}
 use Rattle.names.proofs.Tables.{entry, distinct-more, distinct-stop, distinct-end}
 use Rattle.model.specs.Basic.{distinct, same}
 use Rattle.model.specs.Image.{wordAt, tab}
-use Rattle.names.specs.Stored.{absent, apart, wordsIn}
-use Prim.Native.Nat.{_*_, _-_, _+_, _≤_}
-use mathlib.Core.Path.{_≡_, refl, sym, ap, _∙_}
+use Rattle.names.specs.Stored.{wordsIn}
+use Prim.Native.Nat.{_-_, _≤_}
+use mathlib.Core.Path.{_≡_, sym, _∙_}
 use native.Mathlib.Omega.{arith}
 use native.Mathlib.Nat.{sub-zero}
 use borrow.Author.Tests.{not-true, not-false}

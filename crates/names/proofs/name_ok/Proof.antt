@@ -1,5 +1,5 @@
 use Rattle.names.proofs.Stored.{stored}
-use Rattle.model.specs.Image.{wordAt, tab}
+use Rattle.model.specs.Image.{wordAt}
 use borrow.Author.Tests.{not-true, not-false}
 use mathlib.Core.Path.{sym, _∙_}
 use borrow.Author.Needs.{needs}

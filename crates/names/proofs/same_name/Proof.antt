@@ -1,4 +1,4 @@
-use Rattle.model.specs.Image.{wordAt, tab}
+use Rattle.model.specs.Image.{wordAt}
 use mathlib.Core.Path.{sym, _∙_}
 use Rattle.names.proofs.Fours.{differs-1, differs-2, differs-3, only-last}
 use borrow.Author.Needs.{needs}
