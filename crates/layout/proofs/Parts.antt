@@ -39,7 +39,7 @@ module _ (w : ℕ → ℕ) where
   abbrev inputFirst : ℕ → ℕ
   inputFirst i = w (w 9 + i * 7 + 5)
 
-  abbrev outputFirst : ℕ → ℕ
+  abbrev pub outputFirst : ℕ → ℕ
   outputFirst i = w (w 10 + i * 11 + 4)
 
   abbrev termFirst : ℕ → ℕ
@@ -48,7 +48,7 @@ module _ (w : ℕ → ℕ) where
   abbrev pub wordFirst : ℕ → ℕ
   wordFirst i = w (w 13 + i * 6 + 1)
 
-  abbrev conclusionFirst : ℕ → ℕ
+  abbrev pub conclusionFirst : ℕ → ℕ
   conclusionFirst i = w (w 13 + i * 6 + 3)
 
   -- a word further on in a row
@@ -65,7 +65,7 @@ module _ (w : ℕ → ℕ) where
         ap (λ (x : ℕ). n + x) (length-tab (termAt w) (w (o + 6)) (w (o + 5))),
       )
 
-  output-row : (i n : ℕ) → same (tab w 11 (w 10 + i * 11)) (outputRow n (outputAt w i)) ≡ true
+  pub output-row : (i n : ℕ) → same (tab w 11 (w 10 + i * 11)) (outputRow n (outputAt w i)) ≡ true
       → (outputFirst i ≡ n) × (outputNext n (outputAt w i) ≡ n + outputCount w i)
   unfolding nameWords outputAt
   output-row i n h =
@@ -102,7 +102,7 @@ module _ (w : ℕ → ℕ) where
         ap (λ (x : ℕ). σ .0 + x) (sym (on o 2 (suc (suc o)) (omega arith) ∙ a .1 .1 .0)),
       )
 
-  rule-conclusions-row : (i : ℕ) (σ : ℕ × ℕ) → same (tab w 6 (w 13 + i * 6)) (ruleRow σ (ruleAt w i)) ≡ true
+  pub rule-conclusions-row : (i : ℕ) (σ : ℕ × ℕ) → same (tab w 6 (w 13 + i * 6)) (ruleRow σ (ruleAt w i)) ≡ true
       → (conclusionFirst i ≡ σ .1) × (ruleNext σ (ruleAt w i) .1 ≡ σ .1 + conclusionCount w i)
   unfolding ruleAt
   rule-conclusions-row i σ h =
