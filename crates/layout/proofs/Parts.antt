@@ -48,7 +48,7 @@ module _ (w : ℕ → ℕ) where
   abbrev pub wordFirst : ℕ → ℕ
   wordFirst i = w (w 13 + i * 6 + 1)
 
-  abbrev conclusionFirst : ℕ → ℕ
+  abbrev pub conclusionFirst : ℕ → ℕ
   conclusionFirst i = w (w 13 + i * 6 + 3)
 
   -- a word further on in a row
@@ -102,7 +102,7 @@ module _ (w : ℕ → ℕ) where
         ap (λ (x : ℕ). σ .0 + x) (sym (on o 2 (suc (suc o)) (omega arith) ∙ a .1 .1 .0)),
       )
 
-  rule-conclusions-row : (i : ℕ) (σ : ℕ × ℕ) → same (tab w 6 (w 13 + i * 6)) (ruleRow σ (ruleAt w i)) ≡ true
+  pub rule-conclusions-row : (i : ℕ) (σ : ℕ × ℕ) → same (tab w 6 (w 13 + i * 6)) (ruleRow σ (ruleAt w i)) ≡ true
       → (conclusionFirst i ≡ σ .1) × (ruleNext σ (ruleAt w i) .1 ≡ σ .1 + conclusionCount w i)
   unfolding ruleAt
   rule-conclusions-row i σ h =

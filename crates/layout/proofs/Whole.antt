@@ -196,11 +196,11 @@ module _ (w : ℕ → ℕ) where
   unfolding decode
   inputs-count = length-tab (inputAt w) (w 2) 0
 
-  outputs-count : length (decode w .outputs) ≡ w 3
+  pub outputs-count : length (decode w .outputs) ≡ w 3
   unfolding decode
   outputs-count = length-tab (outputAt w) (w 3) 0
 
-  rules-count : length (decode w .rules) ≡ w 6
+  pub rules-count : length (decode w .rules) ≡ w 6
   unfolding decode
   rules-count = length-tab (ruleAt w) (w 6) 0
 
@@ -214,10 +214,10 @@ module _ (w : ℕ → ℕ) where
       ap length (points-are w h g k l) ∙ length-append (tab (pointAt w) (inputPointsIn w) 0) (tab (outputPointAt w) (outputTermsIn w) (inputPointsIn w))
       ∙ (λ j. length-tab (pointAt w) (inputPointsIn w) 0 j + length-tab (outputPointAt w) (outputTermsIn w) (inputPointsIn w) j)
 
-  words-count : ruleRows w ≡ true → conditionRows w ≡ true → total (λ r. size (r .condition)) (decode w .rules) ≡ wordsIn w
+  pub words-count : ruleRows w ≡ true → conditionRows w ≡ true → total (λ r. size (r .condition)) (decode w .rules) ≡ wordsIn w
   words-count h g = sym (length-conditions (decode w .rules)) ∙ ap length (conditions-are w h g) ∙ length-tab (λ m. w (w 14 + m)) (wordsIn w) 0
 
-  conclusions-count : ruleRows w ≡ true → length (conclusions (decode w)) ≡ conclusionsIn w
+  pub conclusions-count : ruleRows w ≡ true → length (conclusions (decode w)) ≡ conclusionsIn w
   conclusions-count h = ap length (conclusions-are w h) ∙ length-tab (conclusionAt w) (conclusionsIn w) 0
 
   -- FROM THE TESTS TO THE WORDS
