@@ -112,11 +112,14 @@ module _ (w : ℕ → ℕ) where
         ap (λ (x : ℕ). σ .1 + x) (length-tab (conclusionAt w) (w (o + 4)) (w (o + 3))),
       )
 
+  pub inputFirsts-run : inputRows w ≡ true → Runs inputFirst (inputCount w) (w 2) 0 0
+  unfolding inputRows
+  inputFirsts-run h = runs-from inputRow inputNext (inputAt w) w (w 9) 7 (λ n. n) inputFirst (inputCount w) (λ i n e. input-row i n e) (w 2) 0 0 h
+
   pub inputTerms-are : inputRows w ≡ true → inputTerms (decode w) ≡ tab (termAt w) (inputTermsIn w) 0
-  unfolding inputRows decode inputAt
+  unfolding decode inputAt
   inputTerms-are h =
-      gather-runs (λ v. v .terms) (inputAt w) (termAt w) inputFirst (inputCount w) (w 2) 0 0 (each _ (λ j. refl) (w 2) 0)
-      (runs-from inputRow inputNext (inputAt w) w (w 9) 7 (λ n. n) inputFirst (inputCount w) (λ i n e. input-row i n e) (w 2) 0 0 h)
+      gather-runs (λ v. v .terms) (inputAt w) (termAt w) inputFirst (inputCount w) (w 2) 0 0 (each _ (λ j. refl) (w 2) 0) (inputFirsts-run h)
 
   pub outputTerms-are : outputRows w ≡ true → outputTerms (decode w) ≡ tab (singletonAt w) (outputTermsIn w) (inputTermsIn w)
   unfolding outputRows decode outputAt

@@ -1,0 +1,133 @@
+-- What an accepted image says of its inputs, and of a term's points.
+use mathlib.Core.Path.{_≡_, refl, sym, ap, _∙_, subst}
+use mathlib.Core.Bool.{Bool, true, _&&_}
+use mathlib.Core.List.{List, [], _∷_, _++_, map}
+use Prim.Native.Nat.{ℕ, zero, suc, _+_, _*_, _%_, _≤_, _<_}
+use native.Mathlib.Omega.{arith}
+use borrow.Author.Tests.{leb-true}
+use lib.Dec.{leb, eqb}
+use lib.IntN.{natAbs}
+use lib.ListN.{length, take}
+use lib.Seq.{take-at}
+use Rattle.model.specs.Basic.{all}
+use Rattle.model.specs.Bounds.{M, crispLimit}
+use Rattle.model.specs.Block.{Point as BlockPoint}
+use Rattle.model.specs.WellFormed.{unitOk, pointOk, termOk, inputOk}
+use Rattle.model.specs.Image.{tab, pointAt, termAt, inputAt, decode}
+use Rattle.terms.specs.declared.Point.{Point}
+use Rattle.terms.specs.Points.{PointOk, pointView, noPoint, pointViews, pointAt as point}
+use Rattle.words.proofs.Places.{both, passed, length-tab}
+use Rattle.layout.specs.Tables.{sums, inputCount, termCount, inputRows}
+use Rattle.layout.specs.Groups.{Sound, frameOk, variablesOk}
+use Rattle.layout.proofs.TableLaws.{Runs}
+use Rattle.layout.proofs.Parts.{inputFirst, inputFirsts-run}
+use Rattle.fuzzification.specs.Filled.{filled}
+use Rattle.fuzzification.proofs.Fill.{map-take}
+
+pub all-at : {A : Type 0} (g : A → Bool) (f : ℕ → A) (n s i : ℕ) → i < n → all g (tab f n s) ≡ true → g (f (s + i)) ≡ true
+unfolding all tab
+all-at g f zero s i h e = absurd (omega arith)
+all-at g f (suc n) s zero h e = let q : s + 0 ≡ s = omega arith in rw q (both (g (f s)) (all g (tab f n (suc s))) e .0)
+all-at g f (suc n) s (suc i) h e =
+    let q : s + suc i ≡ suc s + i = omega arith in
+    rw q (all-at g f n (suc s) i (omega arith) (both (g (f s)) (all g (tab f n (suc s))) e .1))
+
+runs-at : (f c : ℕ → ℕ) (k s p i : ℕ) → i < k → Runs f c k s p → f (s + i) ≡ p + sums c i s
+unfolding Runs sums
+runs-at f c zero s p i h r = absurd (omega arith)
+runs-at f c (suc k) s p zero h r =
+    let q : s + 0 ≡ s = omega arith in
+    let e : p ≡ p + 0 = omega arith in
+    rw q (r .0 ∙ e)
+runs-at f c (suc k) s p (suc i) h r =
+    let q : s + suc i ≡ suc s + i = omega arith in
+    let e : p + c s + sums c i (suc s) ≡ p + (c s + sums c i (suc s)) = omega arith in
+    rw q (runs-at f c k (suc s) (p + c s) i (omega arith) (r .1) ∙ e)
+
+pub sums-more : (c : ℕ → ℕ) (k s : ℕ) → sums c (k + 1) s ≡ sums c k s + c (s + k)
+unfolding sums
+sums-more c zero s = let q : s + 0 ≡ s = omega arith in rw q (omega arith)
+sums-more c (suc k) s =
+    let e : suc k + 1 ≡ suc (k + 1) = omega arith in
+    let q : s + suc k ≡ suc s + k = omega arith in
+    rw (e, q) (omega (arith, sums-more c k (suc s)))
+
+module _ (w : ℕ → ℕ) where
+  pub input-limit : Sound w → w 2 ≤ 8
+  unfolding variablesOk decode
+  input-limit s =
+      let v = passed _ (s .variables) in
+      let n = length (tab (inputAt w) (w 2) 0) in
+      omega (arith, length-tab (inputAt w) (w 2) 0, leb-true n 8 (both (leb 1 n) (leb n 8) (v .1 .1 .0) .1))
+
+  input-ok : (i : ℕ) → Sound w → i < w 2 → inputOk (inputAt w i) ≡ true
+  unfolding variablesOk decode
+  input-ok i s h =
+      let v = passed _ (s .variables) in
+      let e : 0 + i ≡ i = omega arith in
+      subst (λ (k : ℕ). inputOk (inputAt w k) ≡ true) e (all-at inputOk (inputAt w) (w 2) 0 i h (v .1 .1 .1 .1 .0))
+
+  pub first-is : (i : ℕ) → Sound w → i < w 2 → inputFirst w i ≡ sums (inputCount w) i 0
+  unfolding frameOk
+  first-is i s h =
+      let v = passed _ (s .frame) in
+      let e : 0 + i ≡ i = omega arith in
+      let q : 0 + sums (inputCount w) i 0 ≡ sums (inputCount w) i 0 = omega arith in
+      ap (inputFirst w) (sym e) ∙ runs-at (inputFirst w) (inputCount w) (w 2) 0 0 i h (inputFirsts-run w (v .1 .0)) ∙ q
+
+  terms-few : (i : ℕ) → inputOk (inputAt w i) ≡ true → inputCount w i ≤ 7
+  unfolding inputOk inputAt
+  terms-few i h =
+      let n = length (tab (termAt w) (inputCount w i) (inputFirst w i)) in
+      omega (arith, length-tab (termAt w) (inputCount w i) (inputFirst w i), leb-true n 7 (both (leb 1 n) (leb n 7) (passed _ h .1 .0) .1))
+
+  terms-ok : (i : ℕ) → inputOk (inputAt w i) ≡ true → all termOk (tab (termAt w) (inputCount w i) (inputFirst w i)) ≡ true
+  unfolding inputOk inputAt
+  terms-ok i h = passed _ h .1 .1 .0
+
+  pub points-few : (t : ℕ) → termOk (termAt w t) ≡ true → (1 ≤ termCount w t) × (termCount w t ≤ 4)
+  unfolding termOk termAt
+  points-few t h =
+      let n = length (tab (pointAt w) (termCount w t) (w (w 11 + t * 6 + 4))) in
+      let e = length-tab (pointAt w) (termCount w t) (w (w 11 + t * 6 + 4)) in
+      let b = both (leb 2 n) (leb n 4) (passed _ h .1 .0) in
+      (omega (arith, e, leb-true 2 n (b .0)), omega (arith, e, leb-true n 4 (b .1)))
+
+  pub points-ok : (t : ℕ) → termOk (termAt w t) ≡ true → all pointOk (termAt w t .points) ≡ true
+  unfolding termOk
+  points-ok t h = passed _ h .1 .1 .0
+
+  -- the terms of input i, from its first on
+  pub accepted-terms : (i first count : ℕ) → Sound w → i < w 2 → first ≡ sums (inputCount w) i 0 → count ≡ inputCount w i
+      → (count ≤ 7) × (all termOk (tab (termAt w) count first) ≡ true)
+  accepted-terms i first count s h ef ec =
+      let k = input-ok i s h in
+      let e = ef ∙ sym (first-is i s h) in
+      (omega (arith, terms-few i k), (λ j. all termOk (tab (termAt w) (ec j) (e j))) ∙ terms-ok i k)
+
+-- THE POINTS OF A TERM in an array of 4
+views-are : (ps : List Point) (xs : List BlockPoint) (n : ℕ) → length xs ≡ n → map pointView ps ≡ filled 4 (pointView noPoint) xs → pointViews ps n ≡ xs
+views-are ps xs n e h = map-take pointView n ps ∙ ap (take n) h ∙ take-at xs _ n e
+
+-- as the words that were read say where they stand
+pub points-read : (w : ℕ → ℕ) (t o n first : ℕ) (ps : List Point) → o ≡ w 11 → n ≡ w (o + t * 6 + 5) → first ≡ w (o + t * 6 + 4)
+    → map pointView ps ≡ filled 4 (pointView noPoint) (tab (pointAt w) n first) → pointViews ps n ≡ termAt w t .points
+unfolding termAt
+points-read w t o n first ps eo en ef h =
+    let e5 = en ∙ ap (λ (k : ℕ). w (k + t * 6 + 5)) eo in
+    let e4 = ef ∙ ap (λ (k : ℕ). w (k + t * 6 + 4)) eo in
+    views-are ps (tab (pointAt w) n first) n (length-tab (pointAt w) n first) h ∙ (λ j. tab (pointAt w) (e5 j) (e4 j))
+
+fine : (p : Point) → pointOk (pointView p) ≡ true → PointOk p
+unfolding pointOk unitOk
+fine p h =
+    let d = p .degree .0 in
+    let b = both (leb (natAbs (p .at .0)) crispLimit) (leb d M && eqb (d % 1000) 0) h in
+    (leb-true _ _ (b .0), leb-true d M (both (leb d M) (eqb (d % 1000) 0) (b .1) .0))
+
+pub each-fine : (ps : List Point) (n : ℕ) → all pointOk (pointViews ps n) ≡ true → (k : ℕ) → k < n → PointOk (point ps k)
+unfolding all
+each-fine [] n h k l = (omega arith, omega arith)
+each-fine (p ∷ ps) zero h k l = absurd (omega arith)
+each-fine (p ∷ ps) (suc n) h zero l = fine p (both (pointOk (pointView p)) (all pointOk (pointViews ps n)) h .0)
+each-fine (p ∷ ps) (suc n) h (suc k) l = each-fine ps n (both (pointOk (pointView p)) (all pointOk (pointViews ps n)) h .1) k (omega arith)

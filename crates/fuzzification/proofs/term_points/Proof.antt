@@ -1,0 +1,95 @@
+use borrow.Author.Needs.{needs}
+use mathlib.Core.Path.{_≡_, refl, sym, ap, _∙_}
+use mathlib.Core.List.{List, map}
+use Prim.Native.Nat.{ℕ, _+_, _-_, _≤_}
+use native.Mathlib.Omega.{arith}
+use lib.ListN.{length, length-set, replicate}
+use lib.Seq.{sets}
+use Rattle.model.specs.Block.{Point}
+use Rattle.model.specs.Image.{wordAt, tab, pointAt}
+use Rattle.terms.specs.Points.{pointView, noPoint}
+use Rattle.words.proofs.Places.{length-tab}
+use Rattle.fuzzification.specs.Filled.{filled}
+use Rattle.fuzzification.proofs.Fill.{tab-more, one-more, filled-sets}
+use Rattle.fuzzification.proofs.term_points.Statement.{statement}
+use Rattle.fuzzification.proofs.term_points.Tie as tie
+use Rattle.fuzzification.proofs.term_points.Reads as reads
+use Rattle.fuzzification.proofs.term_points.Lts as lts
+use Rattle.fuzzification.proofs.point_at.Reads as point-at-reads
+
+abbrev Inv-loop : tie.InvT-loop
+Inv-loop img first n ps₀ k₀ ps k =
+    (k ≤ n) × (length ps ≡ 4) × (map pointView ps ≡ sets (replicate 4 (pointView noPoint)) 0 (tab (pointAt (wordAt img)) k first))
+
+abbrev μ-loop : tie.MeasureT-loop
+μ-loop img first n ps₀ k₀ ps k = n - k
+
+-- src/lib.rt:47:5
+loop-holds : tie.Need-loop-holds Inv-loop μ-loop
+unfolding tab
+loop-holds c = (search needs, refl, refl)
+
+-- src/lib.rt:48:31
+add-point-at : tie.Need-add-point-at Inv-loop μ-loop
+add-point-at c = search needs
+
+-- src/lib.rt:48:17
+point-at-requires : tie.Need-point-at-requires Inv-loop μ-loop
+point-at-requires c κs = search needs
+
+-- src/lib.rt:48:9
+mul-ps : tie.Need-mul-ps Inv-loop μ-loop
+mul-ps c = search needs
+
+-- src/lib.rt:48:9
+array-set-from-ps : tie.Need-array-set-from-ps Inv-loop μ-loop
+array-set-from-ps c = search needs
+
+-- src/lib.rt:49:9
+add-k : tie.Need-add-k Inv-loop μ-loop
+add-k c = search needs
+
+-- src/lib.rt:47:5
+loop-less : tie.Need-loop-less Inv-loop μ-loop
+loop-less c = search needs
+
+-- src/lib.rt:47:5
+loop-again : tie.Need-loop-again Inv-loop μ-loop
+loop-again c =
+    let l = c .before .before .loop in
+    let a = c .before .before .before .before .args in
+    let f = pointAt (wordAt (a .img .now)) in
+    let l₀ = replicate 4 (pointView noPoint) in
+    (
+      search needs,
+      length-set (l .ps) (l .k) (c .point-at .result) ∙ l .inv .1,
+      one-more pointView (l .ps) l₀ 0 (l .k) (tab f (l .k) (a .first)) (c .point-at .result) (f (a .first + l .k)) (l .inv .2) (omega (arith, length-tab f (l .k) (a .first))) (c .point-at .ensures)
+      ∙ ap (λ (xs : List Point). sets l₀ 0 xs) (sym (tab-more f (l .k) (a .first))),
+    )
+
+-- src/lib.rt:38:1
+returns : tie.Need-returns Inv-loop μ-loop
+returns c =
+    let l = c .before .loop in
+    let a = c .before .before .before .args in
+    let f = pointAt (wordAt (a .img .now)) in
+    let e : l .k ≡ a .n = omega arith in
+    l .inv .2
+    ∙ filled-sets 4 (pointView noPoint) (tab f (l .k) (a .first)) (omega (arith, length-tab f (l .k) (a .first)))
+    ∙ ap (λ (n : ℕ). filled 4 (pointView noPoint) (tab f n (a .first))) e
+
+pub term-points-spec : {M : Type 1} → statement M
+term-points-spec =
+    tie.close
+    (tie.spec
+    Inv-loop
+    μ-loop
+    loop-holds
+    add-point-at
+    point-at-requires
+    mul-ps
+    array-set-from-ps
+    add-k
+    loop-less
+    loop-again
+    returns)
