@@ -53,7 +53,7 @@ const KEYWORDS: [[usize; 4]; 42] = [
     [5525065, 0, 0, 0],
 ];
 
-fn within(a: usize, b: usize, c: usize) -> bool
+pub fn within(a: usize, b: usize, c: usize) -> bool
     ensures { λ r. ⌜ r ≡ between a b c ⌝ }
 {
     if c < a {

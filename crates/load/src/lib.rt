@@ -1,0 +1,58 @@
+// The load check: any bytes are accepted, or refused with 11.
+ghost use mathlib.Core.Path.{_≡_};
+ghost use mathlib.Core.Bool.{true};
+ghost use Prim.Native.Nat.{_≤_};
+ghost use Rattle.model.specs.Outcome.{verdictIn};
+ghost use Rattle.model.specs.Refusals.{verdictOf};
+ghost use Rattle.model.specs.Image.{wordAt, decode, isImageOf, loads};
+ghost use Rattle.layout.specs.Tables.{inputTermsIn};
+ghost use Rattle.layout.specs.Groups.{Sound};
+use model::Refusal;
+use model::Verdict;
+
+// Whether an image is accepted, and the number of its input terms, which evaluation needs.
+pub struct Checked {
+    pub ok: bool,
+    pub input_terms: usize,
+}
+
+pub fn examine(img: &[u8]) -> Checked
+    ensures { λ r. ⌜ r .ok ≡ isImageOf (now (img .entry)) (decode (wordAt (now (img .entry)))) ⌝ }
+    ensures sound { λ r. ⌜ (r .ok ≡ true → Sound (wordAt (now (img .entry))) × (r .input_terms ≡ inputTermsIn (wordAt (now (img .entry))))) ⌝ }
+{
+    let n = words::word(img, 1);
+    if img.len() != n * 4 {
+        return Checked {
+            ok: false,
+            input_terms: 0,
+        };
+    }
+    let f = frame::frame(img);
+    if !f.ok {
+        return Checked {
+            ok: false,
+            input_terms: 0,
+        };
+    }
+    if !variables::variables_ok(img) {
+        return Checked {
+            ok: false,
+            input_terms: 0,
+        };
+    }
+    let m = f.input_terms;
+    Checked {
+        ok: rules::rules_ok(img, m),
+        input_terms: m,
+    }
+}
+
+pub fn check(img: &[u8]) -> Verdict
+    ensures { λ r. ⌜ verdictOf r ≡ verdictIn (loads (now (img .entry))) ⌝ }
+{
+    let c = examine(img);
+    if c.ok {
+        return Verdict::Accepted;
+    }
+    Verdict::Refused(Refusal::ImageNotAccepted)
+}
