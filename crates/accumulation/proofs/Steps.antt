@@ -1,0 +1,125 @@
+-- Heights conclusion by conclusion and rule by rule: they end at the block's, and each step changes one entry of an array.
+use mathlib.Core.Path.{_≡_, refl, sym, ap, _∙_}
+use mathlib.Core.List.{List, [], _∷_, _++_}
+use mathlib.Core.Bool.{Bool, true, false}
+use Prim.Native.Nat.{ℕ, zero, suc, _+_, _-_, _≤_, _<_}
+use native.Mathlib.Omega.{arith}
+use borrow.Author.Tests.{eqb-true, eqb-false}
+use lib.Dec.{eqb}
+use lib.ListN.{length, getD, set, replicate, length-map}
+use lib.Seq.{getD-set-same, getD-set-other}
+use Rattle.model.specs.Basic.{if_then_else_, gather}
+use Rattle.model.specs.declared.Accumulation.{Accumulation}
+use Rattle.model.specs.Block.{Conclusion, Rule, Block}
+use Rattle.model.specs.Evaluation.{ruleDegree, accumulated, accumulateAll, subconclusions, height}
+use Rattle.model.specs.Image.{tab, decode, ruleAt}
+use Rattle.model.specs.declared.Degree.{Degree}
+use Rattle.model.specs.Bounds.{M}
+use Rattle.aggregation.specs.Stacks.{numbers, Low}
+use Rattle.aggregation.proofs.Degrees.{low-set, numbers-set, numbers-zeros, number-at}
+use Rattle.accumulation.specs.Heights.{afterConclusions, afterRules}
+
+-- THE BLOCK'S HEIGHT
+abbrev given : ℕ → ℕ → List Conclusion → List ℕ
+given t d ks = gather (λ k. if eqb (k .term) t then d ∷ [] else []) ks
+
+accumulate-append : (a : Accumulation) (h : ℕ) (xs ys : List ℕ) → accumulateAll a h (xs ++ ys) ≡ accumulateAll a (accumulateAll a h xs) ys
+unfolding accumulateAll
+accumulate-append a h [] ys = refl
+accumulate-append a h (x ∷ xs) ys = accumulate-append a (accumulated a h x) xs ys
+
+conclusions-give : (a : Accumulation) (d t : ℕ) (ks : List Conclusion) (h : ℕ) → accumulateAll a h (given t d ks) ≡ afterConclusions a d t ks h
+unfolding accumulateAll afterConclusions gather
+conclusions-give a d t [] h = refl
+conclusions-give a d t (k ∷ ks) h = go (eqb (k .term) t) ∙ conclusions-give a d t ks (if eqb (k .term) t then accumulated a h d else h)
+  where
+    go : (b : Bool) → accumulateAll a h ((if b then d ∷ [] else []) ++ given t d ks) ≡ accumulateAll a (if b then accumulated a h d else h) (given t d ks)
+    go true = refl
+    go false = refl
+
+module _ (b : Block) (ds : List ℕ) (t : ℕ) where
+  rules-give : (rs : List Rule) (h : ℕ) → accumulateAll (b .accu) h (gather (λ r. given t (ruleDegree b ds r) (r .conclusions)) rs) ≡ afterRules b ds t rs h
+  unfolding accumulateAll afterRules gather
+  rules-give [] h = refl
+  rules-give (r ∷ rs) h =
+      let g = given t (ruleDegree b ds r) (r .conclusions) in
+      let rest = gather (λ r. given t (ruleDegree b ds r) (r .conclusions)) rs in
+      accumulate-append (b .accu) h g rest
+      ∙ ap (λ (x : ℕ). accumulateAll (b .accu) x rest) (conclusions-give (b .accu) (ruleDegree b ds r) t (r .conclusions) h)
+      ∙ rules-give rs (afterConclusions (b .accu) (ruleDegree b ds r) t (r .conclusions) h)
+
+  height-is : height b ds t ≡ afterRules b ds t (b .rules) 0
+  unfolding height subconclusions
+  height-is = rules-give (b .rules) 0
+
+-- WHAT IS LEFT FROM j UP TO n
+module _ (a : Accumulation) (d : ℕ) (f : ℕ → Conclusion) (s n j : ℕ) (t h : ℕ) where
+  conclusions-turn : j < n → afterConclusions a d t (tab f (n - j) (s + j)) h ≡ afterConclusions a d t (tab f (n - (j + 1)) (s + (j + 1))) (if eqb (f (s + j) .term) t then accumulated a h d else h)
+  unfolding afterConclusions tab
+  conclusions-turn l =
+      let e : s + (j + 1) ≡ suc (s + j) = omega arith in
+      let q : n - j ≡ suc (n - (j + 1)) = omega arith in
+      rw (q, e) refl
+
+  pub conclusions-start : afterConclusions a d t (tab f (n - 0) (s + 0)) h ≡ afterConclusions a d t (tab f n s) h
+  conclusions-start =
+      let e : n - 0 ≡ n = omega arith in
+      let g : s + 0 ≡ s = omega arith in
+      rw (e, g) refl
+
+  pub conclusions-end : n ≤ j → afterConclusions a d t (tab f (n - j) (s + j)) h ≡ h
+  unfolding afterConclusions tab
+  conclusions-end l = let e : n - j ≡ 0 = omega arith in rw e refl
+
+module _ (b : Block) (ds : List ℕ) (f : ℕ → Rule) (n i : ℕ) (t h : ℕ) where
+  pub rule-turn : (d h′ : ℕ) → i < n → d ≡ ruleDegree b ds (f i) → h′ ≡ afterConclusions (b .accu) d t (f i .conclusions) h
+      → afterRules b ds t (tab f (n - (i + 1)) (i + 1)) h′ ≡ afterRules b ds t (tab f (n - i) i) h
+  unfolding afterRules tab
+  rule-turn d h′ l e q =
+      let k : i + 1 ≡ suc i = omega arith in
+      let g : n - i ≡ suc (n - (i + 1)) = omega arith in
+      rw (q, e, g, k) refl
+
+  pub rules-end : n ≤ i → afterRules b ds t (tab f (n - i) i) h ≡ h
+  unfolding afterRules tab
+  rules-end l = let e : n - i ≡ 0 = omega arith in rw e refl
+
+-- a conclusion changes only its own term's height
+one-changed : (a : Accumulation) (d : ℕ) (l : List ℕ) (m t p v : ℕ) → m ≤ t → t < m + length l → v ≡ accumulated a (getD l (t - m) 0) d
+    → getD (set l (t - m) v) p 0 ≡ (if eqb t (m + p) then accumulated a (getD l p 0) d else getD l p 0)
+one-changed a d l m t p v lo hi e = go (eqb t (m + p)) refl
+  where
+    go : (b : Bool) → eqb t (m + p) ≡ b → getD (set l (t - m) v) p 0 ≡ (if b then accumulated a (getD l p 0) d else getD l p 0)
+    go true q =
+        let s : t - m ≡ p = omega (arith, eqb-true t (m + p) q) in
+        let k : p < length l = omega (arith, eqb-true t (m + p) q) in
+        ap (λ (x : ℕ). getD (set l x v) p 0) s ∙ getD-set-same l p v 0 k ∙ e ∙ ap (λ (x : ℕ). accumulated a (getD l x 0) d) s
+    go false q = getD-set-other l (t - m) p v 0 (λ s. eqb-false t (m + p) q (omega arith))
+
+module _ (a : Accumulation) (d : ℕ) (f : ℕ → Conclusion) (s n j m : ℕ) (r : List Degree) (t : ℕ) (v : Degree) where
+  pub conclusion-turn : j < n → t ≡ f (s + j) .term → m ≤ t → t < m + length r → v .0 ≡ accumulated a (getD r (t - m) (record { 0 = 0 }) .0) d
+      → (p : ℕ) → afterConclusions a d (m + p) (tab f (n - (j + 1)) (s + (j + 1))) (getD (numbers (set r (t - m) v)) p 0) ≡ afterConclusions a d (m + p) (tab f (n - j) (s + j)) (getD (numbers r) p 0)
+  conclusion-turn l e lo hi q p =
+      let g = getD (numbers r) p 0 in
+      let e₁ : v .0 ≡ accumulated a (getD (numbers r) (t - m) 0) d = q ∙ ap (λ (x : ℕ). accumulated a x d) (number-at r (t - m)) in
+      let k : t < m + length (numbers r) = rw length-map hi in
+      let c : getD (numbers (set r (t - m) v)) p 0 ≡ (if eqb (f (s + j) .term) (m + p) then accumulated a g d else g) =
+      ap (λ (y : List ℕ). getD y p 0) (numbers-set r (t - m) v) ∙ one-changed a d (numbers r) m t p (v .0) lo k e₁ ∙ ap (λ (x : ℕ). if eqb x (m + p) then accumulated a g d else g) e in
+      ap (afterConclusions a d (m + p) (tab f (n - (j + 1)) (s + (j + 1)))) c ∙ sym (conclusions-turn a d f s n j (m + p) g l)
+
+pub low-turn : (r : List Degree) (n : ℕ) (v : Degree) → Low (numbers r) → v .0 ≤ M → Low (numbers (set r n v))
+low-turn r n v low h = rw (numbers-set r n v) (low-set (numbers r) n (v .0) low h)
+
+pub zeros : (n p : ℕ) → let z : Degree = record { 0 = 0 } in getD (numbers (replicate n z)) p 0 ≡ 0
+zeros n p = rw (numbers-zeros n) (go n p)
+  where
+    go : (n p : ℕ) → _≡_ {A = ℕ} (getD (replicate n 0) p 0) 0
+    go zero p = refl
+    go (suc n) zero = refl
+    go (suc n) (suc p) = go n p
+
+pub rules-start : (w : ℕ → ℕ) (ds : List ℕ) (n t h : ℕ) → n ≡ w 6 → h ≡ 0 → afterRules (decode w) ds t (tab (ruleAt w) (n - 0) 0) h ≡ height (decode w) ds t
+unfolding decode
+rules-start w ds n t h e z =
+    let q : n - 0 ≡ w 6 = omega (arith, e) in
+    rw (q, z) (sym (height-is (decode w) ds t))
