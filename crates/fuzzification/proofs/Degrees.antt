@@ -1,21 +1,25 @@
 -- The degrees of the terms of the first inputs, and of one input more.
 use mathlib.Core.Path.{_≡_, refl, sym, ap, _∙_}
 use mathlib.Core.List.{List, [], _∷_, _++_, map, append-assoc, append-nil, map-append}
-use Prim.Native.Nat.{ℕ, zero, suc, _+_, _≤_, _<_}
+use mathlib.Core.Option.{Option}
+use Prim.Native.Nat.{ℕ, zero, suc, _+_, _-_, _≤_, _<_}
 use native.Mathlib.Omega.{arith}
 use lib.IntN.{ℤ, pos}
-use lib.ListN.{length, length-append, length-map, getD}
-use lib.Seq.{sets}
+use lib.ListN.{length, length-append, length-map, take, getD, replicate}
+use lib.Seq.{sets, take-all}
 use Rattle.model.specs.Block.{Term, Input}
 use Rattle.model.specs.Degrees.{termDegree}
-use Rattle.model.specs.Evaluation.{termDegrees}
+use Rattle.model.specs.declared.Reading.{Reading}
+use Rattle.model.specs.Evaluation.{termDegrees, valuesOf, orZero}
 use Rattle.model.specs.Image.{tab, termAt, inputAt}
 use Rattle.words.proofs.Places.{length-tab}
 use Rattle.layout.specs.Tables.{sums, inputCount}
 use Rattle.layout.specs.Groups.{Sound}
 use Rattle.layout.proofs.Parts.{inputFirst}
+use Rattle.fuzzification.specs.Filled.{filled}
 use Rattle.fuzzification.proofs.Fill.{tab-more, sets-append}
 use Rattle.fuzzification.proofs.Entries.{first-is}
+use Rattle.fuzzification.proofs.Wrong.{length-values}
 
 abbrev pub degreesAt : ℤ → List Term → List ℕ
 degreesAt x ts = map (λ t. termDegree (t .points) x) ts
@@ -45,8 +49,7 @@ module _ (w : ℕ → ℕ) where
       length-append (degreesAt x (tab (termAt w) (inputCount w s) (inputFirst w s))) (termDegrees (tab (inputAt w) k (suc s)) xs)
       ∙ omega (arith, length-at x (termAt w) (inputCount w s) (inputFirst w s), length-degrees k (suc s) xs (omega arith))
 
-  -- the terms of input i, from p on
-  pub degrees-next : (i : ℕ) (xs : List ℤ) → Sound w → i < w 2 → i < length xs
+  degrees-next : (i : ℕ) (xs : List ℤ) → Sound w → i < w 2 → i < length xs
       → termDegrees (tab (inputAt w) (i + 1) 0) xs
       ≡ termDegrees (tab (inputAt w) i 0) xs ++ degreesAt (getD xs i (pos 0)) (tab (termAt w) (inputCount w i) (sums (inputCount w) i 0))
   unfolding inputAt
@@ -60,16 +63,33 @@ module _ (w : ℕ → ℕ) where
       ∙ ap (λ (j : ℕ). termDegrees us xs ++ degreesAt (getD xs j (pos 0)) (tab (termAt w) (inputCount w i) (inputFirst w i))) n
       ∙ ap (λ (f : ℕ). termDegrees us xs ++ degreesAt (getD xs i (pos 0)) (tab (termAt w) (inputCount w i) f)) (first-is w i s h)
 
-  -- one input more in an array
-  pub input-more : (i p : ℕ) (xs : List ℤ) (l₀ ds : List ℕ) → Sound w → i < w 2 → i < length xs → p ≡ sums (inputCount w) i 0
-      → ds ≡ sets l₀ 0 (termDegrees (tab (inputAt w) i 0) xs)
-      → sets ds p (degreesAt (getD xs i (pos 0)) (tab (termAt w) (inputCount w i) p)) ≡ sets l₀ 0 (termDegrees (tab (inputAt w) (i + 1) 0) xs)
-  input-more i p xs l₀ ds s h k e g =
+  -- one input more in an array, by the numbers that were read
+  pub input-more : (i p n : ℕ) (x : ℤ) (xs : List ℤ) (l₀ ds ds′ : List ℕ) → Sound w → i < w 2 → i < length xs
+      → p ≡ sums (inputCount w) i 0 → n ≡ inputCount w i → x ≡ getD xs i (pos 0)
+      → ds ≡ sets l₀ 0 (termDegrees (tab (inputAt w) i 0) xs) → ds′ ≡ sets ds p (degreesAt x (tab (termAt w) n p))
+      → ds′ ≡ sets l₀ 0 (termDegrees (tab (inputAt w) (i + 1) 0) xs)
+  input-more i p n x xs l₀ ds ds′ s h k ep en ex g g′ =
       let d = termDegrees (tab (inputAt w) i 0) xs in
-      let n = sums (inputCount w) i 0 in
-      let m = degreesAt (getD xs i (pos 0)) (tab (termAt w) (inputCount w i) n) in
-      let q : n ≡ 0 + length d = omega (arith, length-degrees i 0 xs (omega arith)) in
-      (λ j. sets (g j) (e j) (degreesAt (getD xs i (pos 0)) (tab (termAt w) (inputCount w i) (e j))))
+      let m = degreesAt (getD xs i (pos 0)) (tab (termAt w) (inputCount w i) (sums (inputCount w) i 0)) in
+      let q : sums (inputCount w) i 0 ≡ 0 + length d = omega (arith, length-degrees i 0 xs (omega arith)) in
+      g′
+      ∙ (λ j. sets (g j) (ep j) (degreesAt (ex j) (tab (termAt w) (en j) (ep j))))
       ∙ ap (λ (a : ℕ). sets (sets l₀ 0 d) a m) q
       ∙ sym (sets-append l₀ 0 d m)
       ∙ ap (λ (l : List ℕ). sets l₀ 0 l) (sym (degrees-next i xs s h k))
+
+-- values past the inputs have no effect
+past-inputs : (vs : List Input) (xs ys : List ℤ) → length vs ≤ length xs → termDegrees vs (xs ++ ys) ≡ termDegrees vs xs
+unfolding termDegrees
+past-inputs [] xs ys h = refl
+past-inputs (v ∷ vs) [] ys h = absurd (omega arith)
+past-inputs (v ∷ vs) (x ∷ xs) ys h = ap (λ (l : List ℕ). degreesAt x (v .terms) ++ l) (past-inputs vs xs ys (omega arith))
+
+-- where no reading is wrong, the degrees at the values in an array of n are those of the call
+pub degrees-of-call : (vs : List Input) (rs : List Reading) (n k : ℕ) (xs : List ℤ) → length vs ≤ k
+    → xs ≡ filled n (pos 0) (map orZero (take k (valuesOf vs rs))) → termDegrees vs xs ≡ termDegrees vs (map orZero (valuesOf vs rs))
+degrees-of-call vs rs n k xs h e =
+    let l = length-values vs rs in
+    let ys = map orZero (valuesOf vs rs) in
+    ap (termDegrees vs) (e ∙ ap (λ (us : List (Option ℤ)). filled n (pos 0) (map orZero us)) (take-all k (valuesOf vs rs) (omega (arith, l))))
+    ∙ past-inputs vs ys (replicate (n - length ys) (pos 0)) (omega (arith, l, length-map (valuesOf vs rs) orZero))

@@ -1,7 +1,7 @@
 -- What an accepted image says of its inputs, and of a term's points.
-use mathlib.Core.Path.{_≡_, refl, sym, ap, _∙_, subst}
+use mathlib.Core.Path.{_≡_, sym, ap, _∙_, subst}
 use mathlib.Core.Bool.{Bool, true, _&&_}
-use mathlib.Core.List.{List, [], _∷_, _++_, map}
+use mathlib.Core.List.{List, [], _∷_, map}
 use Prim.Native.Nat.{ℕ, zero, suc, _+_, _*_, _%_, _≤_, _<_}
 use native.Mathlib.Omega.{arith}
 use borrow.Author.Tests.{leb-true}
@@ -17,7 +17,7 @@ use Rattle.model.specs.Image.{tab, pointAt, termAt, inputAt, decode}
 use Rattle.terms.specs.declared.Point.{Point}
 use Rattle.terms.specs.Points.{PointOk, pointView, noPoint, pointViews, pointAt as point}
 use Rattle.words.proofs.Places.{both, passed, length-tab}
-use Rattle.layout.specs.Tables.{sums, inputCount, termCount, inputRows}
+use Rattle.layout.specs.Tables.{sums, inputCount, termCount}
 use Rattle.layout.specs.Groups.{Sound, frameOk, variablesOk}
 use Rattle.layout.proofs.TableLaws.{Runs}
 use Rattle.layout.proofs.Parts.{inputFirst, inputFirsts-run}
@@ -44,13 +44,13 @@ runs-at f c (suc k) s p (suc i) h r =
     let e : p + c s + sums c i (suc s) ≡ p + (c s + sums c i (suc s)) = omega arith in
     rw q (runs-at f c k (suc s) (p + c s) i (omega arith) (r .1) ∙ e)
 
-pub sums-more : (c : ℕ → ℕ) (k s : ℕ) → sums c (k + 1) s ≡ sums c k s + c (s + k)
+pub sums-last : (c : ℕ → ℕ) (k s : ℕ) → sums c (k + 1) s ≡ sums c k s + c (s + k)
 unfolding sums
-sums-more c zero s = let q : s + 0 ≡ s = omega arith in rw q (omega arith)
-sums-more c (suc k) s =
+sums-last c zero s = let q : s + 0 ≡ s = omega arith in rw q (omega arith)
+sums-last c (suc k) s =
     let e : suc k + 1 ≡ suc (k + 1) = omega arith in
     let q : s + suc k ≡ suc s + k = omega arith in
-    rw (e, q) (omega (arith, sums-more c k (suc s)))
+    rw (e, q) (omega (arith, sums-last c k (suc s)))
 
 module _ (w : ℕ → ℕ) where
   pub input-limit : Sound w → w 2 ≤ 8

@@ -7,7 +7,7 @@ use mathlib.Core.Option.{Option, none, some}
 use Prim.Native.Nat.{ℕ, zero, suc, _+_, _≤_, _<_}
 use native.Mathlib.Numerals.{add-one}
 use native.Mathlib.Omega.{arith}
-use lib.IntN.{ℤ, pos}
+use lib.IntN.{ℤ}
 use lib.ListN.{length, length-map, take, drop, getD, drop-of-length-le}
 use lib.Seq.{take-suc, drop-cons, length-take-le}
 use types.Run.{OneOf}
@@ -24,7 +24,7 @@ use Rattle.model.specs.declared.Taken.{Taken}
 use Rattle.model.specs.declared.Taken.the-variants.{Value, Absent as Missing, NotFinite, WrongKind}
 use Rattle.words.proofs.Places.{length-tab}
 
-length-values : (vs : List Input) (rs : List Reading) → length (valuesOf vs rs) ≡ length vs
+pub length-values : (vs : List Input) (rs : List Reading) → length (valuesOf vs rs) ≡ length vs
 unfolding valuesOf
 length-values [] rs = refl
 length-values (v ∷ vs) [] = ap suc (length-values vs [])

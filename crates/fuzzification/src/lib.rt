@@ -9,7 +9,7 @@ use words::word;
 ghost use mathlib.Core.Path.{_≡_};
 ghost use mathlib.Core.Bool.{true};
 ghost use mathlib.Core.List.{map};
-ghost use Prim.Native.Nat.{ℕ, _+_, _≤_};
+ghost use Prim.Native.Nat.{_+_, _≤_};
 ghost use lib.IntN.{pos};
 ghost use lib.ListN.{take};
 ghost use lib.Seq.{sets};
@@ -121,7 +121,11 @@ fn input_type(img: &[u8], i: usize) -> InputType
     requires { ⌜ i ≤ 8 ⌝ }
     ensures { λ r. ⌜ r ≡ inputAt (wordAt (now (img .entry))) i .type ⌝ }
 {
-    if word(img, word(img, 9) + i * 7 + 4) == 0 { InputType::Real } else { InputType::Int }
+    if word(img, word(img, 9) + i * 7 + 4) == 0 {
+        InputType::Real
+    } else {
+        InputType::Int
+    }
 }
 
 pub fn input_values(img: &[u8], rs: [Reading; 8]) -> Values

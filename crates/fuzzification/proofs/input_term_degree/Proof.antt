@@ -1,8 +1,7 @@
 use borrow.Author.Needs.{needs}
-use mathlib.Core.Path.{_≡_, sym, ap, subst, _∙_}
-use mathlib.Core.Bool.{true}
+use mathlib.Core.Path.{_≡_, ap, _∙_}
 use mathlib.Core.List.{List}
-use Prim.Native.Nat.{ℕ, _+_, _*_, _≤_}
+use Prim.Native.Nat.{ℕ, _+_, _*_}
 use native.Mathlib.Omega.{arith}
 use Rattle.model.specs.Basic.{all}
 use Rattle.model.specs.Block.{Point}
@@ -13,37 +12,25 @@ use Rattle.terms.specs.Points.{pointViews}
 use Rattle.fuzzification.proofs.Entries.{points-few, points-ok, points-read, each-fine}
 use Rattle.fuzzification.proofs.input_term_degree.Statement.{statement}
 use Rattle.fuzzification.proofs.input_term_degree.Tie as tie
-use Rattle.fuzzification.proofs.input_term_degree.Reads as reads
-use Rattle.fuzzification.proofs.input_term_degree.Lts as lts
-use Rattle.fuzzification.proofs.term_points.Reads as term-points-reads
-use Rattle.terms.proofs.term_degree.Reads as term-degree-reads
-use Rattle.words.proofs.word.Reads as word-reads
 
--- src/lib.rt:71:13
 word-requires : tie.Need-word-requires
 word-requires c κs = search needs
 
--- src/lib.rt:71:29
 mul-o : tie.Need-mul-o
 mul-o c = search needs
 
--- src/lib.rt:71:13
 add-o : tie.Need-add-o
 add-o c = search needs
 
--- src/lib.rt:72:23
 add-word : tie.Need-add-word
 add-word c = search needs
 
--- src/lib.rt:72:9
 word-requires-2 : tie.Need-word-requires-2
 word-requires-2 c κs = search needs
 
--- src/lib.rt:73:41
 add-word-2 : tie.Need-add-word-2
 add-word-2 c = search needs
 
--- src/lib.rt:73:31
 word-requires-3 : tie.Need-word-requires-3
 word-requires-3 c κs = search needs
 
@@ -55,7 +42,6 @@ views c =
     points-read (wordAt (a .img .now)) (a .t) _ _ _ (c .term-points .result) (c .before .before .before .word .ensures .0) (c .before .before .word2 .ensures .0)
     (c .before .word3 .ensures .0) (c .term-points .ensures)
 
--- src/lib.rt:73:9
 term-points-requires : tie.Need-term-points-requires
 term-points-requires c κs =
     let a = c .before .before .before .before in
@@ -63,7 +49,6 @@ term-points-requires c κs =
     let e = c .before .word2 .ensures .0 ∙ ap (λ (o : ℕ). w (o + a .args .t * 6 + 5)) (c .before .before .word .ensures .0) in
     (c .word3 .ensures .1, omega (arith, e, points-few w (a .args .t) (a .pre .2) .1))
 
--- src/lib.rt:74:5
 term-degree-requires : tie.Need-term-degree-requires
 term-degree-requires c κs =
     let a = c .before .before .before .before .before in
@@ -73,7 +58,6 @@ term-degree-requires c κs =
     let fine = ap (all pointOk) (views c) ∙ points-ok w (a .args .t) (a .pre .2) in
     (omega (arith, e, few .0), omega (arith, e, few .1), a .pre .1, each-fine (c .term-points .result) (c .before .before .word2 .result) fine)
 
--- src/lib.rt:67:1
 returns : tie.Need-returns
 returns c =
     let x = c .before .before .before .before .before .before .args .x .0 in

@@ -1,39 +1,29 @@
 use borrow.Author.Needs.{needs}
-use mathlib.Core.Path.{_≡_, refl, sym, ap, _∙_}
+use mathlib.Core.Path.{sym}
 use borrow.Author.Tests.{eq-eqb, ne-eqb}
-use Rattle.model.specs.Image.{wordAt, inputAt}
+use Rattle.model.specs.Image.{inputAt}
 use Rattle.fuzzification.proofs.input_type.Statement.{statement}
 use Rattle.fuzzification.proofs.input_type.Tie as tie
-use Rattle.fuzzification.proofs.input_type.Reads as reads
-use Rattle.fuzzification.proofs.input_type.Lts as lts
-use Rattle.words.proofs.word.Reads as word-reads
 
--- src/lib.rt:58:18
 word-requires : tie.Need-word-requires
 word-requires c κs = search needs
 
--- src/lib.rt:58:33
 mul-word : tie.Need-mul-word
 mul-word c = search needs
 
--- src/lib.rt:58:18
 add-word : tie.Need-add-word
 add-word c = search needs
 
--- src/lib.rt:58:18
 add-word-2 : tie.Need-add-word-2
 add-word-2 c = search needs
 
--- src/lib.rt:58:8
 word-requires-2 : tie.Need-word-requires-2
 word-requires-2 c κs = search needs
 
--- src/lib.rt:54:1
 returns : tie.Need-returns
 unfolding inputAt
 returns c = simp (sym (c .before .before .word .ensures .0), sym (c .before .word2 .ensures .0), eq-eqb _ _ (c .if1 .taken))
 
--- src/lib.rt:54:1
 returns-2 : tie.Need-returns-2
 unfolding inputAt
 returns-2 c = simp (sym (c .before .before .word .ensures .0), sym (c .before .word2 .ensures .0), ne-eqb _ _ (c .if1 .left))

@@ -2,7 +2,7 @@ use borrow.Author.Needs.{needs}
 use mathlib.Core.Path.{_≡_, refl, sym, ap, subst, _∙_}
 use mathlib.Core.List.{List, map}
 use mathlib.Core.Option.{none}
-use Prim.Native.Nat.{ℕ, _+_, _*_, _-_, _≤_, _<_}
+use Prim.Native.Nat.{_+_, _-_, _≤_, _<_}
 use native.Mathlib.Omega.{arith}
 use lib.IntN.{ℤ, pos}
 use lib.ListN.{length, length-set, getD, take, drop, replicate}
@@ -11,22 +11,17 @@ use Rattle.model.specs.Basic.{indexOf}
 use Rattle.model.specs.declared.Crisp.{Crisp}
 use Rattle.model.specs.Readings.{valueIn}
 use Rattle.model.specs.Evaluation.{valuesOf, isNone, orZero, firstWrong}
-use Rattle.model.specs.Image.{wordAt, tab, inputAt, decode}
+use Rattle.model.specs.Image.{wordAt, decode}
 use Rattle.crisp.specs.Crisp.{InCrisp}
-use Rattle.fuzzification.specs.Filled.{filled, figures, AllCrisp}
+use Rattle.fuzzification.specs.Filled.{figures, AllCrisp}
 use Rattle.fuzzification.proofs.Fill.{map-set, one-more, each-start, each-set, filled-sets}
 use Rattle.fuzzification.proofs.Entries.{input-limit}
 use Rattle.fuzzification.proofs.Wrong.{length-inputs, value-is, no-value, length-taken, wrong-next, wrong-here, none-wrong, value-more}
 use Rattle.fuzzification.proofs.input_values.Statement.{statement}
 use Rattle.fuzzification.proofs.input_values.Tie as tie
-use Rattle.fuzzification.proofs.input_values.Reads as reads
-use Rattle.fuzzification.proofs.input_values.Lts as lts
-use Rattle.fuzzification.proofs.input_type.Reads as input-type-reads
-use Rattle.readings.proofs.taken.Reads as taken-reads
-use Rattle.words.proofs.word.Reads as word-reads
 
 abbrev Inv-loop : tie.InvT-loop
-Inv-loop img rs n at₀ i₀ at i = 
+Inv-loop img rs n at₀ i₀ at i =
     let vs = valuesOf (decode (wordAt img) .inputs) rs in
     (i ≤ n) × (n ≤ 8) × (length at ≡ 8) × (firstWrong vs ≡ i + indexOf isNone (drop i vs)) × (figures at ≡ sets (replicate 8 (pos 0)) 0 (map orZero (take i vs))) × AllCrisp (figures at)
 
@@ -47,35 +42,27 @@ inside c =
     let a = c .before .before .before .before .before .before .before .args in
     omega (arith, length-inputs (wordAt (a .img .now)) (a .t2), c .before .before .before .before .before .word .ensures .0)
 
--- src/lib.rt:132:9
 word-requires : tie.Need-word-requires Inv-loop μ-loop
 word-requires c κs = search needs
 
--- src/lib.rt:135:5
 loop-holds : tie.Need-loop-holds Inv-loop μ-loop
 loop-holds c = (search needs, omega (arith, c .word .ensures .0, input-limit (wordAt (c .before .before .args .img .now)) (c .before .before .pre)), refl, omega arith, refl, each-start InCrisp (pos 0) 8 (omega arith))
 
--- src/lib.rt:136:13
 input-type-requires : tie.Need-input-type-requires Inv-loop μ-loop
 input-type-requires c κs = search needs
 
--- src/lib.rt:137:23
 mul-reading : tie.Need-mul-reading Inv-loop μ-loop
 mul-reading c = search needs
 
--- src/lib.rt:137:23
 array-copy-out-reading : tie.Need-array-copy-out-reading Inv-loop μ-loop
 array-copy-out-reading c = search needs
 
--- src/lib.rt:138:13
 taken-requires : tie.Need-taken-requires Inv-loop μ-loop
 taken-requires c κs = search needs
 
--- src/lib.rt:139:26
 enum-known-value : tie.Need-enum-known-value Inv-loop μ-loop
 enum-known-value c = search needs
 
--- src/lib.rt:140:13
 returns : tie.Need-returns Inv-loop μ-loop
 returns c =
     let d = c .before in
@@ -83,29 +70,23 @@ returns c =
     let a = d .before .before .before .before .before .before .before .args in
     let vs = valuesOf (decode (wordAt (a .img .now)) .inputs) (a .t2) in
     let h = inside d in
-    let wrong = ap isNone (value d) ∙ no-value (d .taken .result) (c .match .keys2) in
-    (
+    let wrong = ap isNone (value d) ∙ no-value (d .taken .result) (c .match .keys2) in (
       sym (wrong-here vs (l .i) h wrong (l .inv .3)),
       (l .inv .4 ∙ filled-sets 8 (pos 0) (map orZero (take (l .i) vs)) (omega (arith, length-taken vs (l .i) (omega arith))), l .inv .5),
     )
 
--- src/lib.rt:142:9
 mul-at : tie.Need-mul-at Inv-loop μ-loop
 mul-at c = search needs
 
--- src/lib.rt:142:9
 array-set-from-at : tie.Need-array-set-from-at Inv-loop μ-loop
 array-set-from-at c = search needs
 
--- src/lib.rt:143:9
 add-i : tie.Need-add-i Inv-loop μ-loop
 add-i c = search needs
 
--- src/lib.rt:135:5
 loop-less : tie.Need-loop-less Inv-loop μ-loop
 loop-less c = search needs
 
--- src/lib.rt:135:5
 loop-again : tie.Need-loop-again Inv-loop μ-loop
 loop-again c =
     let d = c .before .before .before in
@@ -115,28 +96,25 @@ loop-again c =
     let l₀ = replicate 8 (pos 0) in
     let x = c .before .value .given .0 .0 in
     let e = value d ∙ ap valueIn (c .before .value .given .1) in
-    let h = inside d in
-    (
+    let h = inside d in (
       search needs,
       search needs,
       length-set (l .at) (l .i) x ∙ l .inv .2,
       wrong-next vs (l .i) h (ap isNone e) (l .inv .3),
       one-more (λ (y : Crisp). y .0) (l .at) l₀ 0 (l .i) (map orZero (take (l .i) vs)) x (orZero (getD vs (l .i) none)) (l .inv .4)
           (omega (arith, length-taken vs (l .i) (omega arith))) (sym (ap orZero e))
-      ∙ ap (λ (ys : List ℤ). sets l₀ 0 ys) (sym (value-more vs (l .i) h)),
+          ∙ ap (λ (ys : List ℤ). sets l₀ 0 ys) (sym (value-more vs (l .i) h)),
       subst AllCrisp (sym (map-set (λ (y : Crisp). y .0) (l .at) (l .i) x))
           (each-set InCrisp (pos 0) (figures (l .at)) (l .i) (x .0) (l .inv .5) (d .taken .ensures .1 x (c .before .value .given .1))),
     )
 
--- src/lib.rt:126:1
 returns-2 : tie.Need-returns-2 Inv-loop μ-loop
 returns-2 c =
     let a = c .before .before .before .before .args in
     let l = c .before .loop in
     let w = wordAt (a .img .now) in
     let vs = valuesOf (decode w .inputs) (a .t2) in
-    let n : length vs ≡ l .i = omega (arith, length-inputs w (a .t2), c .before .before .word .ensures .0) in
-    (
+    let n : length vs ≡ l .i = omega (arith, length-inputs w (a .t2), c .before .before .word .ensures .0) in (
       sym (none-wrong vs (l .i) (omega (arith, n)) (l .inv .3)),
       (l .inv .4 ∙ filled-sets 8 (pos 0) (map orZero (take (l .i) vs)) (omega (arith, length-taken vs (l .i) (omega (arith, n)))), l .inv .5),
     )

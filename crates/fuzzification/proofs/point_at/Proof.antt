@@ -4,40 +4,28 @@ use Prim.Native.Nat.{ℕ, _+_, _*_}
 use Rattle.model.specs.Image.{wordAt, crispOf, pointAt}
 use Rattle.fuzzification.proofs.point_at.Statement.{statement}
 use Rattle.fuzzification.proofs.point_at.Tie as tie
-use Rattle.fuzzification.proofs.point_at.Reads as reads
-use Rattle.fuzzification.proofs.point_at.Lts as lts
-use Rattle.fuzzification.proofs.crisp_at.Reads as crisp-at-reads
-use Rattle.words.proofs.word.Reads as word-reads
 
--- src/lib.rt:30:13
 word-requires : tie.Need-word-requires
 word-requires c κs = search needs
 
--- src/lib.rt:30:29
 mul-o : tie.Need-mul-o
 mul-o c = search needs
 
--- src/lib.rt:30:13
 add-o : tie.Need-add-o
 add-o c = search needs
 
--- src/lib.rt:32:13
 crisp-at-requires : tie.Need-crisp-at-requires
 crisp-at-requires c κs = search needs
 
--- src/lib.rt:33:34
 add-word : tie.Need-add-word
 add-word c = search needs
 
--- src/lib.rt:33:24
 word-requires-2 : tie.Need-word-requires-2
 word-requires-2 c κs = search needs
 
--- src/lib.rt:33:24
 cast-t7 : tie.Need-cast-t7
 cast-t7 c = search needs
 
--- src/lib.rt:26:1
 returns : tie.Need-returns
 unfolding pointAt
 returns c =

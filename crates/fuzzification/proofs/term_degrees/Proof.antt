@@ -1,30 +1,25 @@
 use borrow.Author.Needs.{needs}
 use mathlib.Core.Path.{_≡_, refl, sym, ap, subst, _∙_}
-use mathlib.Core.List.{List}
 use Prim.Native.Nat.{ℕ, _+_, _*_, _-_, _≤_, _<_}
 use native.Mathlib.Omega.{arith}
 use lib.IntN.{pos}
-use lib.ListN.{length, length-map, getD, replicate, List·getD-map}
+use lib.ListN.{length-map, replicate, List·getD-map}
 use lib.Seq.{sets}
 use Rattle.model.specs.Bounds.{M}
 use Rattle.model.specs.declared.Crisp.{Crisp}
 use Rattle.model.specs.Evaluation.{termDegrees}
-use Rattle.model.specs.Image.{wordAt, tab, termAt, inputAt, decode}
+use Rattle.model.specs.Image.{wordAt, tab, inputAt, decode}
 use Rattle.crisp.specs.Crisp.{InCrisp}
 use Rattle.layout.specs.Tables.{sums, inputCount}
 use Rattle.fuzzification.specs.Filled.{filled, numbers, figures, Low}
 use Rattle.fuzzification.proofs.Fill.{each-start, filled-sets}
-use Rattle.fuzzification.proofs.Entries.{input-limit, accepted-terms, sums-more}
-use Rattle.fuzzification.proofs.Degrees.{degreesAt, length-degrees, input-more}
+use Rattle.fuzzification.proofs.Entries.{input-limit, accepted-terms, sums-last}
+use Rattle.fuzzification.proofs.Degrees.{length-degrees, input-more}
 use Rattle.fuzzification.proofs.term_degrees.Statement.{statement}
 use Rattle.fuzzification.proofs.term_degrees.Tie as tie
-use Rattle.fuzzification.proofs.term_degrees.Reads as reads
-use Rattle.fuzzification.proofs.term_degrees.Lts as lts
-use Rattle.fuzzification.proofs.with_terms.Reads as with-terms-reads
-use Rattle.words.proofs.word.Reads as word-reads
 
 abbrev Inv-loop : tie.InvT-loop
-Inv-loop img xs n ds₀ first₀ i₀ ds first i = 
+Inv-loop img xs n ds₀ first₀ i₀ ds first i =
     (i ≤ n) × (n ≤ 8) × (first ≡ sums (inputCount (wordAt img)) i 0) × (first ≤ 7 * i) × (numbers ds ≡ sets (replicate 56 0) 0 (termDegrees (tab (inputAt (wordAt img)) i 0) (figures xs))) × Low (numbers ds)
 
 abbrev μ-loop : tie.MeasureT-loop
@@ -39,68 +34,53 @@ count c =
     let w = wordAt (c .before .before .before .before .before .before .args .img .now) in
     c .word3 .ensures .0 ∙ ap (λ (o : ℕ). w (o + c .before .before .before .loop .i * 7 + 6)) (c .before .word2 .ensures .0)
 
--- src/lib.rt:99:9
 word-requires : tie.Need-word-requires Inv-loop μ-loop
 word-requires c κs = search needs
 
--- src/lib.rt:103:5
 loop-holds : tie.Need-loop-holds Inv-loop μ-loop
 unfolding tab termDegrees sums
 loop-holds c = (search needs, omega (arith, c .word .ensures .0, input-limit (wordAt (c .before .before .args .img .now)) (c .before .before .pre .0)), refl, search needs, refl, each-start (λ (n : ℕ). n ≤ M) 0 56 (omega arith))
 
--- src/lib.rt:104:31
 word-requires-2 : tie.Need-word-requires-2 Inv-loop μ-loop
 word-requires-2 c κs = search needs
 
--- src/lib.rt:104:46
 mul-word : tie.Need-mul-word Inv-loop μ-loop
 mul-word c = search needs
 
--- src/lib.rt:104:31
 add-word : tie.Need-add-word Inv-loop μ-loop
 add-word c = search needs
 
--- src/lib.rt:104:31
 add-word-2 : tie.Need-add-word-2 Inv-loop μ-loop
 add-word-2 c = search needs
 
--- src/lib.rt:104:13
 word-requires-3 : tie.Need-word-requires-3 Inv-loop μ-loop
 word-requires-3 c κs = search needs
 
--- src/lib.rt:105:17
 mul-x : tie.Need-mul-x Inv-loop μ-loop
 mul-x c = search needs
 
--- src/lib.rt:105:17
 array-copy-out-x : tie.Need-array-copy-out-x Inv-loop μ-loop
 array-copy-out-x c = search needs
 
--- src/lib.rt:106:13
 with-terms-requires : tie.Need-with-terms-requires Inv-loop μ-loop
 with-terms-requires c κs =
     let a = c .before .before .before .before .before .before .before in
     let l = c .before .before .before .before .loop in
     let w = wordAt (a .args .img .now) in
-    let t = accepted-terms w (l .i) (l .first) (c .before .word3 .result) (a .pre .0) (below (c .before .before .before)) (l .inv .2) (count (c .before)) in
-    (
+    let t = accepted-terms w (l .i) (l .first) (c .before .word3 .result) (a .pre .0) (below (c .before .before .before)) (l .inv .2) (count (c .before)) in (
       (omega (arith, t .0, l .inv .3), subst InCrisp (List·getD-map (λ (x : Crisp). x .0) (a .args .t2) (l .i) (record { 0 = pos 0 })) (a .pre .1 (l .i)), t .1),
       l .inv .5,
     )
 
--- src/lib.rt:108:9
 add-first : tie.Need-add-first Inv-loop μ-loop
 add-first c = search needs
 
--- src/lib.rt:109:9
 add-i : tie.Need-add-i Inv-loop μ-loop
 add-i c = search needs
 
--- src/lib.rt:103:5
 loop-less : tie.Need-loop-less Inv-loop μ-loop
 loop-less c = search needs
 
--- src/lib.rt:103:5
 loop-again : tie.Need-loop-again Inv-loop μ-loop
 loop-again c =
     let a = c .before .before .before .before .before .before .before .before in
@@ -112,19 +92,16 @@ loop-again c =
     let e = count (c .before .before) in
     let ex = sym (List·getD-map (λ (x : Crisp). x .0) (a .args .t2) i (record { 0 = pos 0 })) in
     let few = accepted-terms w i (l .first) (c .before .before .word3 .result) (a .pre .0) h (l .inv .2) e in
-    let q : 0 + i ≡ i = omega arith in
-    (
+    let q : 0 + i ≡ i = omega arith in (
       search needs,
       search needs,
-      omega (arith, l .inv .2, e, sums-more (inputCount w) i 0, ap (inputCount w) q),
+      omega (arith, l .inv .2, e, sums-last (inputCount w) i 0, ap (inputCount w) q),
       omega (arith, l .inv .3, few .0),
-      c .with-terms .ensures .0
-      ∙ (λ j. sets (numbers (l .ds)) (l .first) (degreesAt (ex j) (tab (termAt w) (e j) (l .first))))
-      ∙ input-more w i (l .first) xs (replicate 56 0) (numbers (l .ds)) (a .pre .0) h (omega (arith, a .good, length-map (a .args .t2) (λ (x : Crisp). x .0))) (l .inv .2) (l .inv .4),
+      input-more w i (l .first) (c .before .before .word3 .result) _ xs (replicate 56 0) (numbers (l .ds)) (numbers (c .with-terms .result)) (a .pre .0) h
+          (omega (arith, a .good, length-map (a .args .t2) (λ (x : Crisp). x .0))) (l .inv .2) e ex (l .inv .4) (c .with-terms .ensures .0),
       c .with-terms .ensures .1,
     )
 
--- src/lib.rt:94:1
 returns : tie.Need-returns Inv-loop μ-loop
 unfolding decode
 returns c =
@@ -134,11 +111,10 @@ returns c =
     let xs = figures (a .args .t2) in
     let e : l .i ≡ w 2 = omega (arith, c .before .before .word .ensures .0) in
     let n = length-map (a .args .t2) (λ (x : Crisp). x .0) in
-    let long = length-degrees w (l .i) 0 xs (omega (arith, a .good, n)) in
-    (
+    let long = length-degrees w (l .i) 0 xs (omega (arith, a .good, n)) in (
       l .inv .4
-      ∙ filled-sets 56 0 (termDegrees (tab (inputAt w) (l .i) 0) xs) (omega (arith, long, l .inv .2, l .inv .3))
-      ∙ ap (λ (m : ℕ). filled 56 0 (termDegrees (tab (inputAt w) m 0) xs)) e,
+          ∙ filled-sets 56 0 (termDegrees (tab (inputAt w) (l .i) 0) xs) (omega (arith, long, l .inv .2, l .inv .3))
+          ∙ ap (λ (m : ℕ). filled 56 0 (termDegrees (tab (inputAt w) m 0) xs)) e,
       l .inv .5,
     )
 

@@ -13,9 +13,6 @@ use Rattle.fuzzification.specs.Filled.{filled}
 use Rattle.fuzzification.proofs.Fill.{tab-more, one-more, filled-sets}
 use Rattle.fuzzification.proofs.term_points.Statement.{statement}
 use Rattle.fuzzification.proofs.term_points.Tie as tie
-use Rattle.fuzzification.proofs.term_points.Reads as reads
-use Rattle.fuzzification.proofs.term_points.Lts as lts
-use Rattle.fuzzification.proofs.point_at.Reads as point-at-reads
 
 abbrev Inv-loop : tie.InvT-loop
 Inv-loop img first n ps₀ k₀ ps k =
@@ -24,50 +21,40 @@ Inv-loop img first n ps₀ k₀ ps k =
 abbrev μ-loop : tie.MeasureT-loop
 μ-loop img first n ps₀ k₀ ps k = n - k
 
--- src/lib.rt:47:5
 loop-holds : tie.Need-loop-holds Inv-loop μ-loop
 unfolding tab
 loop-holds c = (search needs, refl, refl)
 
--- src/lib.rt:48:31
 add-point-at : tie.Need-add-point-at Inv-loop μ-loop
 add-point-at c = search needs
 
--- src/lib.rt:48:17
 point-at-requires : tie.Need-point-at-requires Inv-loop μ-loop
 point-at-requires c κs = search needs
 
--- src/lib.rt:48:9
 mul-ps : tie.Need-mul-ps Inv-loop μ-loop
 mul-ps c = search needs
 
--- src/lib.rt:48:9
 array-set-from-ps : tie.Need-array-set-from-ps Inv-loop μ-loop
 array-set-from-ps c = search needs
 
--- src/lib.rt:49:9
 add-k : tie.Need-add-k Inv-loop μ-loop
 add-k c = search needs
 
--- src/lib.rt:47:5
 loop-less : tie.Need-loop-less Inv-loop μ-loop
 loop-less c = search needs
 
--- src/lib.rt:47:5
 loop-again : tie.Need-loop-again Inv-loop μ-loop
 loop-again c =
     let l = c .before .before .loop in
     let a = c .before .before .before .before .args in
     let f = pointAt (wordAt (a .img .now)) in
-    let l₀ = replicate 4 (pointView noPoint) in
-    (
+    let l₀ = replicate 4 (pointView noPoint) in (
       search needs,
       length-set (l .ps) (l .k) (c .point-at .result) ∙ l .inv .1,
       one-more pointView (l .ps) l₀ 0 (l .k) (tab f (l .k) (a .first)) (c .point-at .result) (f (a .first + l .k)) (l .inv .2) (omega (arith, length-tab f (l .k) (a .first))) (c .point-at .ensures)
-      ∙ ap (λ (xs : List Point). sets l₀ 0 xs) (sym (tab-more f (l .k) (a .first))),
+          ∙ ap (λ (xs : List Point). sets l₀ 0 xs) (sym (tab-more f (l .k) (a .first))),
     )
 
--- src/lib.rt:38:1
 returns : tie.Need-returns Inv-loop μ-loop
 returns c =
     let l = c .before .loop in

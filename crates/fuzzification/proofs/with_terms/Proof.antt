@@ -16,54 +16,42 @@ use Rattle.fuzzification.proofs.Entries.{all-at}
 use Rattle.fuzzification.proofs.Degrees.{degreesAt, length-at, term-more}
 use Rattle.fuzzification.proofs.with_terms.Statement.{statement}
 use Rattle.fuzzification.proofs.with_terms.Tie as tie
-use Rattle.fuzzification.proofs.with_terms.Reads as reads
-use Rattle.fuzzification.proofs.with_terms.Lts as lts
-use Rattle.fuzzification.proofs.input_term_degree.Reads as input-term-degree-reads
 
 abbrev Inv-loop : tie.InvT-loop
-Inv-loop img first n x r₀ k₀ r k = 
+Inv-loop img first n x r₀ k₀ r k =
     (k ≤ n) × (length r ≡ 56) × (numbers r ≡ sets (numbers r₀) first (degreesAt (x .0) (tab (termAt (wordAt img)) k first))) × Low (numbers r)
 
 abbrev μ-loop : tie.MeasureT-loop
 μ-loop img first n x r₀ k₀ r k = n - k
 
--- src/lib.rt:86:5
 loop-holds : tie.Need-loop-holds Inv-loop μ-loop
 unfolding tab
 loop-holds c = (search needs, omega (arith, c .before .good), refl, c .before .pre .1)
 
--- src/lib.rt:87:47
 add-input-term-degree : tie.Need-add-input-term-degree Inv-loop μ-loop
 add-input-term-degree c = search needs
 
--- src/lib.rt:87:24
 input-term-degree-requires : tie.Need-input-term-degree-requires Inv-loop μ-loop
 input-term-degree-requires c κs =
     let a = c .before .before .before in
     let k = c .before .loop .k in
     (omega (arith, a .pre .0 .0), a .pre .0 .1, all-at termOk (termAt (wordAt (a .args .img .now))) (a .args .n) (a .args .first) k (omega arith) (a .pre .0 .2))
 
--- src/lib.rt:87:11
 add-r : tie.Need-add-r Inv-loop μ-loop
 add-r c = search needs
 
--- src/lib.rt:87:9
 mul-r : tie.Need-mul-r Inv-loop μ-loop
 mul-r c = search needs
 
--- src/lib.rt:87:9
 array-set-from-r : tie.Need-array-set-from-r Inv-loop μ-loop
 array-set-from-r c = search needs
 
--- src/lib.rt:88:9
 add-k : tie.Need-add-k Inv-loop μ-loop
 add-k c = search needs
 
--- src/lib.rt:86:5
 loop-less : tie.Need-loop-less Inv-loop μ-loop
 loop-less c = search needs
 
--- src/lib.rt:86:5
 loop-again : tie.Need-loop-again Inv-loop μ-loop
 loop-again c =
     let l = c .before .before .loop in
@@ -71,17 +59,15 @@ loop-again c =
     let f = termAt (wordAt (a .img .now)) in
     let x = a .x .0 in
     let v = c .input-term-degree .result in
-    let q = a .first + l .k in
-    (
+    let q = a .first + l .k in (
       search needs,
       length-set (l .r) q v ∙ l .inv .1,
       one-more (λ (d : Degree). d .0) (l .r) (numbers (a .ds)) (a .first) q (degreesAt x (tab f (l .k) (a .first))) v (termDegree (f q .points) x)
           (l .inv .2) (omega (arith, length-at x f (l .k) (a .first))) (c .input-term-degree .ensures .0)
-      ∙ ap (λ (ys : List ℕ). sets (numbers (a .ds)) (a .first) ys) (sym (term-more x f (l .k) (a .first))),
+          ∙ ap (λ (ys : List ℕ). sets (numbers (a .ds)) (a .first) ys) (sym (term-more x f (l .k) (a .first))),
       subst Low (sym (map-set (λ (d : Degree). d .0) (l .r) q v)) (each-set (λ (n : ℕ). n ≤ M) 0 (numbers (l .r)) q (v .0) (l .inv .3) (c .input-term-degree .ensures .1)),
     )
 
--- src/lib.rt:78:1
 returns : tie.Need-returns Inv-loop μ-loop
 returns c =
     let l = c .before .loop in
