@@ -18,7 +18,7 @@ pub struct Checked {
 
 pub fn examine(img: &[u8]) -> Checked
     ensures { λ r. ⌜ r .ok ≡ isImageOf (now (img .entry)) (decode (wordAt (now (img .entry)))) ⌝ }
-    ensures sound { λ r. ⌜ (r .ok ≡ true → Sound (wordAt (now (img .entry))) × (r .input_terms ≡ inputTermsIn (wordAt (now (img .entry))))) ⌝ }
+    ensures sound { λ r. ⌜ (r .ok ≡ true → Sound (wordAt (now (img .entry))) × (r .«input_terms» ≡ inputTermsIn (wordAt (now (img .entry))))) ⌝ }
 {
     let n = words::word(img, 1);
     if img.len() != n * 4 {
