@@ -36,10 +36,10 @@ unfolding nameWords
 wide-term n t = refl
 
 module _ (w : ℕ → ℕ) where
-  abbrev inputFirst : ℕ → ℕ
+  abbrev pub inputFirst : ℕ → ℕ
   inputFirst i = w (w 9 + i * 7 + 5)
 
-  abbrev outputFirst : ℕ → ℕ
+  abbrev pub outputFirst : ℕ → ℕ
   outputFirst i = w (w 10 + i * 11 + 4)
 
   abbrev termFirst : ℕ → ℕ
@@ -55,7 +55,7 @@ module _ (w : ℕ → ℕ) where
   on : (o k m : ℕ) → o + k ≡ m → w (o + k) ≡ w m
   on o k m e = ap w e
 
-  input-row : (i n : ℕ) → same (tab w 7 (w 9 + i * 7)) (inputRow n (inputAt w i)) ≡ true
+  pub input-row : (i n : ℕ) → same (tab w 7 (w 9 + i * 7)) (inputRow n (inputAt w i)) ≡ true
       → (inputFirst i ≡ n) × (inputNext n (inputAt w i) ≡ n + inputCount w i)
   unfolding nameWords inputAt
   input-row i n h =
@@ -65,7 +65,7 @@ module _ (w : ℕ → ℕ) where
         ap (λ (x : ℕ). n + x) (length-tab (termAt w) (w (o + 6)) (w (o + 5))),
       )
 
-  output-row : (i n : ℕ) → same (tab w 11 (w 10 + i * 11)) (outputRow n (outputAt w i)) ≡ true
+  pub output-row : (i n : ℕ) → same (tab w 11 (w 10 + i * 11)) (outputRow n (outputAt w i)) ≡ true
       → (outputFirst i ≡ n) × (outputNext n (outputAt w i) ≡ n + outputCount w i)
   unfolding nameWords outputAt
   output-row i n h =

@@ -180,7 +180,7 @@ const KEYWORDS: [usize; 168] = [
     0,
 ];
 
-fn within(a: usize, b: usize, c: usize) -> bool
+pub fn within(a: usize, b: usize, c: usize) -> bool
     ensures { λ r. ⌜ r ≡ between a b c ⌝ }
 {
     if c < a {

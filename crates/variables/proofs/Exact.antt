@@ -1,0 +1,113 @@
+-- Where the tables are laid out as a block's, each row begins with the exact words of its name, and a variable's terms are rows of the table of terms.
+use mathlib.Core.Path.{_≡_, refl, subst}
+use mathlib.Core.List.{List, _++_}
+use mathlib.Core.Bool.{Bool, true, false}
+use Prim.Native.Nat.{ℕ, zero, suc, _+_, _*_, _≤_, _<_}
+use native.Mathlib.Omega.{arith}
+use lib.Dec.{eqb}
+use borrow.Author.Tests.{eqb-true, eqb-false}
+use Rattle.model.specs.Basic.{same}
+use Rattle.model.specs.Image.{nameWords, nameAt, tab, termAt, singletonAt, inputAt, outputAt}
+use Rattle.words.proofs.Places.{both, passed, at-cut}
+use Rattle.layout.specs.Rows.{rowsOk}
+use Rattle.layout.specs.Tables.{inputRow, inputNext, outputRow, outputNext, termRow, termNext, sums, outputTermAt, inputCount, outputCount, inputTermsIn, outputTermsIn, inputPointsIn, inputRows, outputRows, inputTermRows, outputTermRows, nameExact, headerOk}
+use Rattle.layout.specs.Groups.{frameOk}
+use Rattle.layout.proofs.RowLaws.{stands, stood}
+use Rattle.layout.proofs.TableLaws.{Runs, runs-from}
+use Rattle.layout.proofs.Parts.{inputFirst, outputFirst, input-row, output-row}
+
+-- P holds of n numbers from i on
+abbrev pub Span : (ℕ → Type 0) → ℕ → ℕ → Type 0
+Span P n i = (k : ℕ) → i ≤ k → k < i + n → P k
+
+pub no-span : (P : ℕ → Type 0) (i : ℕ) → Span P 0 i
+no-span P i k a b = absurd (omega arith)
+
+pub span : (P : ℕ → Type 0) (n i : ℕ) → P i → Span P n (suc i) → Span P (suc n) i
+span P n i p q k a b = go (eqb i k) refl
+  where
+    go : (t : Bool) → eqb i k ≡ t → P k
+    go true e = subst P (eqb-true i k e) p
+    go false e = let z = eqb-false i k e in q k (omega arith) (omega arith)
+
+-- n rows of s words from the i-th on, in the table that starts at o, have exact names
+abbrev pub Exact : (ℕ → ℕ) → ℕ → ℕ → ℕ → ℕ → Type 0
+Exact w o s n i = Span (λ k. nameExact w (o + k * s) ≡ true) n i
+
+exact-row : (w : ℕ → ℕ) (o s : ℕ) (xs : List ℕ) → same (tab w s o) (nameWords (nameAt w o) ++ xs) ≡ true → nameExact w o ≡ true
+unfolding nameExact nameWords
+exact-row w o s xs h =
+    let v = nameWords (nameAt w o) in
+    stood w o 4 v refl (at-cut w o v xs (stands w o s (v ++ xs) h) .0)
+
+exact-rows : {R : Type 0} (enc : ℕ → R → List ℕ) (next : ℕ → R → ℕ) (dec : ℕ → R) (w : ℕ → ℕ) (o s : ℕ)
+    → ((i σ : ℕ) → same (tab w s (o + i * s)) (enc σ (dec i)) ≡ true → nameExact w (o + i * s) ≡ true)
+    → (n i σ : ℕ) → rowsOk enc next dec w o s n i σ ≡ true → Exact w o s n i
+unfolding rowsOk
+exact-rows enc next dec w o s f zero i σ h = no-span _ i
+exact-rows enc next dec w o s f (suc n) i σ h =
+    let c = both (same (tab w s (o + i * s)) (enc σ (dec i))) (rowsOk enc next dec w o s n (suc i) (next σ (dec i))) h in
+    span (λ k. nameExact w (o + k * s) ≡ true) n i (f i σ (c .0)) (exact-rows enc next dec w o s f n (suc i) (next σ (dec i)) (c .1))
+
+-- rows with running firsts hold what lies between the first and the last total
+runs-within : (f c : ℕ → ℕ) (n i p : ℕ) → Runs f c n i p → Span (λ k. (p ≤ f k) × (f k + c k ≤ p + sums c n i)) n i
+unfolding Runs sums
+runs-within f c zero i p h = no-span _ i
+runs-within f c (suc n) i p h =
+    span (λ k. (p ≤ f k) × (f k + c k ≤ p + (c i + sums c n (suc i)))) n i (omega (arith, h .0), omega (arith, h .0))
+    (λ k a b. let r = runs-within f c n (suc i) (p + c i) (h .1) k a b in (omega (arith, r .0), omega (arith, r .1)))
+
+module _ (w : ℕ → ℕ) where
+  inputs-exact : inputRows w ≡ true → Exact w (w 9) 7 (w 2) 0
+  unfolding inputRows inputAt
+  inputs-exact h = exact-rows inputRow inputNext (inputAt w) w (w 9) 7 (λ i σ e. exact-row w (w 9 + i * 7) 7 _ e) (w 2) 0 0 h
+
+  outputs-exact : outputRows w ≡ true → Exact w (w 10) 11 (w 3) 0
+  unfolding outputRows outputAt
+  outputs-exact h = exact-rows outputRow outputNext (outputAt w) w (w 10) 11 (λ i σ e. exact-row w (w 10 + i * 11) 11 _ e) (w 3) 0 (inputTermsIn w) h
+
+  input-terms-exact : inputTermRows w ≡ true → Exact w (w 11) 6 (inputTermsIn w) 0
+  unfolding inputTermRows termAt
+  input-terms-exact h = exact-rows termRow termNext (termAt w) w (w 11) 6 (λ i σ e. exact-row w (w 11 + i * 6) 6 _ e) (inputTermsIn w) 0 0 h
+
+  output-terms-exact : outputTermRows w ≡ true → Exact w (w 11) 6 (outputTermsIn w) (inputTermsIn w)
+  unfolding outputTermRows singletonAt
+  output-terms-exact h =
+      exact-rows termRow termNext (outputTermAt w) w (w 11) 6 (λ i σ e. exact-row w (w 11 + i * 6) 6 _ e) (outputTermsIn w) (inputTermsIn w) (inputPointsIn w) h
+
+  inputs-run : inputRows w ≡ true → Runs (inputFirst w) (inputCount w) (w 2) 0 0
+  unfolding inputRows
+  inputs-run h = runs-from inputRow inputNext (inputAt w) w (w 9) 7 (λ n. n) (inputFirst w) (inputCount w) (λ i n e. input-row w i n e) (w 2) 0 0 h
+
+  outputs-run : outputRows w ≡ true → Runs (outputFirst w) (outputCount w) (w 3) 0 (inputTermsIn w)
+  unfolding outputRows
+  outputs-run h = runs-from outputRow outputNext (outputAt w) w (w 10) 11 (λ n. n) (outputFirst w) (outputCount w) (λ i n e. output-row w i n e) (w 3) 0 (inputTermsIn w) h
+
+  -- all names are exact
+  pub record Names : Type 0 where
+    pub block : nameExact w 20 ≡ true
+    pub ruleBlock : nameExact w 24 ≡ true
+    pub inputs : Exact w (w 9) 7 (w 2) 0
+    pub outputs : Exact w (w 10) 11 (w 3) 0
+    pub inputTerms : (i : ℕ) → i < w 2 → Exact w (w 11) 6 (inputCount w i) (inputFirst w i)
+    pub outputTerms : (i : ℕ) → i < w 3 → Exact w (w 11) 6 (outputCount w i) (outputFirst w i)
+
+  pub frame-names : frameOk w ≡ true → Names
+  unfolding frameOk headerOk
+  frame-names h =
+      let f = passed _ h in
+      let d = passed _ (f .0) in
+      let ir = f .1 .0 in
+      let or = f .1 .1 .0 in
+      let ti = input-terms-exact (f .1 .1 .1 .0) in
+      let to = output-terms-exact (f .1 .1 .1 .1 .0) in
+      record {
+        block = d .1 .1 .1 .1 .1 .1 .1 .1 .1 .1 .1 .1 .1 .0;
+        ruleBlock = d .1 .1 .1 .1 .1 .1 .1 .1 .1 .1 .1 .1 .1 .1 .0;
+        inputs = inputs-exact ir;
+        outputs = outputs-exact or;
+        inputTerms = λ i l k a b. let q = runs-within (inputFirst w) (inputCount w) (w 2) 0 0 (inputs-run ir) i (omega arith) (omega arith) in ti k (omega arith) (omega (arith, q .1));
+        outputTerms = λ i l k a b.
+            let q = runs-within (outputFirst w) (outputCount w) (w 3) 0 (inputTermsIn w) (outputs-run or) i (omega arith) (omega arith) in
+            to k (omega (arith, q .0)) (omega (arith, q .1));
+      }
