@@ -192,7 +192,7 @@ module _ (w : ℕ → ℕ) where
     pub words′ : total (λ r. size (r .condition)) (decode w .rules) ≡ w 7
     pub conclusions′ : length (conclusions (decode w)) ≡ w 8
 
-  inputs-count : length (decode w .inputs) ≡ w 2
+  pub inputs-count : length (decode w .inputs) ≡ w 2
   unfolding decode
   inputs-count = length-tab (inputAt w) (w 2) 0
 
