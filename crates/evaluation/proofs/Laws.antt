@@ -134,10 +134,10 @@ module _ (w : ℕ → ℕ) (s : Sound w) (rs : List Reading) (held : List ℤ) (
       let few : length (decode w .inputs) ≤ k = omega (arith, inputs-count w) in
       let e : numbers ds ≡ filled 56 0 (termDegrees (decode w .inputs) values) = ed ∙ ap (filled 56 0) (degrees-of-call (decode w .inputs) rs 8 k (figures xs) few ex) in
       let agree : (t : ℕ) → getD (numbers ds) t 0 ≡ getD (termDegrees (decode w .inputs) values) t 0 =
-          λ t. ap (λ (x : List ℕ). getD x t 0) e ∙ filled-at 56 0 (termDegrees (decode w .inputs) values) t in
+      λ t. ap (λ (x : List ℕ). getD x t 0) e ∙ filled-at 56 0 (termDegrees (decode w .inputs) values) t in
       let n : m ≡ length (inputTerms (decode w)) = em ∙ sym input-terms in
       let H = height (decode w) (termDegrees (decode w .inputs) values) in
       answers-agree (heightOf hs m) H m (decode w .outputs) held
-        (λ t h.
-        number-at hs (t - m) ∙ eh (t - m) ∙ height-agrees (numbers ds) (termDegrees (decode w .inputs) values) agree (decode w) (m + (t - m)) ∙ ap H (omega arith))
+      (λ t h.
+      number-at hs (t - m) ∙ eh (t - m) ∙ height-agrees (numbers ds) (termDegrees (decode w .inputs) values) agree (decode w) (m + (t - m)) ∙ ap H (omega arith))
       ∙ ap (λ (j : ℕ). answersFrom H j (decode w .outputs) held) n

@@ -37,16 +37,17 @@ fn refused(why: Refusal, before: Held) -> Evaluation
 }
 
 // On an accepted image with m input terms.
-pub fn evaluate_accepted(img: &[u8], m: usize, rs: [Reading; 8], n: usize, before: Held) -> Evaluation
+fn evaluate_accepted(img: &[u8], m: usize, rs: [Reading; 8], n: usize, before: Held) -> Evaluation
     requires { ⌜ Sound (wordAt (now img)) × (m ≡ inputTermsIn (wordAt (now img))) ⌝ }
     ensures { λ r. ⌜ Tells r before (called (decode (wordAt (now (img .entry)))) rs n before) ⌝ }
 {
     let inputs = word(img, 2);
+    let was = before.figures;
+    let kept = record_ok(img, was);
     if n != inputs {
         return refused(Refusal::WrongCount, before);
     }
-    let was = before.figures;
-    if !record_ok(img, was) {
+    if !kept {
         return refused(Refusal::WrongHeld, before);
     }
     let v = input_values(img, rs);

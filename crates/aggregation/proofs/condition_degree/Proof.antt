@@ -18,32 +18,25 @@ Inv-loop img d n ds p st₀ i₀ st i = (i ≤ n) × Small st × laws.Follows (b
 abbrev μ-loop : tie.MeasureT-loop
 μ-loop img d n ds p st₀ i₀ st i = n - i
 
--- src/lib.rt:84:5
 loop-holds : tie.Need-loop-holds Inv-loop μ-loop
 unfolding stackOf
 loop-holds c = (search needs, (search needs, low-zeros 19), laws.follows-start _ _ _ _)
 
--- src/lib.rt:85:40
 add-word : tie.Need-add-word Inv-loop μ-loop
 add-word c = search needs
 
--- src/lib.rt:85:30
 word-requires : tie.Need-word-requires Inv-loop μ-loop
 word-requires c κs = search needs
 
--- src/lib.rt:85:14
 step-requires : tie.Need-step-requires Inv-loop μ-loop
 step-requires c κs = (c .before .before .loop .inv .1, c .before .before .before .before .pre .2)
 
--- src/lib.rt:86:9
 add-i : tie.Need-add-i Inv-loop μ-loop
 add-i c = search needs
 
--- src/lib.rt:84:5
 loop-less : tie.Need-loop-less Inv-loop μ-loop
 loop-less c = search needs
 
--- src/lib.rt:84:5
 loop-again : tie.Need-loop-again Inv-loop μ-loop
 loop-again c =
     let l = c .before .before .before .loop in
@@ -53,11 +46,9 @@ loop-again c =
       laws.follows-turn (byDegrees (a .p) (numbers (a .ds))) (wordAt (a .img .now)) (a .d) (a .n) (l .i) _ _ _ (search needs) (c .before .word .ensures .0) (c .step .ensures .0) (l .inv .2),
     )
 
--- src/lib.rt:88:12
 element-copy-out-t16 : tie.Need-element-copy-out-t16 Inv-loop μ-loop
 element-copy-out-t16 c = search needs
 
--- src/lib.rt:76:1
 returns : tie.Need-returns Inv-loop μ-loop
 returns c =
     let l = c .before .before .loop in

@@ -8,19 +8,15 @@ use Rattle.aggregation.proofs.push.Tie as tie
 use Rattle.aggregation.proofs.push.Reads as reads
 use Rattle.aggregation.proofs.push.Lts as lts
 
--- src/lib.rt:42:9
 mul-r : tie.Need-mul-r
 mul-r c = search needs
 
--- src/lib.rt:42:9
 element-write-r : tie.Need-element-write-r
 element-write-r c = search needs
 
--- src/lib.rt:43:20
 add-r : tie.Need-add-r
 add-r c = search needs
 
--- src/lib.rt:44:9
 returns : tie.Need-returns
 returns c =
     let a = c .before .args in
@@ -29,7 +25,6 @@ returns c =
       (search needs, low-set (a .st .degrees) (a .n) (a .v .0) (c .before .pre .0 .1) (c .before .pre .1)),
     )
 
--- src/lib.rt:35:1
 returns-2 : tie.Need-returns-2
 returns-2 c = ((λ p l s e. absurd (laws.full-is p l _ _ _ s (c .if1 .left) e)), c .before .pre .0)
 

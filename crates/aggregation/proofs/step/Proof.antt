@@ -15,15 +15,12 @@ use Rattle.degrees.proofs.and.Reads as and-reads
 use Rattle.degrees.proofs.not.Reads as not-reads
 use Rattle.degrees.proofs.or.Reads as or-reads
 
--- src/lib.rt:56:28
 term-degree-requires : tie.Need-term-degree-requires
 term-degree-requires c κs = search needs
 
--- src/lib.rt:56:9
 push-requires : tie.Need-push-requires
 push-requires c κs = search needs
 
--- src/lib.rt:56:9
 returns : tie.Need-returns
 returns c =
     let a = c .before .before .before .args in
@@ -32,7 +29,6 @@ returns c =
     let h = a .t1 .height in
     ((λ s e. c .push .ensures .0 (a .p) ns s (laws.term-is (a .p) ns (a .w) _ (onStack (a .t1)) (c .before .before .if1 .taken) (c .before .term-degree .ensures .0) ∙ e)), c .push .ensures .1)
 
--- src/lib.rt:59:9
 returns-2 : tie.Need-returns-2
 returns-2 c =
     let a = c .before .before .args in
@@ -41,31 +37,24 @@ returns-2 c =
     let h = a .t1 .height in
     ((λ s e. absurd (laws.empty-is (a .p) ns l h (a .w) s (c .if2 .taken) (c .before .if1 .left) e)), c .before .before .pre .0)
 
--- src/lib.rt:61:31
 sub-t13 : tie.Need-sub-t13
 sub-t13 c = search needs
 
--- src/lib.rt:61:20
 mul-t14 : tie.Need-mul-t14
 mul-t14 c = search needs
 
--- src/lib.rt:61:20
 element-copy-out-t17 : tie.Need-element-copy-out-t17
 element-copy-out-t17 c = search needs
 
--- src/lib.rt:63:25
 sub-push : tie.Need-sub-push
 sub-push c = search needs
 
--- src/lib.rt:63:32
 not-requires : tie.Need-not-requires
 not-requires c κs = c .before .before .before .before .pre .0 .1 _
 
--- src/lib.rt:63:9
 push-requires-2 : tie.Need-push-requires-2
 push-requires-2 c κs = search needs
 
--- src/lib.rt:63:9
 returns-3 : tie.Need-returns-3
 returns-3 c =
     let a = c .before .before .before .before .before .before .args in
@@ -75,7 +64,6 @@ returns-3 c =
     let k : 0 < h = omega arith in
     ((λ s e. c .push2 .ensures .0 (a .p) ns s (laws.not-is (a .p) ns l h (a .w) _ (c .before .before .if3 .taken) k (c .before .not .ensures .0) ∙ e)), c .push2 .ensures .1)
 
--- src/lib.rt:66:9
 returns-4 : tie.Need-returns-4
 returns-4 c =
     let a = c .before .before .before .before .before .args in
@@ -84,31 +72,24 @@ returns-4 c =
     let h = a .t1 .height in
     ((λ s e. absurd (laws.single-is (a .p) ns l h (a .w) s (c .if4 .taken) (c .before .before .before .before .if1 .left) (c .before .if3 .left) e)), c .before .before .before .before .before .pre .0)
 
--- src/lib.rt:68:31
 sub-t13-2 : tie.Need-sub-t13-2
 sub-t13-2 c = search needs
 
--- src/lib.rt:68:20
 mul-t14-2 : tie.Need-mul-t14-2
 mul-t14-2 c = search needs
 
--- src/lib.rt:68:20
 element-copy-out-t17-2 : tie.Need-element-copy-out-t17-2
 element-copy-out-t17-2 c = search needs
 
--- src/lib.rt:70:25
 sub-push-2 : tie.Need-sub-push-2
 sub-push-2 c = search needs
 
--- src/lib.rt:70:32
 and-requires : tie.Need-and-requires
 and-requires c κs = (c .before .before .before .before .before .before .before .pre .0 .1 _, c .before .before .before .before .before .before .before .pre .0 .1 _)
 
--- src/lib.rt:70:9
 push-requires-3 : tie.Need-push-requires-3
 push-requires-3 c κs = search needs
 
--- src/lib.rt:70:9
 returns-5 : tie.Need-returns-5
 returns-5 c =
     let a = c .before .before .before .before .before .before .before .before .before .args in
@@ -118,19 +99,15 @@ returns-5 c =
     let k : 2 ≤ h = omega arith in
     ((λ s e. c .push3 .ensures .0 (a .p) ns s (laws.two-is (a .p) ns and l h (a .w) _ (c .before .before .if5 .taken) k (c .before .and .ensures .0) ∙ e)), c .push3 .ensures .1)
 
--- src/lib.rt:72:14
 sub-push-3 : tie.Need-sub-push-3
 sub-push-3 c = search needs
 
--- src/lib.rt:72:21
 or-requires : tie.Need-or-requires
 or-requires c κs = (c .before .before .before .before .before .before .before .pre .0 .1 _, c .before .before .before .before .before .before .before .pre .0 .1 _)
 
--- src/lib.rt:72:5
 push-requires-4 : tie.Need-push-requires-4
 push-requires-4 c κs = search needs
 
--- src/lib.rt:49:1
 returns-6 : tie.Need-returns-6
 returns-6 c =
     let a = c .before .before .before .before .before .before .before .before .before .args in

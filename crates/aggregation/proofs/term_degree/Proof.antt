@@ -8,22 +8,18 @@ use Rattle.aggregation.proofs.term_degree.Tie as tie
 use Rattle.aggregation.proofs.term_degree.Reads as reads
 use Rattle.aggregation.proofs.term_degree.Lts as lts
 
--- src/lib.rt:29:16
 mul-result : tie.Need-mul-result
 mul-result c = search needs
 
--- src/lib.rt:29:16
 array-copy-out-result : tie.Need-array-copy-out-result
 array-copy-out-result c = search needs
 
--- src/lib.rt:29:9
 returns : tie.Need-returns
 returns c =
     let a = c .before .before .args in
     let e = number-at (a .t1) (a .t) in
     (e, rw e (c .before .before .pre (a .t)))
 
--- src/lib.rt:24:1
 returns-2 : tie.Need-returns-2
 returns-2 c =
     let a = c .before .args in

@@ -22,24 +22,19 @@ Inv-loop img d n m st₀ i₀ st i =
 abbrev μ-loop : tie.MeasureT-loop
 μ-loop img d n m st₀ i₀ st i = n - i
 
--- src/lib.rt:142:5
 loop-holds : tie.Need-loop-holds Inv-loop μ-loop
 unfolding view stackOf
 loop-holds c = (search needs, search needs, search needs, left-start _ _ _ _)
 
--- src/lib.rt:143:36
 add-word : tie.Need-add-word Inv-loop μ-loop
 add-word c = search needs
 
--- src/lib.rt:143:26
 word-requires : tie.Need-word-requires Inv-loop μ-loop
 word-requires c κs = search needs
 
--- src/lib.rt:143:9
 step-requires : tie.Need-step-requires Inv-loop μ-loop
 step-requires c κs = search needs
 
--- src/lib.rt:145:13
 returns : tie.Need-returns Inv-loop μ-loop
 returns c =
     let l = c .before .before .before .before .before .loop in
@@ -47,15 +42,12 @@ returns c =
     let s = left-turn (shapes (a .m)) (wordAt (a .img .now)) (a .d) (a .n) (l .i) _ _ _ (search needs) (c .before .before .before .word .ensures .0) (c .before .before .step .ensures .0) (l .inv .3) in
     laws.fails _ _ _ _ _ _ (not-true _ (c .if1 .taken)) s
 
--- src/lib.rt:147:9
 add-i : tie.Need-add-i Inv-loop μ-loop
 add-i c = search needs
 
--- src/lib.rt:142:5
 loop-less : tie.Need-loop-less Inv-loop μ-loop
 loop-less c = search needs
 
--- src/lib.rt:142:5
 loop-again : tie.Need-loop-again Inv-loop μ-loop
 loop-again c =
     let l = c .before .before .before .before .before .loop in
@@ -63,7 +55,6 @@ loop-again c =
     let s = left-turn (shapes (a .m)) (wordAt (a .img .now)) (a .d) (a .n) (l .i) _ _ _ (search needs) (c .before .before .before .word .ensures .0) (c .before .before .step .ensures .0) (l .inv .3) in
     (search needs, search needs, not-false _ (c .if1 .left), s)
 
--- src/lib.rt:136:1
 returns-2 : tie.Need-returns-2 Inv-loop μ-loop
 returns-2 c =
     let l = c .before .before .loop in

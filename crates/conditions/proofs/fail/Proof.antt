@@ -6,7 +6,6 @@ use Rattle.conditions.proofs.fail.Tie as tie
 use Rattle.conditions.proofs.fail.Reads as reads
 use Rattle.conditions.proofs.fail.Lts as lts
 
--- src/lib.rt:50:1
 returns : tie.Need-returns
 unfolding view
 returns c = (refl, search needs)

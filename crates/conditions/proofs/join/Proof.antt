@@ -10,62 +10,48 @@ use Rattle.conditions.proofs.fail.Reads as fail-reads
 use Rattle.conditions.proofs.opening.Reads as opening-reads
 use Rattle.conditions.proofs.push.Reads as push-reads
 
--- src/lib.rt:100:9
 fail-requires : tie.Need-fail-requires
 fail-requires c κs = search needs
 
--- src/lib.rt:100:9
 returns : tie.Need-returns
 returns c = ((λ m o e. c .fail .ensures .0 ∙ laws.few-is m o _ _ (c .before .if1 .taken)), search needs)
 
--- src/lib.rt:102:23
 sub-b : tie.Need-sub-b
 sub-b c = search needs
 
--- src/lib.rt:102:13
 mul-b : tie.Need-mul-b
 mul-b c = search needs
 
--- src/lib.rt:102:13
 element-copy-out-b : tie.Need-element-copy-out-b
 element-copy-out-b c = search needs
 
--- src/lib.rt:103:13
 mul-a : tie.Need-mul-a
 mul-a c = search needs
 
--- src/lib.rt:103:13
 element-copy-out-a : tie.Need-element-copy-out-a
 element-copy-out-a c = search needs
 
--- src/lib.rt:104:9
 opening-requires : tie.Need-opening-requires
 opening-requires c κs = search needs
 
--- src/lib.rt:105:21
 sub-opening : tie.Need-sub-opening
 sub-opening c = search needs
 
--- src/lib.rt:105:9
 opening-requires-2 : tie.Need-opening-requires-2
 opening-requires-2 c κs = search needs
 
--- src/lib.rt:107:9
 push-requires : tie.Need-push-requires
 push-requires c κs = search needs
 
--- src/lib.rt:107:9
 returns-2 : tie.Need-returns-2
 returns-2 c =
     let p = c .before .before .before .opening .ensures in
     let q = c .before .before .opening2 .ensures in
     ((λ m o e. c .push .ensures .0 m ∙ laws.join-is m o _ _ _ _ (omega arith) e (omega arith)), search needs)
 
--- src/lib.rt:109:5
 push-requires-2 : tie.Need-push-requires-2
 push-requires-2 c κs = search needs
 
--- src/lib.rt:93:1
 returns-3 : tie.Need-returns-3
 returns-3 c =
     let p = c .before .before .before .opening .ensures in

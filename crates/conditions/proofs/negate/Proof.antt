@@ -13,44 +13,34 @@ use Rattle.conditions.proofs.negated_form.Reads as negated-form-reads
 use Rattle.conditions.proofs.opening.Reads as opening-reads
 use Rattle.conditions.proofs.push.Reads as push-reads
 
--- src/lib.rt:85:9
 fail-requires : tie.Need-fail-requires
 fail-requires c κs = search needs
 
--- src/lib.rt:85:9
 returns : tie.Need-returns
 unfolding unary stackOf
 returns c = ((λ m. simp (c .before .if1 .taken) (c .fail .ensures .0)), search needs)
 
--- src/lib.rt:87:23
 sub-a : tie.Need-sub-a
 sub-a c = search needs
 
--- src/lib.rt:87:13
 mul-a : tie.Need-mul-a
 mul-a c = search needs
 
--- src/lib.rt:87:13
 element-copy-out-a : tie.Need-element-copy-out-a
 element-copy-out-a c = search needs
 
--- src/lib.rt:88:9
 opening-requires : tie.Need-opening-requires
 opening-requires c κs = search needs
 
--- src/lib.rt:89:14
 sub-push : tie.Need-sub-push
 sub-push c = search needs
 
--- src/lib.rt:89:21
 negated-form-requires : tie.Need-negated-form-requires
 negated-form-requires c κs = search needs
 
--- src/lib.rt:89:5
 push-requires : tie.Need-push-requires
 push-requires c κs = search needs
 
--- src/lib.rt:78:1
 returns-2 : tie.Need-returns-2
 returns-2 c =
     let h : 0 < c .before .before .before .before .before .args .t1 .height = omega arith in

@@ -4,11 +4,9 @@ use Rattle.conditions.proofs.negated_form.Tie as tie
 use Rattle.conditions.proofs.negated_form.Reads as reads
 use Rattle.conditions.proofs.negated_form.Lts as lts
 
--- src/lib.rt:45:9
 returns : tie.Need-returns
 returns c = simp (eq-eqb _ _ (c .if1 .taken))
 
--- src/lib.rt:41:1
 returns-2 : tie.Need-returns-2
 returns-2 c = simp (ne-eqb _ _ (c .if1 .left))
 

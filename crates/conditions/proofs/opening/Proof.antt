@@ -7,23 +7,18 @@ use Rattle.conditions.proofs.opening.Reads as reads
 use Rattle.conditions.proofs.opening.Lts as lts
 use Rattle.conditions.proofs.wide.Reads as wide-reads
 
--- src/lib.rt:36:16
 wide-requires : tie.Need-wide-requires
 wide-requires c κs = search needs
 
--- src/lib.rt:36:16
 add-result : tie.Need-add-result
 add-result c = search needs
 
--- src/lib.rt:36:9
 returns : tie.Need-returns
 returns c = simp (lt-ltb _ _ (c .before .if1 .taken)) (omega arith)
 
--- src/lib.rt:38:5
 wide-requires-2 : tie.Need-wide-requires-2
 wide-requires-2 c κs = search needs
 
--- src/lib.rt:32:1
 returns-2 : tie.Need-returns-2
 returns-2 c = simp (le-ltb _ _ (c .before .if1 .left)) (omega arith)
 

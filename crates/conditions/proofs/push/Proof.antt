@@ -12,23 +12,18 @@ use Rattle.conditions.proofs.push.Reads as reads
 use Rattle.conditions.proofs.push.Lts as lts
 use Rattle.conditions.proofs.fail.Reads as fail-reads
 
--- src/lib.rt:69:54
 cast-t8 : tie.Need-cast-t8
 cast-t8 c = search needs
 
--- src/lib.rt:69:13
 mul-t10 : tie.Need-mul-t10
 mul-t10 c = search needs
 
--- src/lib.rt:69:13
 element-set-from-r : tie.Need-element-set-from-r
 element-set-from-r c = search needs
 
--- src/lib.rt:70:24
 add-r : tie.Need-add-r
 add-r c = search needs
 
--- src/lib.rt:71:13
 returns : tie.Need-returns
 unfolding view added
 returns c =
@@ -44,20 +39,16 @@ returns c =
       search needs,
     )
 
--- src/lib.rt:73:9
 fail-requires : tie.Need-fail-requires
 fail-requires c κs = search needs
 
--- src/lib.rt:73:9
 returns-2 : tie.Need-returns-2
 unfolding view added
 returns-2 c = ((λ m. simp (le-leb _ _ (c .before .before .if1 .taken), length-stack, le-ltb _ _ (c .before .if2 .left)) (c .fail .ensures .0)), search needs)
 
--- src/lib.rt:75:5
 fail-requires-2 : tie.Need-fail-requires-2
 fail-requires-2 c κs = search needs
 
--- src/lib.rt:61:1
 returns-3 : tie.Need-returns-3
 unfolding view added
 returns-3 c = ((λ m. simp (lt-leb _ _ (c .before .if1 .left)) (c .fail2 .ensures .0)), search needs)

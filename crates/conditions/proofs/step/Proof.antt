@@ -13,56 +13,44 @@ use Rattle.conditions.proofs.join.Reads as join-reads
 use Rattle.conditions.proofs.negate.Reads as negate-reads
 use Rattle.conditions.proofs.push.Reads as push-reads
 
--- src/lib.rt:119:13
 push-requires : tie.Need-push-requires
 push-requires c κs = search needs
 
--- src/lib.rt:119:13
 returns : tie.Need-returns
 unfolding view turn step
 returns c = (simp (c .before .before .before .pre .1, le-leb _ _ (c .before .before .if1 .taken), lt-ltb _ _ (c .before .if2 .taken)) (c .push .ensures .0 _), search needs)
 
--- src/lib.rt:121:9
 fail-requires : tie.Need-fail-requires
 fail-requires c κs = search needs
 
--- src/lib.rt:121:9
 returns-2 : tie.Need-returns-2
 unfolding view turn step
 returns-2 c = (simp (c .before .before .before .pre .1, le-leb _ _ (c .before .before .if1 .taken), le-ltb _ _ (c .before .if2 .left)) (c .fail .ensures .0), search needs)
 
--- src/lib.rt:124:9
 negate-requires : tie.Need-negate-requires
 negate-requires c κs = search needs
 
--- src/lib.rt:124:9
 returns-3 : tie.Need-returns-3
 unfolding view turn step
 returns-3 c = (simp (c .before .before .before .pre .1, lt-leb _ _ (c .before .before .if1 .left), eq-eqb _ _ (c .before .if3 .taken)) (c .negate .ensures .0 _), search needs)
 
--- src/lib.rt:127:9
 join-requires : tie.Need-join-requires
 join-requires c κs = search needs
 
--- src/lib.rt:127:9
 returns-4 : tie.Need-returns-4
 unfolding view turn step
 returns-4 c = (simp (c .before .before .before .before .pre .1, lt-leb _ _ (c .before .before .before .if1 .left), ne-eqb _ _ (c .before .before .if3 .left), eq-eqb _ _ (c .before .if4 .taken)) (c .join .ensures .0 _ and refl), search needs)
 
--- src/lib.rt:130:9
 join-requires-2 : tie.Need-join-requires-2
 join-requires-2 c κs = search needs
 
--- src/lib.rt:130:9
 returns-5 : tie.Need-returns-5
 unfolding view turn step
 returns-5 c = (simp (c .before .before .before .before .before .pre .1, lt-leb _ _ (c .before .before .before .before .if1 .left), ne-eqb _ _ (c .before .before .before .if3 .left), ne-eqb _ _ (c .before .before .if4 .left), eq-eqb _ _ (c .before .if5 .taken)) (c .join2 .ensures .0 _ or refl), search needs)
 
--- src/lib.rt:132:5
 fail-requires-2 : tie.Need-fail-requires-2
 fail-requires-2 c κs = search needs
 
--- src/lib.rt:112:1
 returns-6 : tie.Need-returns-6
 unfolding view turn step
 returns-6 c = (simp (c .before .before .before .before .before .pre .1, lt-leb _ _ (c .before .before .before .before .if1 .left), ne-eqb _ _ (c .before .before .before .if3 .left), ne-eqb _ _ (c .before .before .if4 .left), ne-eqb _ _ (c .before .if5 .left)) (c .fail2 .ensures .0), search needs)

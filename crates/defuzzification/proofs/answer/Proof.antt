@@ -85,47 +85,36 @@ positions-are c =
     let r = reads-are w3 in
     c .before .positions-of .ensures ∙ (λ j. map (λ s. s .at) (tab (singletonAt (wordAt (t .args .img .now))) (r .1 j) (r .0 j)))
 
--- src/lib.rt:89:15
 word-requires : tie.Need-word-requires
 word-requires c κs = search needs
 
--- src/lib.rt:89:31
 mul-row : tie.Need-mul-row
 mul-row c = omega (arith, numbers (c .before .before))
 
--- src/lib.rt:89:15
 add-row : tie.Need-add-row
 add-row c = omega (arith, numbers (c .before .before))
 
--- src/lib.rt:90:27
 add-word : tie.Need-add-word
 add-word c = omega (arith, numbers (c .before .before))
 
--- src/lib.rt:90:9
 word-requires-2 : tie.Need-word-requires-2
 word-requires-2 c κs = omega (arith, numbers (c .before .before))
 
--- src/lib.rt:91:23
 add-word-2 : tie.Need-add-word-2
 add-word-2 c = omega (arith, numbers (c .before .before .before))
 
--- src/lib.rt:91:9
 word-requires-3 : tie.Need-word-requires-3
 word-requires-3 c κs = omega (arith, numbers (c .before .before .before))
 
--- src/lib.rt:92:9
 positions-of-requires : tie.Need-positions-of-requires
 positions-of-requires c κs = omega (arith, numbers (c .before .before .before .before), reads-are c, c .before .word2 .ensures .1)
 
--- src/lib.rt:93:29
 sub-heights-of : tie.Need-sub-heights-of
 sub-heights-of c = omega (arith, numbers (c .before .before .before .before .before), reads-are (c .before), c .before .before .before .before .before .pre .2)
 
--- src/lib.rt:93:9
 heights-of-requires : tie.Need-heights-of-requires
 heights-of-requires c κs = omega (arith, numbers (c .before .before .before .before .before), reads-are (c .before), c .before .before .before .before .before .pre .2)
 
--- src/lib.rt:94:9
 centre-of-requires : tie.Need-centre-of-requires
 centre-of-requires c κs =
     let w3 = c .before .before in
@@ -137,11 +126,9 @@ centre-of-requires c κs =
       (λ k h. subst (λ (z : ℕ). z ≤ M) (sym (element (λ d. d .0) (c .heights-of .result) (heightOf (t .args .hs) 0) (w3 .word3 .result) (w3 .before .word2 .result - t .args .m) k (record { 0 = 0 }) (c .heights-of .ensures) h)) (t .pre .3 _)),
     )
 
--- src/lib.rt:96:9
 without-rule-requires : tie.Need-without-rule-requires
 without-rule-requires c κs = omega (arith, numbers (c .before .before .before .before .before .before .before .before .before))
 
--- src/lib.rt:96:9
 returns : tie.Need-returns
 returns c =
     let h = c .before .before .before .before in
@@ -151,11 +138,9 @@ returns c =
     ∙ unfired-is (outputAt w (t .args .i)) (tab (heightOf (t .args .hs) (t .args .m)) (outputCount w (t .args .i)) (outputFirst w (t .args .i))) (t .args .held .0) (c .before .before .before .centre-of .result .sum)
     (c .before .before .before .centre-of .ensures .0 .0 ∙ ap sumOf (heights-are h)) (c .before .if1 .taken)
 
--- src/lib.rt:99:9
 to-float-requires : tie.Need-to-float-requires
 to-float-requires c κs = search needs
 
--- src/lib.rt:85:1
 returns-2 : tie.Need-returns-2
 returns-2 c =
     let e = c .before .before .before .before in

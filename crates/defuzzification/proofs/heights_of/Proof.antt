@@ -18,40 +18,31 @@ Inv-loop from n hs r₀ i₀ r i = (i ≤ n) × (length r ≡ 7) × (heights r i
 abbrev μ-loop : tie.MeasureT-loop
 μ-loop from n hs r₀ i₀ r i = n - i
 
--- src/lib.rt:51:5
 loop-holds : tie.Need-loop-holds Inv-loop μ-loop
 unfolding tab
 loop-holds c = (search needs, refl, refl)
 
--- src/lib.rt:52:20
 add-h : tie.Need-add-h Inv-loop μ-loop
 add-h c = search needs
 
--- src/lib.rt:52:17
 mul-h : tie.Need-mul-h Inv-loop μ-loop
 mul-h c = search needs
 
--- src/lib.rt:52:17
 array-copy-out-h : tie.Need-array-copy-out-h Inv-loop μ-loop
 array-copy-out-h c = search needs
 
--- src/lib.rt:53:9
 mul-r : tie.Need-mul-r Inv-loop μ-loop
 mul-r c = search needs
 
--- src/lib.rt:53:9
 array-set-from-r : tie.Need-array-set-from-r Inv-loop μ-loop
 array-set-from-r c = search needs
 
--- src/lib.rt:54:9
 add-i : tie.Need-add-i Inv-loop μ-loop
 add-i c = search needs
 
--- src/lib.rt:51:5
 loop-less : tie.Need-loop-less Inv-loop μ-loop
 loop-less c = search needs
 
--- src/lib.rt:51:5
 loop-again : tie.Need-loop-again Inv-loop μ-loop
 loop-again c =
     let l = c .before .before .loop in
@@ -62,7 +53,6 @@ loop-again c =
       fill (λ d. d .0) (heightOf (a .t1) 0) (a .from) (l .i) (l .r) (getD (a .t1) (a .from + l .i) (record { 0 = 0 })) h (l .inv .2) (ap (λ (k : ℕ). getD (a .t1) k (record { 0 = 0 }) .0) (omega arith)),
     )
 
--- src/lib.rt:45:1
 returns : tie.Need-returns Inv-loop μ-loop
 returns c =
     let l = c .before .loop in

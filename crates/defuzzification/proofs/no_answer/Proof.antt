@@ -5,7 +5,6 @@ use Rattle.defuzzification.proofs.no_answer.Tie as tie
 use Rattle.defuzzification.proofs.no_answer.Reads as reads
 use Rattle.defuzzification.proofs.no_answer.Lts as lts
 
--- src/lib.rt:109:1
 returns : tie.Need-returns
 unfolding ofBits
 returns c = refl

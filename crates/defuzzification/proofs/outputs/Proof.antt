@@ -30,15 +30,12 @@ Inv-loop img hs m was answers₀ figures₀ n i₀ answers figures i =
 abbrev μ-loop : tie.MeasureT-loop
 μ-loop img hs m was answers₀ figures₀ n i₀ answers figures i = n - i
 
--- src/lib.rt:132:24
 no-answer-requires : tie.Need-no-answer-requires Inv-loop μ-loop
 no-answer-requires c κs = search needs
 
--- src/lib.rt:134:9
 word-requires : tie.Need-word-requires Inv-loop μ-loop
 word-requires c κs = search needs
 
--- src/lib.rt:136:5
 loop-holds : tie.Need-loop-holds Inv-loop μ-loop
 unfolding tab
 loop-holds c =
@@ -46,46 +43,36 @@ loop-holds c =
     let e = c .before .no-answer .ensures in
     (search needs, omega (arith, outputs-few (wordAt (t .args .img .now)) (t .pre .0), c .word .ensures .0), (λ j. e j ∷ e j ∷ e j ∷ e j ∷ e j ∷ e j ∷ []), refl)
 
--- src/lib.rt:137:39
 mul-answer : tie.Need-mul-answer Inv-loop μ-loop
 mul-answer c = search needs
 
--- src/lib.rt:137:39
 array-copy-out-answer : tie.Need-array-copy-out-answer Inv-loop μ-loop
 array-copy-out-answer c = search needs
 
--- src/lib.rt:137:13
 answer-requires : tie.Need-answer-requires Inv-loop μ-loop
 answer-requires c κs =
     let l = c .before .before in
     let t = l .before .before .before .before in
     (t .pre .0, omega (arith, l .before .word .ensures .0), t .pre .1, t .pre .2)
 
--- src/lib.rt:138:9
 mul-answers : tie.Need-mul-answers Inv-loop μ-loop
 mul-answers c = search needs
 
--- src/lib.rt:138:9
 array-set-from-answers : tie.Need-array-set-from-answers Inv-loop μ-loop
 array-set-from-answers c = search needs
 
--- src/lib.rt:140:9
 mul-figures : tie.Need-mul-figures Inv-loop μ-loop
 mul-figures c = search needs
 
--- src/lib.rt:140:9
 array-set-from-figures : tie.Need-array-set-from-figures Inv-loop μ-loop
 array-set-from-figures c = search needs
 
--- src/lib.rt:141:9
 add-i : tie.Need-add-i Inv-loop μ-loop
 add-i c = search needs
 
--- src/lib.rt:136:5
 loop-less : tie.Need-loop-less Inv-loop μ-loop
 loop-less c = search needs
 
--- src/lib.rt:136:5
 loop-again : tie.Need-loop-again Inv-loop μ-loop
 unfolding answerAt
 loop-again c =
@@ -103,7 +90,6 @@ loop-again c =
           ∙ fill-front (λ j. f j .thousandths) (record { 0 = pos 0 }) (c .before .answer .result .thousandths) 6 i h (ap (λ (a : Answer). a .thousandths) e),
     )
 
--- src/lib.rt:127:1
 returns : tie.Need-returns Inv-loop μ-loop
 returns c =
     let l = c .before in

@@ -8,43 +8,33 @@ use Rattle.defuzzification.proofs.position.Lts as lts
 use Rattle.words.proofs.crisp_at.Reads as crisp-at-reads
 use Rattle.words.proofs.word.Reads as word-reads
 
--- src/lib.rt:25:27
 word-requires : tie.Need-word-requires
 word-requires c κs = search needs
 
--- src/lib.rt:25:43
 mul-word : tie.Need-mul-word
 mul-word c = search needs
 
--- src/lib.rt:25:27
 add-word : tie.Need-add-word
 add-word c = search needs
 
--- src/lib.rt:25:27
 add-word-2 : tie.Need-add-word-2
 add-word-2 c = search needs
 
--- src/lib.rt:25:9
 word-requires-2 : tie.Need-word-requires-2
 word-requires-2 c κs = search needs
 
--- src/lib.rt:26:19
 word-requires-3 : tie.Need-word-requires-3
 word-requires-3 c κs = search needs
 
--- src/lib.rt:26:35
 mul-crisp-at : tie.Need-mul-crisp-at
 mul-crisp-at c = search needs
 
--- src/lib.rt:26:19
 add-crisp-at : tie.Need-add-crisp-at
 add-crisp-at c = search needs
 
--- src/lib.rt:26:5
 crisp-at-requires : tie.Need-crisp-at-requires
 crisp-at-requires c κs = search needs
 
--- src/lib.rt:21:1
 returns : tie.Need-returns
 unfolding singletonAt pointAt
 returns c = c .crisp-at .ensures ∙ rw (← c .before .before .before .word .ensures .0, ← c .before .before .word2 .ensures .0, ← c .before .word3 .ensures .0) refl

@@ -20,36 +20,28 @@ Inv-loop img first n ps₀ i₀ ps i = (i ≤ n) × (length ps ≡ 7) × (positi
 abbrev μ-loop : tie.MeasureT-loop
 μ-loop img first n ps₀ i₀ ps i = n - i
 
--- src/lib.rt:36:5
 loop-holds : tie.Need-loop-holds Inv-loop μ-loop
 unfolding tab
 loop-holds c = (search needs, refl, refl)
 
--- src/lib.rt:37:31
 add-position : tie.Need-add-position Inv-loop μ-loop
 add-position c = search needs
 
--- src/lib.rt:37:13
 position-requires : tie.Need-position-requires Inv-loop μ-loop
 position-requires c κs = search needs
 
--- src/lib.rt:38:9
 mul-ps : tie.Need-mul-ps Inv-loop μ-loop
 mul-ps c = search needs
 
--- src/lib.rt:38:9
 array-set-from-ps : tie.Need-array-set-from-ps Inv-loop μ-loop
 array-set-from-ps c = search needs
 
--- src/lib.rt:39:9
 add-i : tie.Need-add-i Inv-loop μ-loop
 add-i c = search needs
 
--- src/lib.rt:36:5
 loop-less : tie.Need-loop-less Inv-loop μ-loop
 loop-less c = search needs
 
--- src/lib.rt:36:5
 loop-again : tie.Need-loop-again Inv-loop μ-loop
 loop-again c =
     let l = c .before .before .loop in
@@ -60,7 +52,6 @@ loop-again c =
       fill (λ x. x .0) (λ k. singletonAt (wordAt (a .img .now)) k .at) (a .first) (l .i) (l .ps) (c .position .result) h (l .inv .2) (c .position .ensures),
     )
 
--- src/lib.rt:30:1
 returns : tie.Need-returns Inv-loop μ-loop
 returns c =
     let l = c .before .loop in

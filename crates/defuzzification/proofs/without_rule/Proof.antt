@@ -11,50 +11,39 @@ use Rattle.crisp.proofs.to_float.Reads as to-float-reads
 use Rattle.words.proofs.crisp_at.Reads as crisp-at-reads
 use Rattle.words.proofs.word.Reads as word-reads
 
--- src/lib.rt:64:15
 word-requires : tie.Need-word-requires
 word-requires c κs = search needs
 
--- src/lib.rt:64:31
 mul-row : tie.Need-mul-row
 mul-row c = search needs
 
--- src/lib.rt:64:15
 add-row : tie.Need-add-row
 add-row c = search needs
 
--- src/lib.rt:65:18
 add-word : tie.Need-add-word
 add-word c = search needs
 
--- src/lib.rt:65:8
 word-requires-2 : tie.Need-word-requires-2
 word-requires-2 c κs = search needs
 
--- src/lib.rt:66:13
 to-float-requires : tie.Need-to-float-requires
 to-float-requires c κs = search needs
 
--- src/lib.rt:67:9
 returns : tie.Need-returns
 unfolding outputAt
 returns c =
     let b = c .before .before in
     simp (sym (b .before .word .ensures .0), sym (b .word2 .ensures .0), eq-eqb _ _ (c .before .if1 .taken), c .to-float .ensures)
 
--- src/lib.rt:74:27
 add-crisp-at : tie.Need-add-crisp-at
 add-crisp-at c = search needs
 
--- src/lib.rt:74:9
 crisp-at-requires : tie.Need-crisp-at-requires
 crisp-at-requires c κs = search needs
 
--- src/lib.rt:75:9
 to-float-requires-2 : tie.Need-to-float-requires-2
 to-float-requires-2 c κs = search needs
 
--- src/lib.rt:60:1
 returns-2 : tie.Need-returns-2
 unfolding outputAt
 returns-2 c =

@@ -13,26 +13,21 @@ use Rattle.evaluation.proofs.evaluate_accepted.Reads as evaluate-accept
 use Rattle.evaluation.proofs.refused.Reads as refused-reads
 use Rattle.load.proofs.examine.Reads as examine-reads
 
--- src/lib.rt:74:9
 examine-requires : tie.Need-examine-requires
 examine-requires c κs = search needs
 
--- src/lib.rt:77:9
 evaluate-accepted-requires : tie.Need-evaluate-accepted-requires
 evaluate-accepted-requires c κs = c .before .examine .ensures .1 (c .if1 .taken)
 
--- src/lib.rt:77:9
 returns : tie.Need-returns
 returns c =
     let a = c .before .before .before .before .args in
     subst (λ (o : Outcome Evaluated). Tells (c .evaluate-accepted .result) (a .before) o)
     (sym (evaluate-yes (a .img .now) (a .rs) (a .n) (a .before) (sym (c .before .before .examine .ensures .0) ∙ c .before .if1 .taken))) (c .evaluate-accepted .ensures)
 
--- src/lib.rt:79:5
 refused-requires : tie.Need-refused-requires
 refused-requires c κs = search needs
 
--- src/lib.rt:71:1
 returns-2 : tie.Need-returns-2
 returns-2 c =
     let a = c .before .before .before .before .args in

@@ -33,95 +33,91 @@ use Rattle.words.proofs.word.Reads as word-reads
 inputs-are : (c : tie.After-word) → length (decode (wordAt (c .before .before .args .img .now)) .inputs) ≡ c .word .result
 inputs-are c = inputs-count (wordAt (c .before .before .args .img .now)) ∙ sym (c .word .ensures .0)
 
-count-right : (c : tie.Else1) → c .before .before .before .args .n ≡ length (decode (wordAt (c .before .before .before .args .img .now)) .inputs)
-count-right c = c .if1 .left ∙ sym (inputs-are (c .before))
+count-right : (c : tie.Else1) → c .before .before .before .before .before .args .n ≡ length (decode (wordAt (c .before .before .before .before .before .args .img .now)) .inputs)
+count-right c = c .if1 .left ∙ sym (inputs-are (c .before .before .before))
 
--- src/lib.rt:44:9
+held-right : (c : tie.Else2) →
+    let a = c .before .before .before .before .before .before .args in
+    heldOk (decode (wordAt (a .img .now)) .outputs) (figuresOf (a .before)) ≡ true
+held-right c = sym (c .before .before .record-ok .ensures) ∙ not-false (c .before .before .record-ok .result) (c .if2 .left)
+
 word-requires : tie.Need-word-requires
 word-requires c κs = search needs
 
--- src/lib.rt:46:9
+record-ok-requires : tie.Need-record-ok-requires
+record-ok-requires c κs = search needs
+
 refused-requires : tie.Need-refused-requires
 refused-requires c κs = search needs
 
--- src/lib.rt:46:9
 returns : tie.Need-returns
 returns c =
-    let w = c .before .before in
+    let w = c .before .before .before .before in
     let a = w .before .before .args in
     let b = decode (wordAt (a .img .now)) in
     subst (λ (r : Evaluation). Tells r (a .before) (called b (a .rs) (a .n) (a .before))) (sym (c .refused .ensures))
     (tells-12 (a .before) (called b (a .rs) (a .n) (a .before)) (called-12 b (a .rs) (a .n) (a .before) (λ e. c .before .if1 .taken (e ∙ inputs-are w))))
 
--- src/lib.rt:49:9
-record-ok-requires : tie.Need-record-ok-requires
-record-ok-requires c κs = search needs
-
--- src/lib.rt:50:9
 refused-requires-2 : tie.Need-refused-requires-2
 refused-requires-2 c κs = search needs
 
--- src/lib.rt:50:9
 returns-2 : tie.Need-returns-2
 returns-2 c =
-    let e = c .before .before .before .before in
-    let a = e .before .before .before .args in
+    let e = c .before .before in
+    let a = e .before .before .before .before .before .args in
     let b = decode (wordAt (a .img .now)) in
     subst (λ (r : Evaluation). Tells r (a .before) (called b (a .rs) (a .n) (a .before))) (sym (c .refused2 .ensures))
     (tells-13 (a .before) (called b (a .rs) (a .n) (a .before))
-      (called-13 b (a .rs) (a .n) (a .before) (count-right e) (sym (c .before .before .record-ok .ensures) ∙ not-true (c .before .before .record-ok .result) (c .before .if2 .taken))))
+    (called-13 b (a .rs) (a .n) (a .before) (count-right e) (sym (e .before .record-ok .ensures) ∙ not-true (e .before .record-ok .result) (c .before .if2 .taken))))
 
--- src/lib.rt:52:9
 input-values-requires : tie.Need-input-values-requires
 input-values-requires c κs = search needs
 
--- src/lib.rt:55:9
 refused-requires-3 : tie.Need-refused-requires-3
 refused-requires-3 c κs = search needs
 
--- src/lib.rt:55:9
 returns-3 : tie.Need-returns-3
 returns-3 c =
-    let e = c .before .before .before .before .before .before in
-    let a = e .before .before .before .args in
+    let k = c .before .before .before in
+    let e = k .before in
+    let a = e .before .before .before .before .before .args in
     let b = decode (wordAt (a .img .now)) in
     let v = c .before .before .input-values in
-    let h : v .result .wrong < length (b .inputs) = omega (arith, inputs-are (e .before), c .before .if3 .taken) in
+    let h : v .result .wrong < length (b .inputs) = omega (arith, inputs-are (e .before .before .before), c .before .if3 .taken) in
     subst (λ (r : Evaluation). Tells r (a .before) (called b (a .rs) (a .n) (a .before))) (sym (c .refused3 .ensures))
     (tells-14 (a .before) (called b (a .rs) (a .n) (a .before)) (v .result .wrong)
-      (called-14 b (a .rs) (a .n) (a .before) (count-right e) (sym (c .before .before .before .before .record-ok .ensures) ∙ not-false (c .before .before .before .before .record-ok .result) (c .before .before .before .if2 .left)) (subst (λ (k : ℕ). k < length (b .inputs)) (v .ensures .0) h)
-       ∙ ap (λ (k : ℕ). refused 14 (some k)) (sym (v .ensures .0))))
+    (called-14 b (a .rs) (a .n) (a .before) (count-right e) (held-right k) (subst (λ (k : ℕ). k < length (b .inputs)) (v .ensures .0) h)
+    ∙ ap (λ (k : ℕ). refused 14 (some k)) (sym (v .ensures .0))))
 
--- src/lib.rt:58:9
 term-degrees-requires : tie.Need-term-degrees-requires
 term-degrees-requires c κs = search needs
 
--- src/lib.rt:59:9
 heights-requires : tie.Need-heights-requires
 heights-requires c κs = search needs
 
--- src/lib.rt:60:9
 outputs-requires : tie.Need-outputs-requires
 outputs-requires c κs =
     let t = c .before .before .before .before .before .before .before .before .before .before .before in
     (t .pre .0, t .pre .1, (λ k. subst (λ (x : ℕ). x ≤ M) (sym (number-at (c .heights .result) k)) (c .heights .ensures .1 k)))
 
--- src/lib.rt:40:1
 returns-4 : tie.Need-returns-4
 returns-4 c =
-    let e = c .before .before .before .before .before .before .before .before .before .before .before in
-    let t = e .before .before .before in
+    let o = c .before .before .outputs in
+    let p = c .before .before .before in
+    let d = p .before in
+    let i = d .before .before in
+    let k = i .before .before in
+    let e = k .before in
+    let t = e .before .before .before .before .before in
     let a = t .args in
     let w = wordAt (a .img .now) in
     let b = decode w in
-    let v = c .before .before .before .before .before .before .before .input-values in
-    let A = answers b (map orZero (valuesOf (b .inputs) (a .rs))) (figuresOf (a .before)) in
-    let l : length (b .inputs) ≤ v .result .wrong = omega (arith, inputs-are (e .before), c .before .before .before .before .before .before .if3 .left) in
-    let g = answers-are w (t .pre .0) (a .rs) (figuresOf (a .before)) (a .m) (t .pre .1) (v .result .wrong) (v .result .at) (c .before .before .before .before .term-degrees .result) (c .before .before .before .heights .result)
-        (omega (arith, l, inputs-count w)) (v .ensures .1 .0) (c .before .before .before .before .term-degrees .ensures .0) (c .before .before .before .heights .ensures .0) in
-    let o = c .before .before .outputs in
+    let v = i .before .input-values in
+    let l : length (b .inputs) ≤ v .result .wrong = omega (arith, inputs-are (e .before .before .before), i .if3 .left) in
+    let g = answers-are w (t .pre .0) (a .rs) (figuresOf (a .before)) (a .m) (t .pre .1) (v .result .wrong) (v .result .at) (d .term-degrees .result) (p .heights .result)
+    (omega (arith, l, inputs-count w)) (v .ensures .1 .0) (d .term-degrees .ensures .0) (p .heights .ensures .0) in
     subst (λ (x : Outcome Evaluated). Tells (record { verdict = Accepted; answers = o .result .answers; held = o .result .held }) (a .before) x)
-    (sym (called-ok b (a .rs) (a .n) (a .before) (count-right e) (sym (c .before .before .before .before .before .before .before .before .before .record-ok .ensures) ∙ not-false (c .before .before .before .before .before .before .before .before .before .record-ok .result) (c .before .before .before .before .before .before .before .before .if2 .left)) (subst (λ (k : ℕ). length (b .inputs) ≤ k) (v .ensures .0) l)))
+    (sym (called-ok b (a .rs) (a .n) (a .before) (count-right e) (held-right k) (subst (λ (k : ℕ). length (b .inputs) ≤ k) (v .ensures .0) l)))
     (record { verdict = refl; answers = o .ensures .0 ∙ ap (padded noAnswer) g; held = o .ensures .1 ∙ ap (λ (x : List Answer). heldOf (map (λ y. y .thousandths .0) x)) g })
 
 pub evaluate-accepted-spec : {M : Type 1} → statement M
@@ -129,9 +125,9 @@ evaluate-accepted-spec =
     tie.close
     (tie.spec
     word-requires
+    record-ok-requires
     refused-requires
     returns
-    record-ok-requires
     refused-requires-2
     returns-2
     input-values-requires

@@ -12,21 +12,17 @@ use Rattle.evaluation.proofs.fresh_of.Lts as lts
 use Rattle.held.proofs.fresh_record.Reads as fresh-record-reads
 use Rattle.load.proofs.examine.Reads as examine-reads
 
--- src/lib.rt:86:9
 examine-requires : tie.Need-examine-requires
 examine-requires c κs = search needs
 
--- src/lib.rt:88:13
 fresh-record-requires : tie.Need-fresh-record-requires
 fresh-record-requires c κs = c .before .examine .ensures .1 (c .if1 .taken) .0
 
--- src/lib.rt:89:9
 returns : tie.Need-returns
 returns c =
     let e = fresh-yes (c .before .before .before .before .args .img .now) (sym (c .before .before .examine .ensures .0) ∙ c .before .if1 .taken) in
     (ap (λ (o : Outcome Held). verdictIn o) (sym e), c .fresh-record .ensures ∙ ap recordIn (sym e))
 
--- src/lib.rt:83:1
 returns-2 : tie.Need-returns-2
 returns-2 c =
     let e = fresh-no (c .before .before .before .args .img .now) (sym (c .before .examine .ensures .0) ∙ c .if1 .left) in

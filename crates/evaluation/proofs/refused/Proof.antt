@@ -7,11 +7,9 @@ use Rattle.evaluation.proofs.refused.Reads as reads
 use Rattle.evaluation.proofs.refused.Lts as lts
 use Rattle.defuzzification.proofs.no_answer.Reads as no-answer-reads
 
--- src/lib.rt:31:9
 no-answer-requires : tie.Need-no-answer-requires
 no-answer-requires c κs = search needs
 
--- src/lib.rt:28:1
 returns : tie.Need-returns
 returns c =
     let e = c .no-answer .ensures in

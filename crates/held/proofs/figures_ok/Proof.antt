@@ -22,23 +22,18 @@ Inv-loop img n was i₀ i = (i ≤ n) × (all (fits (wordAt img) was) (tab (λ j
 abbrev μ-loop : tie.MeasureT-loop
 μ-loop img n was i₀ i = n - i
 
--- src/lib.rt:71:5
 loop-holds : tie.Need-loop-holds Inv-loop μ-loop
 loop-holds c = (search needs, ap (λ (k : ℕ). all (fits (wordAt (c .before .args .img .now)) (c .before .args .t2)) (tab (λ j. j) k 0)) (omega arith))
 
--- src/lib.rt:72:17
 mul-x : tie.Need-mul-x Inv-loop μ-loop
 mul-x c = search needs
 
--- src/lib.rt:72:17
 array-copy-out-x : tie.Need-array-copy-out-x Inv-loop μ-loop
 array-copy-out-x c = search needs
 
--- src/lib.rt:73:13
 in-bounds-requires : tie.Need-in-bounds-requires Inv-loop μ-loop
 in-bounds-requires c κs = search needs
 
--- src/lib.rt:74:13
 returns : tie.Need-returns Inv-loop μ-loop
 unfolding fits
 returns c =
@@ -48,11 +43,9 @@ returns c =
     sym (all-stop (fits w (a .t2)) (λ j. j) (a .n) (l .loop .i) (search needs)
     (ap (λ (b : Bool). b && inRange (outputAt w (l .loop .i) .range) (figureAt (a .t2) (l .loop .i))) (sym (c .before .in-bounds .ensures) ∙ not-true (c .before .in-bounds .result) (c .if1 .taken)))) ∙ l .loop .inv .1
 
--- src/lib.rt:76:13
 in-range-requires : tie.Need-in-range-requires Inv-loop μ-loop
 in-range-requires c κs = search needs
 
--- src/lib.rt:77:13
 returns-2 : tie.Need-returns-2 Inv-loop μ-loop
 unfolding fits
 returns-2 c =
@@ -61,15 +54,12 @@ returns-2 c =
     sym (all-stop (fits (wordAt (a .img .now)) (a .t2)) (λ j. j) (a .n) (l .loop .i) (search needs)
     (λ k. (sym (c .before .before .before .in-bounds .ensures) ∙ not-false (c .before .before .before .in-bounds .result) (c .before .before .if1 .left)) k && (sym (c .before .in-range .ensures) ∙ not-true (c .before .in-range .result) (c .if2 .taken)) k)) ∙ l .loop .inv .1
 
--- src/lib.rt:79:9
 add-i : tie.Need-add-i Inv-loop μ-loop
 add-i c = search needs
 
--- src/lib.rt:71:5
 loop-less : tie.Need-loop-less Inv-loop μ-loop
 loop-less c = search needs
 
--- src/lib.rt:71:5
 loop-again : tie.Need-loop-again Inv-loop μ-loop
 unfolding fits
 loop-again c =
@@ -80,7 +70,6 @@ loop-again c =
           (λ k. (sym (c .before .before .before .in-bounds .ensures) ∙ not-false (c .before .before .before .in-bounds .result) (c .before .before .if1 .left)) k && (sym (c .before .in-range .ensures) ∙ not-false (c .before .in-range .result) (c .if2 .left)) k)) ∙ l .loop .inv .1,
     )
 
--- src/lib.rt:66:1
 returns-3 : tie.Need-returns-3 Inv-loop μ-loop
 returns-3 c =
     let l = c .before in

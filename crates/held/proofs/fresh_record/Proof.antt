@@ -26,36 +26,28 @@ Inv-loop img figures₀ n i₀ figures i =
 abbrev μ-loop : tie.MeasureT-loop
 μ-loop img figures₀ n i₀ figures i = n - i
 
--- src/lib.rt:127:9
 word-requires : tie.Need-word-requires Inv-loop μ-loop
 word-requires c κs = search needs
 
--- src/lib.rt:129:5
 loop-holds : tie.Need-loop-holds Inv-loop μ-loop
 unfolding tab
 loop-holds c = (search needs, omega (arith, outputs-few (wordAt (c .before .before .args .img .now)) (c .before .before .pre), c .word .ensures .0), refl)
 
--- src/lib.rt:130:13
 start-of-requires : tie.Need-start-of-requires Inv-loop μ-loop
 start-of-requires c κs = search needs
 
--- src/lib.rt:131:9
 mul-figures : tie.Need-mul-figures Inv-loop μ-loop
 mul-figures c = search needs
 
--- src/lib.rt:131:9
 array-set-from-figures : tie.Need-array-set-from-figures Inv-loop μ-loop
 array-set-from-figures c = search needs
 
--- src/lib.rt:132:9
 add-i : tie.Need-add-i Inv-loop μ-loop
 add-i c = search needs
 
--- src/lib.rt:129:5
 loop-less : tie.Need-loop-less Inv-loop μ-loop
 loop-less c = search needs
 
--- src/lib.rt:129:5
 loop-again : tie.Need-loop-again Inv-loop μ-loop
 loop-again c =
     let l = c .before .before in
@@ -68,7 +60,6 @@ loop-again c =
           ∙ fill-front (λ j. record { 0 = startOf (outputAt (wordAt (t .args .img .now)) j .range) }) (record { 0 = pos 0 }) (c .start-of .result) 6 i h (ap (λ (z : ℤ). record { 0 = z }) (c .start-of .ensures)),
     )
 
--- src/lib.rt:122:1
 returns : tie.Need-returns Inv-loop μ-loop
 unfolding freshOf decode
 returns c =

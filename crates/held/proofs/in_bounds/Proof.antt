@@ -10,21 +10,17 @@ use Rattle.held.proofs.in_bounds.Reads as reads
 use Rattle.held.proofs.in_bounds.Lts as lts
 use Rattle.crisp.proofs.not_above.Reads as not-above-reads
 
--- src/lib.rt:25:8
 not-above-requires : tie.Need-not-above-requires
 not-above-requires c κs = search needs
 
--- src/lib.rt:26:9
 not-above-requires-2 : tie.Need-not-above-requires-2
 not-above-requires-2 c κs = search needs
 
--- src/lib.rt:26:9
 returns : tie.Need-returns
 returns c =
     let z = c .before .before .before .args .x .0 in
     c .not-above2 .ensures ∙ sym (bounds z ∙ ap (λ (b : Bool). b && leZ z (pos 1000000000)) (sym (c .before .before .not-above .ensures) ∙ c .before .if1 .taken))
 
--- src/lib.rt:22:1
 returns-2 : tie.Need-returns-2
 returns-2 c =
     let z = c .before .before .args .x .0 in

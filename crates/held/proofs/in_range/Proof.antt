@@ -10,63 +10,49 @@ use Rattle.crisp.proofs.not_above.Reads as not-above-reads
 use Rattle.words.proofs.crisp_at.Reads as crisp-at-reads
 use Rattle.words.proofs.word.Reads as word-reads
 
--- src/lib.rt:36:15
 word-requires : tie.Need-word-requires
 word-requires c κs = search needs
 
--- src/lib.rt:36:31
 mul-row : tie.Need-mul-row
 mul-row c = search needs
 
--- src/lib.rt:36:15
 add-row : tie.Need-add-row
 add-row c = search needs
 
--- src/lib.rt:37:18
 add-word : tie.Need-add-word
 add-word c = search needs
 
--- src/lib.rt:37:8
 word-requires-2 : tie.Need-word-requires-2
 word-requires-2 c κs = search needs
 
--- src/lib.rt:38:9
 returns : tie.Need-returns
 unfolding outputAt
 returns c = simp (sym (c .before .before .word .ensures .0), sym (c .before .word2 .ensures .0), eq-eqb _ _ (c .if1 .taken))
 
--- src/lib.rt:40:32
 add-crisp-at : tie.Need-add-crisp-at
 add-crisp-at c = search needs
 
--- src/lib.rt:40:18
 crisp-at-requires : tie.Need-crisp-at-requires
 crisp-at-requires c κs = search needs
 
--- src/lib.rt:40:8
 not-above-requires : tie.Need-not-above-requires
 not-above-requires c κs = search needs
 
--- src/lib.rt:41:43
 add-crisp-at-2 : tie.Need-add-crisp-at-2
 add-crisp-at-2 c = search needs
 
--- src/lib.rt:41:29
 crisp-at-requires-2 : tie.Need-crisp-at-requires-2
 crisp-at-requires-2 c κs = search needs
 
--- src/lib.rt:41:9
 not-above-requires-2 : tie.Need-not-above-requires-2
 not-above-requires-2 c κs = search needs
 
--- src/lib.rt:41:9
 returns-2 : tie.Need-returns-2
 unfolding outputAt
 returns-2 c =
     simp (sym (c .before .before .before .before .before .before .before .word .ensures .0), sym (c .before .before .before .before .before .before .word2 .ensures .0), ne-eqb _ _ (c .before .before .before .before .before .if1 .left), sym (c .before .before .before .before .crisp-at .ensures), sym (c .before .crisp-at2 .ensures), sym (c .before .before .before .not-above .ensures) ∙ c .before .before .if2 .taken)
     (c .not-above2 .ensures)
 
--- src/lib.rt:32:1
 returns-3 : tie.Need-returns-3
 unfolding outputAt
 returns-3 c =

@@ -8,19 +8,15 @@ use Rattle.held.proofs.is_zero.Lts as lts
 use Rattle.crisp.proofs.less.Reads as less-reads
 use Rattle.crisp.proofs.not_above.Reads as not-above-reads
 
--- src/lib.rt:103:8
 less-requires : tie.Need-less-requires
 less-requires c κs = search needs
 
--- src/lib.rt:104:9
 returns : tie.Need-returns
 returns c = sym (zero-below (c .before .before .args .x .0) (sym (c .before .less .ensures) ∙ c .if1 .taken))
 
--- src/lib.rt:106:5
 not-above-requires : tie.Need-not-above-requires
 not-above-requires c κs = search needs
 
--- src/lib.rt:100:1
 returns-2 : tie.Need-returns-2
 returns-2 c = c .not-above .ensures ∙ sym (zero-not-below (c .before .before .before .args .x .0) (sym (c .before .before .less .ensures) ∙ c .before .if1 .left))
 

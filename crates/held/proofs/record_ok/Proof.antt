@@ -38,26 +38,21 @@ tests c =
     held-tests w (t .args .was) (w 3) l (outputs-few w (t .pre))
     ∙ (λ j. all (fits w (t .args .was)) (tab (λ x. x) (sym e j) 0) && all (isZero (t .args .was)) (tab (λ x. x) (6 - sym e j) (sym e j)))
 
--- src/lib.rt:114:9
 word-requires : tie.Need-word-requires
 word-requires c κs = search needs
 
--- src/lib.rt:115:9
 figures-ok-requires : tie.Need-figures-ok-requires
 figures-ok-requires c κs = few c
 
--- src/lib.rt:116:9
 returns : tie.Need-returns
 returns c =
     let w = c .before .before in
     let t = w .before .before in
     sym (tests w ∙ ap (λ (b : Bool). b && all (isZero (t .args .was)) (tab (λ j. j) (6 - w .word .result) (w .word .result))) (sym (c .before .figures-ok .ensures) ∙ not-true (c .before .figures-ok .result) (c .if1 .taken)))
 
--- src/lib.rt:118:5
 zero-from-requires : tie.Need-zero-from-requires
 zero-from-requires c κs = few (c .before .before)
 
--- src/lib.rt:110:1
 returns-2 : tie.Need-returns-2
 returns-2 c =
     let w = c .before .before .before in

@@ -10,68 +10,53 @@ use Rattle.crisp.proofs.less.Reads as less-reads
 use Rattle.words.proofs.crisp_at.Reads as crisp-at-reads
 use Rattle.words.proofs.word.Reads as word-reads
 
--- src/lib.rt:51:15
 word-requires : tie.Need-word-requires
 word-requires c κs = search needs
 
--- src/lib.rt:51:31
 mul-row : tie.Need-mul-row
 mul-row c = search needs
 
--- src/lib.rt:51:15
 add-row : tie.Need-add-row
 add-row c = search needs
 
--- src/lib.rt:52:18
 add-word : tie.Need-add-word
 add-word c = search needs
 
--- src/lib.rt:52:8
 word-requires-2 : tie.Need-word-requires-2
 word-requires-2 c κs = search needs
 
--- src/lib.rt:53:9
 returns : tie.Need-returns
 unfolding outputAt
 returns c = simp (sym (c .before .before .word .ensures .0), sym (c .before .word2 .ensures .0), eq-eqb _ _ (c .if1 .taken))
 
--- src/lib.rt:55:31
 add-crisp-at : tie.Need-add-crisp-at
 add-crisp-at c = search needs
 
--- src/lib.rt:55:9
 crisp-at-requires : tie.Need-crisp-at-requires
 crisp-at-requires c κs = search needs
 
--- src/lib.rt:56:8
 less-requires : tie.Need-less-requires
 less-requires c κs = search needs
 
--- src/lib.rt:57:9
 returns-2 : tie.Need-returns-2
 unfolding outputAt
 returns-2 c =
     simp (sym (c .before .before .before .before .before .word .ensures .0), sym (c .before .before .before .before .word2 .ensures .0), ne-eqb _ _ (c .before .before .before .if1 .left), sym (c .before .before .crisp-at .ensures), sym (c .before .less .ensures) ∙ c .if2 .taken)
 
--- src/lib.rt:59:30
 add-crisp-at-2 : tie.Need-add-crisp-at-2
 add-crisp-at-2 c = search needs
 
--- src/lib.rt:59:9
 crisp-at-requires-2 : tie.Need-crisp-at-requires-2
 crisp-at-requires-2 c κs = search needs
 
--- src/lib.rt:60:8
 less-requires-2 : tie.Need-less-requires-2
 less-requires-2 c κs = search needs
 
--- src/lib.rt:61:9
 returns-3 : tie.Need-returns-3
 unfolding outputAt
 returns-3 c =
     simp (sym (c .before .before .before .before .before .before .before .before .word .ensures .0), sym (c .before .before .before .before .before .before .before .word2 .ensures .0), ne-eqb _ _ (c .before .before .before .before .before .before .if1 .left), sym (c .before .before .before .before .before .crisp-at .ensures), sym (c .before .before .before .before .less .ensures) ∙ c .before .before .before .if2 .left, sym (c .before .before .crisp-at2 .ensures), sym (c .before .less2 .ensures) ∙ c .if3 .taken)
 
--- src/lib.rt:47:1
 returns-4 : tie.Need-returns-4
 unfolding outputAt
 returns-4 c =

@@ -20,45 +20,36 @@ Inv-loop n was i₀ i = (i ≤ 6) × (all (isZero was) (tab (λ j. j) (6 - i) i)
 abbrev μ-loop : tie.MeasureT-loop
 μ-loop n was i₀ i = 6 - i
 
--- src/lib.rt:90:5
 loop-holds : tie.Need-loop-holds Inv-loop μ-loop
 loop-holds c = (search needs, refl)
 
--- src/lib.rt:91:17
 mul-x : tie.Need-mul-x Inv-loop μ-loop
 mul-x c = search needs
 
--- src/lib.rt:91:17
 array-copy-out-x : tie.Need-array-copy-out-x Inv-loop μ-loop
 array-copy-out-x c = search needs
 
--- src/lib.rt:92:13
 is-zero-requires : tie.Need-is-zero-requires Inv-loop μ-loop
 is-zero-requires c κs = search needs
 
--- src/lib.rt:93:13
 returns : tie.Need-returns Inv-loop μ-loop
 unfolding isZero
 returns c =
     let l = c .before .before .before .before in
     sym (all-stop (isZero (l .before .args .t1)) (λ j. j) 6 (l .loop .i) (search needs) (sym (c .before .is-zero .ensures) ∙ not-true (c .before .is-zero .result) (c .if1 .taken))) ∙ l .loop .inv .1
 
--- src/lib.rt:95:9
 add-i : tie.Need-add-i Inv-loop μ-loop
 add-i c = search needs
 
--- src/lib.rt:90:5
 loop-less : tie.Need-loop-less Inv-loop μ-loop
 loop-less c = search needs
 
--- src/lib.rt:90:5
 loop-again : tie.Need-loop-again Inv-loop μ-loop
 unfolding isZero
 loop-again c =
     let l = c .before .before .before .before in
     (search needs, sym (all-more (isZero (l .before .args .t1)) (λ j. j) 6 (l .loop .i) (search needs) (sym (c .before .is-zero .ensures) ∙ not-false (c .before .is-zero .result) (c .if1 .left))) ∙ l .loop .inv .1)
 
--- src/lib.rt:85:1
 returns-2 : tie.Need-returns-2 Inv-loop μ-loop
 returns-2 c =
     let l = c .before in

@@ -7,15 +7,12 @@ use Rattle.load.proofs.check.Reads as reads
 use Rattle.load.proofs.check.Lts as lts
 use Rattle.load.proofs.examine.Reads as examine-reads
 
--- src/lib.rt:53:9
 examine-requires : tie.Need-examine-requires
 examine-requires c κs = search needs
 
--- src/lib.rt:55:9
 returns : tie.Need-returns
 returns c = verdict-yes (c .before .before .before .args .img .now) (sym (c .before .examine .ensures .0) ∙ c .if1 .taken)
 
--- src/lib.rt:50:1
 returns-2 : tie.Need-returns-2
 returns-2 c = verdict-no (c .before .before .before .args .img .now) (sym (c .before .examine .ensures .0) ∙ c .if1 .left)
 

@@ -23,49 +23,40 @@ small c k = omega (arith, c .before .shared-slice-known .given k)
 framed : (c : tie.Else2) → frameOk (wordAt (c .before .before .before .before .before .before .args .img .now)) ≡ true
 framed c = sym (c .before .before .frame .ensures .0 .0) ∙ not-false (c .before .before .frame .result .ok) (c .if2 .left)
 
--- src/lib.rt:23:9
 word-requires : tie.Need-word-requires
 word-requires c κs = search needs
 
--- src/lib.rt:24:21
 mul-if1 : tie.Need-mul-if1
 mul-if1 c = search needs
 
--- src/lib.rt:25:9
 returns : tie.Need-returns
 returns c =
     let w = c .before in
     (sym (wrong-length (w .before .before .args .img .now) (small w) (w .word .result) (w .word .ensures .0) (c .if1 .taken)), (λ e. clash e))
 
--- src/lib.rt:30:9
 frame-requires : tie.Need-frame-requires
 frame-requires c κs = search needs
 
--- src/lib.rt:32:9
 returns-2 : tie.Need-returns-2
 returns-2 c =
     let f = c .before .before in
     let w = f .before .before in
     (sym (no-frame (w .before .before .args .img .now) (small w) (sym (f .frame .ensures .0 .0) ∙ not-true (f .frame .result .ok) (c .if2 .taken))), (λ e. clash e))
 
--- src/lib.rt:37:9
 variables-ok-requires : tie.Need-variables-ok-requires
 variables-ok-requires c κs = framed c
 
--- src/lib.rt:38:9
 returns-3 : tie.Need-returns-3
 returns-3 c =
     let w = c .before .before .before .before .before .before in
     (sym (no-variables (w .before .before .args .img .now) (small w) (sym (c .before .variables-ok .ensures) ∙ not-true (c .before .variables-ok .result) (c .if3 .taken))), (λ e. clash e))
 
--- src/lib.rt:45:13
 rules-ok-requires : tie.Need-rules-ok-requires
 rules-ok-requires c κs =
     let e = c .before .before in
     let f = e .before .before in
     (framed e, f .frame .ensures .0 .1 (not-false (f .frame .result .ok) (e .if2 .left)), f .frame .ensures .1)
 
--- src/lib.rt:19:1
 returns-4 : tie.Need-returns-4
 returns-4 c =
     let e = c .before .before .before in

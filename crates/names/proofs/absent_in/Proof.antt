@@ -20,31 +20,24 @@ Inv-loop t a b c d i₀ i = (i ≤ 42) × (absent same (a ∷ b ∷ c ∷ d ∷ 
 abbrev μ-loop : tie.MeasureT-loop
 μ-loop t a b c d i₀ i = 42 - i
 
--- src/lib.rt:141:5
 loop-holds : tie.Need-loop-holds Inv-loop μ-loop
 loop-holds c = (search needs, refl)
 
--- src/lib.rt:142:12
 same-at-requires : tie.Need-same-at-requires Inv-loop μ-loop
 same-at-requires c κs = search needs
 
--- src/lib.rt:143:13
 returns : tie.Need-returns Inv-loop μ-loop
 returns c = sym (all-stop (λ y. not (same (c .before .before .before .before .args .a ∷ c .before .before .before .before .args .b ∷ c .before .before .before .before .args .c ∷ c .before .before .before .before .args .d ∷ []) y)) (rowOf (c .before .before .before .before .args .t .now)) 42 (c .before .before .before .loop .i) (omega arith) (ap not (sym (c .before .same-at .ensures) ∙ c .if1 .taken))) ∙ c .before .before .before .loop .inv .1
 
--- src/lib.rt:145:9
 add-i : tie.Need-add-i Inv-loop μ-loop
 add-i c = search needs
 
--- src/lib.rt:141:5
 loop-less : tie.Need-loop-less Inv-loop μ-loop
 loop-less c = search needs
 
--- src/lib.rt:141:5
 loop-again : tie.Need-loop-again Inv-loop μ-loop
 loop-again c = (search needs, sym (all-more (λ y. not (same (c .before .before .before .before .args .a ∷ c .before .before .before .before .args .b ∷ c .before .before .before .before .args .c ∷ c .before .before .before .before .args .d ∷ []) y)) (rowOf (c .before .before .before .before .args .t .now)) 42 (c .before .before .before .loop .i) (omega arith) (ap not (sym (c .before .same-at .ensures) ∙ c .if1 .left))) ∙ c .before .before .before .loop .inv .1)
 
--- src/lib.rt:137:1
 returns-2 : tie.Need-returns-2 Inv-loop μ-loop
 returns-2 c = sym (all-end (λ y. not (same (c .before .before .args .a ∷ c .before .before .args .b ∷ c .before .before .args .c ∷ c .before .before .args .d ∷ []) y)) (rowOf (c .before .before .args .t .now)) 42 (c .before .loop .i) (c .loop-test .left)) ∙ c .before .loop .inv .1
 

@@ -20,39 +20,30 @@ Inv-loop img o q s i n j₀ j = (i ≤ j) × (absent same (tab (wordAt img) 4 o)
 abbrev μ-loop : tie.MeasureT-loop
 μ-loop img o q s i n j₀ j = n - j
 
--- src/lib.rt:194:5
 loop-holds : tie.Need-loop-holds Inv-loop μ-loop
 loop-holds c = (search needs, refl)
 
--- src/lib.rt:195:34
 mul-same-name : tie.Need-mul-same-name Inv-loop μ-loop
 mul-same-name c = search (needs, entry (c .before .loop .j) (c .before .before .before .args .s) (omega arith) (omega arith))
 
--- src/lib.rt:195:30
 add-same-name : tie.Need-add-same-name Inv-loop μ-loop
 add-same-name c = search (needs, entry (c .before .loop .j) (c .before .before .before .args .s) (omega arith) (omega arith))
 
--- src/lib.rt:195:12
 same-name-requires : tie.Need-same-name-requires Inv-loop μ-loop
 same-name-requires c κs = search (needs, entry (c .before .loop .j) (c .before .before .before .args .s) (omega arith) (omega arith))
 
--- src/lib.rt:196:13
 returns : tie.Need-returns Inv-loop μ-loop
 returns c = sym (all-stop (λ y. not (same (tab (wordAt (c .before .before .before .before .before .args .img .now)) 4 (c .before .before .before .before .before .args .o)) y)) (wordsIn (wordAt (c .before .before .before .before .before .args .img .now)) (c .before .before .before .before .before .args .q) (c .before .before .before .before .before .args .s)) (c .before .before .before .before .before .args .n) (c .before .before .before .loop .j) (omega arith) (ap not (sym (c .before .same-name .ensures) ∙ c .if1 .taken))) ∙ c .before .before .before .loop .inv .1
 
--- src/lib.rt:198:9
 add-j : tie.Need-add-j Inv-loop μ-loop
 add-j c = search needs
 
--- src/lib.rt:194:5
 loop-less : tie.Need-loop-less Inv-loop μ-loop
 loop-less c = search needs
 
--- src/lib.rt:194:5
 loop-again : tie.Need-loop-again Inv-loop μ-loop
 loop-again c = (search needs, sym (all-more (λ y. not (same (tab (wordAt (c .before .before .before .before .before .args .img .now)) 4 (c .before .before .before .before .before .args .o)) y)) (wordsIn (wordAt (c .before .before .before .before .before .args .img .now)) (c .before .before .before .before .before .args .q) (c .before .before .before .before .before .args .s)) (c .before .before .before .before .before .args .n) (c .before .before .before .loop .j) (omega arith) (ap not (sym (c .before .same-name .ensures) ∙ c .if1 .left))) ∙ c .before .before .before .loop .inv .1)
 
--- src/lib.rt:189:1
 returns-2 : tie.Need-returns-2 Inv-loop μ-loop
 returns-2 c = sym (all-end (λ y. not (same (tab (wordAt (c .before .before .before .args .img .now)) 4 (c .before .before .before .args .o)) y)) (wordsIn (wordAt (c .before .before .before .args .img .now)) (c .before .before .before .args .q) (c .before .before .before .args .s)) (c .before .before .before .args .n) (c .before .loop .j) (c .loop-test .left)) ∙ c .before .loop .inv .1
 

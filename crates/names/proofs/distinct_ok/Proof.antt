@@ -20,43 +20,33 @@ Inv-loop img o s n i₀ i = (i ≤ n) × (distinct same (tab (wordsIn (wordAt im
 abbrev μ-loop : tie.MeasureT-loop
 μ-loop img o s n i₀ i = n - i
 
--- src/lib.rt:209:5
 loop-holds : tie.Need-loop-holds Inv-loop μ-loop
 loop-holds c = (search needs, rw sub-zero)
 
--- src/lib.rt:210:32
 mul-absent-ok : tie.Need-mul-absent-ok Inv-loop μ-loop
 mul-absent-ok c = search (needs, entry (c .before .loop .i) (c .before .before .before .args .s) (omega arith) (omega arith))
 
--- src/lib.rt:210:28
 add-absent-ok : tie.Need-add-absent-ok Inv-loop μ-loop
 add-absent-ok c = search (needs, entry (c .before .loop .i) (c .before .before .before .args .s) (omega arith) (omega arith))
 
--- src/lib.rt:210:45
 add-absent-ok-2 : tie.Need-add-absent-ok-2 Inv-loop μ-loop
 add-absent-ok-2 c = search needs
 
--- src/lib.rt:210:13
 absent-ok-requires : tie.Need-absent-ok-requires Inv-loop μ-loop
 absent-ok-requires c κs = search (needs, entry (c .before .loop .i) (c .before .before .before .args .s) (omega arith) (omega arith))
 
--- src/lib.rt:211:13
 returns : tie.Need-returns Inv-loop μ-loop
 returns c = sym (distinct-stop same (wordsIn (wordAt (c .before .before .before .before .before .args .img .now)) (c .before .before .before .before .before .args .o) (c .before .before .before .before .before .args .s)) (c .before .before .before .before .before .args .n) (c .before .before .before .loop .i) (omega arith) (sym (c .before .absent-ok .ensures) ∙ not-true _ (c .if1 .taken))) ∙ c .before .before .before .loop .inv .1
 
--- src/lib.rt:213:9
 add-i : tie.Need-add-i Inv-loop μ-loop
 add-i c = search needs
 
--- src/lib.rt:209:5
 loop-less : tie.Need-loop-less Inv-loop μ-loop
 loop-less c = search needs
 
--- src/lib.rt:209:5
 loop-again : tie.Need-loop-again Inv-loop μ-loop
 loop-again c = (search needs, sym (distinct-more same (wordsIn (wordAt (c .before .before .before .before .before .args .img .now)) (c .before .before .before .before .before .args .o) (c .before .before .before .before .before .args .s)) (c .before .before .before .before .before .args .n) (c .before .before .before .loop .i) (omega arith) (sym (c .before .absent-ok .ensures) ∙ not-false _ (c .if1 .left))) ∙ c .before .before .before .loop .inv .1)
 
--- src/lib.rt:204:1
 returns-2 : tie.Need-returns-2 Inv-loop μ-loop
 returns-2 c = sym (distinct-end same (wordsIn (wordAt (c .before .before .before .args .img .now)) (c .before .before .before .args .o) (c .before .before .before .args .s)) (c .before .before .before .args .n) (c .before .loop .i) (c .loop-test .left)) ∙ c .before .loop .inv .1
 

@@ -11,47 +11,36 @@ use Rattle.names.proofs.no_keyword.Reads as no-keyword-reads
 use Rattle.names.proofs.spelt_ok.Reads as spelt-ok-reads
 use Rattle.words.proofs.word.Reads as word-reads
 
--- src/lib.rt:162:9
 word-requires : tie.Need-word-requires
 word-requires c κs = search needs
 
--- src/lib.rt:163:30
 add-word : tie.Need-add-word
 add-word c = search needs
 
--- src/lib.rt:163:9
 word-requires-2 : tie.Need-word-requires-2
 word-requires-2 c κs = search needs
 
--- src/lib.rt:164:30
 add-word-2 : tie.Need-add-word-2
 add-word-2 c = search needs
 
--- src/lib.rt:164:9
 word-requires-3 : tie.Need-word-requires-3
 word-requires-3 c κs = search needs
 
--- src/lib.rt:165:30
 add-word-3 : tie.Need-add-word-3
 add-word-3 c = search needs
 
--- src/lib.rt:165:9
 word-requires-4 : tie.Need-word-requires-4
 word-requires-4 c κs = search needs
 
--- src/lib.rt:166:9
 spelt-ok-requires : tie.Need-spelt-ok-requires
 spelt-ok-requires c κs = search needs
 
--- src/lib.rt:167:9
 returns : tie.Need-returns
 returns c = sym (stored (wordAt (c .before .before .before .before .before .before .before .args .img .now)) (c .before .before .before .before .before .before .before .args .o) (c .before .before .before .before .before .word .ensures .0) (c .before .before .before .before .word2 .ensures .0) (c .before .before .before .word3 .ensures .0) (c .before .before .word4 .ensures .0) ∙ simp (sym (c .before .spelt-ok .ensures) ∙ not-true _ (c .if1 .taken)))
 
--- src/lib.rt:169:5
 no-keyword-requires : tie.Need-no-keyword-requires
 no-keyword-requires c κs = search needs
 
--- src/lib.rt:158:1
 returns-2 : tie.Need-returns-2
 returns-2 c = c .no-keyword .ensures ∙ sym (stored (wordAt (c .before .before .before .before .before .before .before .before .args .img .now)) (c .before .before .before .before .before .before .before .before .args .o) (c .before .before .before .before .before .before .word .ensures .0) (c .before .before .before .before .before .word2 .ensures .0) (c .before .before .before .before .word3 .ensures .0) (c .before .before .before .word4 .ensures .0) ∙ simp (sym (c .before .before .spelt-ok .ensures) ∙ not-false _ (c .before .if1 .left)))
 

@@ -9,11 +9,9 @@ use Rattle.names.proofs.no_keyword.Reads as reads
 use Rattle.names.proofs.no_keyword.Lts as lts
 use Rattle.names.proofs.absent_in.Reads as absent-in-reads
 
--- src/lib.rt:154:5
 absent-in-requires : tie.Need-absent-in-requires
 absent-in-requires c κs = search needs
 
--- src/lib.rt:151:1
 returns : tie.Need-returns
 unfolding keywordWords gather keywords nameWords wordAt tab
 returns c = c .absent-in .ensures

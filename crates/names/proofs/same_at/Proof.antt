@@ -9,70 +9,54 @@ use Rattle.names.proofs.same_at.Tie as tie
 use Rattle.names.proofs.same_at.Reads as reads
 use Rattle.names.proofs.same_at.Lts as lts
 
--- src/lib.rt:125:13
 mul-if1 : tie.Need-mul-if1
 mul-if1 c = search needs
 
--- src/lib.rt:125:13
 index-1-if1 : tie.Need-index-1-if1
 index-1-if1 c = search needs
 
--- src/lib.rt:125:13
 index-2-if1 : tie.Need-index-2-if1
 index-2-if1 c = search needs
 
--- src/lib.rt:126:9
 returns : tie.Need-returns
 unfolding tab
 returns c = differs-1 (λ j. getD (c .before .before .args .a ∷ c .before .before .args .b ∷ c .before .before .args .c ∷ c .before .before .args .d ∷ []) j 0) (λ j. getD (getD (c .before .before .args .t .now) (c .before .before .args .i) []) j 0) 0 0 refl refl (c .if1 .taken)
 
--- src/lib.rt:128:13
 mul-if2 : tie.Need-mul-if2
 mul-if2 c = search needs
 
--- src/lib.rt:128:13
 index-1-if2 : tie.Need-index-1-if2
 index-1-if2 c = search needs
 
--- src/lib.rt:128:13
 index-2-if2 : tie.Need-index-2-if2
 index-2-if2 c = search needs
 
--- src/lib.rt:129:9
 returns-2 : tie.Need-returns-2
 unfolding tab
 returns-2 c = differs-2 (λ j. getD (c .before .before .before .before .args .a ∷ c .before .before .before .before .args .b ∷ c .before .before .before .before .args .c ∷ c .before .before .before .before .args .d ∷ []) j 0) (λ j. getD (getD (c .before .before .before .before .args .t .now) (c .before .before .before .before .args .i) []) j 0) 0 0 (c .before .before .if1 .left) refl refl (c .if2 .taken)
 
--- src/lib.rt:131:13
 mul-if3 : tie.Need-mul-if3
 mul-if3 c = search needs
 
--- src/lib.rt:131:13
 index-1-if3 : tie.Need-index-1-if3
 index-1-if3 c = search needs
 
--- src/lib.rt:131:13
 index-2-if3 : tie.Need-index-2-if3
 index-2-if3 c = search needs
 
--- src/lib.rt:132:9
 returns-3 : tie.Need-returns-3
 unfolding tab
 returns-3 c = differs-3 (λ j. getD (c .before .before .before .before .before .before .args .a ∷ c .before .before .before .before .before .before .args .b ∷ c .before .before .before .before .before .before .args .c ∷ c .before .before .before .before .before .before .args .d ∷ []) j 0) (λ j. getD (getD (c .before .before .before .before .before .before .args .t .now) (c .before .before .before .before .before .before .args .i) []) j 0) 0 0 (c .before .before .before .before .if1 .left) (c .before .before .if2 .left) refl refl (c .if3 .taken)
 
--- src/lib.rt:134:10
 mul-result : tie.Need-mul-result
 mul-result c = search needs
 
--- src/lib.rt:134:10
 index-1-result : tie.Need-index-1-result
 index-1-result c = search needs
 
--- src/lib.rt:134:10
 index-2-result : tie.Need-index-2-result
 index-2-result c = search needs
 
--- src/lib.rt:121:1
 returns-4 : tie.Need-returns-4
 unfolding tab
 returns-4 c = only-last (λ j. getD (c .before .before .before .before .before .before .before .args .a ∷ c .before .before .before .before .before .before .before .args .b ∷ c .before .before .before .before .before .before .before .args .c ∷ c .before .before .before .before .before .before .before .args .d ∷ []) j 0) (λ j. getD (getD (c .before .before .before .before .before .before .before .args .t .now) (c .before .before .before .before .before .before .before .args .i) []) j 0) 0 0 (c .before .before .before .before .before .if1 .left) (c .before .before .before .if2 .left) (c .before .if3 .left) refl refl

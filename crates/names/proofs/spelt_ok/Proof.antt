@@ -8,27 +8,21 @@ use Rattle.names.proofs.spelt_ok.Lts as lts
 use Rattle.names.proofs.steps_of.Reads as steps-of-reads
 use Rattle.names.proofs.within.Reads as within-reads
 
--- src/lib.rt:117:40
 steps-of-requires : tie.Need-steps-of-requires
 steps-of-requires c κs = search needs
 
--- src/lib.rt:117:31
 steps-of-requires-2 : tie.Need-steps-of-requires-2
 steps-of-requires-2 c κs = search needs
 
--- src/lib.rt:117:22
 steps-of-requires-3 : tie.Need-steps-of-requires-3
 steps-of-requires-3 c κs = search needs
 
--- src/lib.rt:117:9
 steps-of-requires-4 : tie.Need-steps-of-requires-4
 steps-of-requires-4 c κs = search needs
 
--- src/lib.rt:118:5
 within-requires : tie.Need-within-requires
 within-requires c κs = search needs
 
--- src/lib.rt:114:1
 returns : tie.Need-returns
 unfolding spelt
 returns c = simp (sym (c .before .before .before .before .steps-of .ensures), sym (c .before .before .before .steps-of2 .ensures), sym (c .before .before .steps-of3 .ensures), sym (c .before .steps-of4 .ensures), sym (c .within .ensures))

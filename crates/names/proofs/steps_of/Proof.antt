@@ -8,23 +8,18 @@ use Rattle.names.proofs.steps_of.Reads as reads
 use Rattle.names.proofs.steps_of.Lts as lts
 use Rattle.names.proofs.step_of.Reads as step-of-reads
 
--- src/lib.rt:188:9
 step-of-requires : tie.Need-step-of-requires
 step-of-requires c κs = search needs
 
--- src/lib.rt:189:9
 step-of-requires-2 : tie.Need-step-of-requires-2
 step-of-requires-2 c κs = search needs
 
--- src/lib.rt:190:9
 step-of-requires-3 : tie.Need-step-of-requires-3
 step-of-requires-3 c κs = search needs
 
--- src/lib.rt:191:5
 step-of-requires-4 : tie.Need-step-of-requires-4
 step-of-requires-4 c κs = search needs
 
--- src/lib.rt:185:1
 returns : tie.Need-returns
 unfolding steps
 returns c = simp (sym (c .before .before .before .step-of .ensures), sym (c .before .before .step-of2 .ensures), sym (c .before .step-of3 .ensures), sym (c .step-of4 .ensures))

@@ -11,27 +11,21 @@ use Rattle.rules.proofs.conclusion_ok.Reads as reads
 use Rattle.rules.proofs.conclusion_ok.Lts as lts
 use Rattle.words.proofs.word.Reads as word-reads
 
--- src/lib.rt:37:13
 word-requires : tie.Need-word-requires
 word-requires c κs = search needs
 
--- src/lib.rt:37:29
 mul-o : tie.Need-mul-o
 mul-o c = search needs
 
--- src/lib.rt:37:13
 add-o : tie.Need-add-o
 add-o c = search needs
 
--- src/lib.rt:38:9
 word-requires-2 : tie.Need-word-requires-2
 word-requires-2 c κs = search needs
 
--- src/lib.rt:39:8
 word-requires-3 : tie.Need-word-requires-3
 word-requires-3 c κs = search needs
 
--- src/lib.rt:40:9
 returns : tie.Need-returns
 unfolding every
 returns c =
@@ -39,35 +33,27 @@ returns c =
     let w = wordAt (a .img .now) in
     sym (conclusion-words w (c .before .before .before .before .before .pre .0) (a .i) ∙ simp (sym (c .before .before .before .word .ensures .0), sym (c .before .before .word2 .ensures .0), sym (c .before .word3 .ensures .0), le-ltb _ _ (c .if1 .taken)))
 
--- src/lib.rt:42:23
 add-word : tie.Need-add-word
 add-word c = search needs
 
--- src/lib.rt:42:9
 word-requires-4 : tie.Need-word-requires-4
 word-requires-4 c κs = search needs
 
--- src/lib.rt:43:13
 word-requires-5 : tie.Need-word-requires-5
 word-requires-5 c κs = search needs
 
--- src/lib.rt:43:29
 mul-v : tie.Need-mul-v
 mul-v c = search needs
 
--- src/lib.rt:43:13
 add-v : tie.Need-add-v
 add-v c = search needs
 
--- src/lib.rt:44:27
 add-word-2 : tie.Need-add-word-2
 add-word-2 c = search needs
 
--- src/lib.rt:44:9
 word-requires-6 : tie.Need-word-requires-6
 word-requires-6 c κs = search needs
 
--- src/lib.rt:46:9
 returns-2 : tie.Need-returns-2
 unfolding every
 returns-2 c =
@@ -75,19 +61,15 @@ returns-2 c =
     let w = wordAt (a .img .now) in
     sym (conclusion-words w (c .before .before .before .before .before .before .before .before .before .pre .0) (a .i) ∙ simp (sym (c .before .before .before .before .before .before .before .word .ensures .0), sym (c .before .before .before .before .before .before .word2 .ensures .0), sym (c .before .before .before .before .before .word3 .ensures .0), sym (c .before .before .before .word4 .ensures .0), sym (c .before .before .word5 .ensures .0), sym (c .before .word6 .ensures .0), lt-ltb _ _ (c .before .before .before .before .if1 .left), lt-leb _ _ (c .if2 .taken)))
 
--- src/lib.rt:48:27
 add-word-3 : tie.Need-add-word-3
 add-word-3 c = search needs
 
--- src/lib.rt:48:17
 word-requires-7 : tie.Need-word-requires-7
 word-requires-7 c κs = search needs
 
--- src/lib.rt:48:9
 add-result : tie.Need-add-result
 add-result c = search needs
 
--- src/lib.rt:33:1
 returns-3 : tie.Need-returns-3
 unfolding every
 returns-3 c =

@@ -19,19 +19,15 @@ Inv-loop img s k e i₀ i = all (conclusionOk (decode (wordAt img))) (tab (concl
 abbrev μ-loop : tie.MeasureT-loop
 μ-loop img s k e i₀ i = s + k - i
 
--- src/lib.rt:56:13
 add-e : tie.Need-add-e Inv-loop μ-loop
 add-e c = search needs
 
--- src/lib.rt:58:5
 loop-holds : tie.Need-loop-holds Inv-loop μ-loop
 loop-holds c = all-start _ _ _ _
 
--- src/lib.rt:59:13
 conclusion-ok-requires : tie.Need-conclusion-ok-requires Inv-loop μ-loop
 conclusion-ok-requires c κs = search needs
 
--- src/lib.rt:60:13
 returns : tie.Need-returns Inv-loop μ-loop
 returns c =
     let a = c .before .before .before .before .before .args in
@@ -39,15 +35,12 @@ returns c =
     let l = c .before .before .before .loop in
     sym (all-stop (conclusionOk (decode w)) (conclusionAt w) (a .s + a .k) (l .i) (omega arith) (sym (c .before .conclusion-ok .ensures) ∙ not-true _ (c .if1 .taken))) ∙ l .inv
 
--- src/lib.rt:62:9
 add-i : tie.Need-add-i Inv-loop μ-loop
 add-i c = search needs
 
--- src/lib.rt:58:5
 loop-less : tie.Need-loop-less Inv-loop μ-loop
 loop-less c = search needs
 
--- src/lib.rt:58:5
 loop-again : tie.Need-loop-again Inv-loop μ-loop
 loop-again c =
     let a = c .before .before .before .before .before .args in
@@ -55,7 +48,6 @@ loop-again c =
     let l = c .before .before .before .loop in
     sym (all-more (conclusionOk (decode w)) (conclusionAt w) (a .s + a .k) (l .i) (omega arith) (sym (c .before .conclusion-ok .ensures) ∙ not-false _ (c .if1 .left))) ∙ l .inv
 
--- src/lib.rt:52:1
 returns-2 : tie.Need-returns-2 Inv-loop μ-loop
 returns-2 c =
     let a = c .before .before .before .args in

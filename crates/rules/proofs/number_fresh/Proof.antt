@@ -22,43 +22,33 @@ Inv-loop img i e o number j₀ j = all (λ x. not (eqb (ruleNumber (wordAt img) 
 abbrev μ-loop : tie.MeasureT-loop
 μ-loop img i e o number j₀ j = e - j
 
--- src/lib.rt:132:9
 word-requires : tie.Need-word-requires Inv-loop μ-loop
 word-requires c κs = search needs
 
--- src/lib.rt:133:32
 mul-word : tie.Need-mul-word Inv-loop μ-loop
 mul-word c = search needs
 
--- src/lib.rt:133:28
 add-word : tie.Need-add-word Inv-loop μ-loop
 add-word c = search needs
 
--- src/lib.rt:133:9
 word-requires-2 : tie.Need-word-requires-2 Inv-loop μ-loop
 word-requires-2 c κs = search needs
 
--- src/lib.rt:134:17
 add-j : tie.Need-add-j Inv-loop μ-loop
 add-j c = search needs
 
--- src/lib.rt:135:5
 loop-holds : tie.Need-loop-holds Inv-loop μ-loop
 loop-holds c = refl
 
--- src/lib.rt:136:36
 mul-word-2 : tie.Need-mul-word-2 Inv-loop μ-loop
 mul-word-2 c = search needs
 
--- src/lib.rt:136:32
 add-word-2 : tie.Need-add-word-2 Inv-loop μ-loop
 add-word-2 c = search needs
 
--- src/lib.rt:136:22
 word-requires-3 : tie.Need-word-requires-3 Inv-loop μ-loop
 word-requires-3 c κs = search needs
 
--- src/lib.rt:137:13
 returns : tie.Need-returns Inv-loop μ-loop
 returns c =
     let a = c .before .before .before .before .before .before .before .args in
@@ -66,15 +56,12 @@ returns c =
     let l = c .before .before .before .loop in
     sym (all-stop (λ x. not (eqb (ruleNumber w (a .i)) x)) (ruleNumber w) (a .e) (l .j) (omega arith) (ap not (numbers-read w (a .i) (l .j) _ _ _ (c .before .before .before .before .before .word .ensures .0) (c .before .before .before .before .word2 .ensures .0) (c .before .word3 .ensures .0) ∙ eq-eqb _ _ (c .if1 .taken)))) ∙ l .inv
 
--- src/lib.rt:139:9
 add-j-2 : tie.Need-add-j-2 Inv-loop μ-loop
 add-j-2 c = search needs
 
--- src/lib.rt:135:5
 loop-less : tie.Need-loop-less Inv-loop μ-loop
 loop-less c = search needs
 
--- src/lib.rt:135:5
 loop-again : tie.Need-loop-again Inv-loop μ-loop
 loop-again c =
     let a = c .before .before .before .before .before .before .before .args in
@@ -82,7 +69,6 @@ loop-again c =
     let l = c .before .before .before .loop in
     sym (all-more (λ x. not (eqb (ruleNumber w (a .i)) x)) (ruleNumber w) (a .e) (l .j) (omega arith) (ap not (numbers-read w (a .i) (l .j) _ _ _ (c .before .before .before .before .before .word .ensures .0) (c .before .before .before .before .word2 .ensures .0) (c .before .word3 .ensures .0) ∙ ne-eqb _ _ (c .if1 .left)))) ∙ l .inv
 
--- src/lib.rt:128:1
 returns-2 : tie.Need-returns-2 Inv-loop μ-loop
 returns-2 c =
     let a = c .before .before .before .before .before .args in

@@ -21,15 +21,12 @@ Inv-loop img e i₀ i = distinct eqb (tab (ruleNumber (wordAt img)) (e - i) i) �
 abbrev μ-loop : tie.MeasureT-loop
 μ-loop img e i₀ i = e - i
 
--- src/lib.rt:149:5
 loop-holds : tie.Need-loop-holds Inv-loop μ-loop
 loop-holds c = rw sub-zero
 
--- src/lib.rt:150:13
 number-fresh-requires : tie.Need-number-fresh-requires Inv-loop μ-loop
 number-fresh-requires c κs = search needs
 
--- src/lib.rt:151:13
 returns : tie.Need-returns Inv-loop μ-loop
 returns c =
     let a = c .before .before .before .before .before .args in
@@ -37,15 +34,12 @@ returns c =
     let l = c .before .before .before .loop in
     sym (distinct-stop eqb (ruleNumber w) (a .e) (l .i) (omega arith) (sym (c .before .number-fresh .ensures) ∙ not-true _ (c .if1 .taken))) ∙ l .inv
 
--- src/lib.rt:153:9
 add-i : tie.Need-add-i Inv-loop μ-loop
 add-i c = search needs
 
--- src/lib.rt:149:5
 loop-less : tie.Need-loop-less Inv-loop μ-loop
 loop-less c = search needs
 
--- src/lib.rt:149:5
 loop-again : tie.Need-loop-again Inv-loop μ-loop
 loop-again c =
     let a = c .before .before .before .before .before .args in
@@ -53,7 +47,6 @@ loop-again c =
     let l = c .before .before .before .loop in
     sym (distinct-more eqb (ruleNumber w) (a .e) (l .i) (omega arith) (sym (c .before .number-fresh .ensures) ∙ not-false _ (c .if1 .left))) ∙ l .inv
 
--- src/lib.rt:144:1
 returns-2 : tie.Need-returns-2 Inv-loop μ-loop
 returns-2 c =
     let a = c .before .before .before .args in

@@ -11,49 +11,38 @@ use Rattle.rules.proofs.row_ok.Lts as lts
 use Rattle.rules.proofs.rule_ok.Reads as rule-ok-reads
 use Rattle.words.proofs.word.Reads as word-reads
 
--- src/lib.rt:94:13
 word-requires : tie.Need-word-requires
 word-requires c κs = search needs
 
--- src/lib.rt:94:29
 mul-o : tie.Need-mul-o
 mul-o c = search needs
 
--- src/lib.rt:94:13
 add-o : tie.Need-add-o
 add-o c = search needs
 
--- src/lib.rt:95:18
 add-word : tie.Need-add-word
 add-word c = search needs
 
--- src/lib.rt:95:8
 word-requires-2 : tie.Need-word-requires-2
 word-requires-2 c κs = search needs
 
--- src/lib.rt:96:9
 returns : tie.Need-returns
 unfolding rowStored every
 returns c = simp (sym (c .before .before .word .ensures .0), sym (c .before .word2 .ensures .0), ne-eqb _ _ (c .if1 .taken))
 
--- src/lib.rt:98:18
 add-word-2 : tie.Need-add-word-2
 add-word-2 c = search needs
 
--- src/lib.rt:98:8
 word-requires-3 : tie.Need-word-requires-3
 word-requires-3 c κs = search needs
 
--- src/lib.rt:99:9
 returns-2 : tie.Need-returns-2
 unfolding rowStored every
 returns-2 c = simp (sym (c .before .before .before .before .word .ensures .0), sym (c .before .before .before .word2 .ensures .0), sym (c .before .word3 .ensures .0), eq-eqb _ _ (c .before .before .if1 .left), ne-eqb _ _ (c .if2 .taken))
 
--- src/lib.rt:101:5
 rule-ok-requires : tie.Need-rule-ok-requires
 rule-ok-requires c κs = search needs
 
--- src/lib.rt:90:1
 returns-3 : tie.Need-returns-3
 unfolding rowStored every
 returns-3 c = simp (sym (c .before .before .before .before .before .word .ensures .0), sym (c .before .before .before .before .word2 .ensures .0), sym (c .before .before .word3 .ensures .0), eq-eqb _ _ (c .before .before .before .if1 .left), eq-eqb _ _ (c .before .if2 .left), sym (c .rule-ok .ensures), and-true)

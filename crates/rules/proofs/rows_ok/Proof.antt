@@ -20,19 +20,15 @@ Inv-loop img m e o n₀ k₀ i₀ n k i = (n ≤ i * 4294967295) × (k ≤ i * 4
 abbrev μ-loop : tie.MeasureT-loop
 μ-loop img m e o n₀ k₀ i₀ n k i = e - i
 
--- src/lib.rt:109:9
 word-requires : tie.Need-word-requires Inv-loop μ-loop
 word-requires c κs = search needs
 
--- src/lib.rt:113:5
 loop-holds : tie.Need-loop-holds Inv-loop μ-loop
 loop-holds c = (search needs, search needs, rw sub-zero)
 
--- src/lib.rt:114:13
 row-ok-requires : tie.Need-row-ok-requires Inv-loop μ-loop
 row-ok-requires c κs = search needs
 
--- src/lib.rt:115:13
 returns : tie.Need-returns Inv-loop μ-loop
 returns c =
     let a = c .before .before .before .before .before .before .args in
@@ -40,55 +36,42 @@ returns c =
     let l = c .before .before .before .loop in
     sym (walk-stop w (a .m) (a .e) (l .i) (l .n) (l .k) (omega arith) (sym (c .before .row-ok .ensures) ∙ not-true _ (c .if1 .taken))) ∙ l .inv .2
 
--- src/lib.rt:117:28
 mul-word : tie.Need-mul-word Inv-loop μ-loop
 mul-word c = search needs
 
--- src/lib.rt:117:24
 add-word : tie.Need-add-word Inv-loop μ-loop
 add-word c = search needs
 
--- src/lib.rt:117:24
 add-word-2 : tie.Need-add-word-2 Inv-loop μ-loop
 add-word-2 c = search needs
 
--- src/lib.rt:117:14
 word-requires-2 : tie.Need-word-requires-2 Inv-loop μ-loop
 word-requires-2 c κs = search needs
 
--- src/lib.rt:117:9
 add-n : tie.Need-add-n Inv-loop μ-loop
 add-n c = search needs
 
--- src/lib.rt:118:28
 mul-word-2 : tie.Need-mul-word-2 Inv-loop μ-loop
 mul-word-2 c = search needs
 
--- src/lib.rt:118:24
 add-word-3 : tie.Need-add-word-3 Inv-loop μ-loop
 add-word-3 c = search needs
 
--- src/lib.rt:118:24
 add-word-4 : tie.Need-add-word-4 Inv-loop μ-loop
 add-word-4 c = search needs
 
--- src/lib.rt:118:14
 word-requires-3 : tie.Need-word-requires-3 Inv-loop μ-loop
 word-requires-3 c κs = search needs
 
--- src/lib.rt:118:9
 add-k : tie.Need-add-k Inv-loop μ-loop
 add-k c = search needs
 
--- src/lib.rt:119:9
 add-i : tie.Need-add-i Inv-loop μ-loop
 add-i c = search needs
 
--- src/lib.rt:113:5
 loop-less : tie.Need-loop-less Inv-loop μ-loop
 loop-less c = search needs
 
--- src/lib.rt:113:5
 loop-again : tie.Need-loop-again Inv-loop μ-loop
 loop-again c =
     let a = c .before .before .before .before .before .before .before .before .args in
@@ -96,11 +79,9 @@ loop-again c =
     let l = c .before .before .before .before .before .loop in
     (search needs, search needs, sym (walk-more w (a .m) (a .e) (l .i) (l .n) (l .k) _ _ _ (c .before .before .before .before .before .before .word .ensures .0) (c .before .word2 .ensures .0) (c .word3 .ensures .0) (omega arith) (sym (c .before .before .before .row-ok .ensures) ∙ not-false _ (c .before .before .if1 .left))) ∙ l .inv .2)
 
--- src/lib.rt:121:13
 word-requires-4 : tie.Need-word-requires-4 Inv-loop μ-loop
 word-requires-4 c κs = search needs
 
--- src/lib.rt:122:9
 returns-2 : tie.Need-returns-2 Inv-loop μ-loop
 returns-2 c =
     let a = c .before .before .before .before .before .before .args in
@@ -108,11 +89,9 @@ returns-2 c =
     let l = c .before .before .before .loop in
     sym (walk-end w (a .m) (a .e) (l .i) (l .n) (l .k) (c .before .before .loop-test .left) ∙ simp (sym (c .before .word4 .ensures .0), ne-eqb _ _ (c .if2 .taken))) ∙ l .inv .2
 
--- src/lib.rt:124:10
 word-requires-5 : tie.Need-word-requires-5 Inv-loop μ-loop
 word-requires-5 c κs = search needs
 
--- src/lib.rt:105:1
 returns-3 : tie.Need-returns-3 Inv-loop μ-loop
 returns-3 c =
     let a = c .before .before .before .before .before .before .before .args in

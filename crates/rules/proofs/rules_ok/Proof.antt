@@ -16,15 +16,12 @@ use Rattle.rules.proofs.rows_ok.Reads as rows-ok-reads
 use Rattle.rules.proofs.within.Reads as within-reads
 use Rattle.words.proofs.word.Reads as word-reads
 
--- src/lib.rt:163:9
 word-requires : tie.Need-word-requires
 word-requires c κs = search needs
 
--- src/lib.rt:164:9
 within-requires : tie.Need-within-requires
 within-requires c κs = search needs
 
--- src/lib.rt:165:9
 returns : tie.Need-returns
 unfolding every
 returns c =
@@ -32,11 +29,9 @@ returns c =
     let w = wordAt (a .img .now) in
     sym (rules-words w (c .before .before .before .before .pre .0) (a .m) (c .before .before .before .before .pre .1) ∙ simp (sym (c .before .before .word .ensures .0), sym (c .before .within .ensures) ∙ not-true _ (c .if1 .taken)))
 
--- src/lib.rt:167:14
 word-requires-2 : tie.Need-word-requires-2
 word-requires-2 c κs = search needs
 
--- src/lib.rt:168:9
 returns-2 : tie.Need-returns-2
 unfolding every
 returns-2 c =
@@ -44,11 +39,9 @@ returns-2 c =
     let w = wordAt (a .img .now) in
     sym (rules-words w (c .before .before .before .before .before .before .pre .0) (a .m) (c .before .before .before .before .before .before .pre .1) ∙ simp (sym (c .before .before .before .before .word .ensures .0), sym (c .before .word2 .ensures .0), sym (c .before .before .before .within .ensures) ∙ not-false _ (c .before .before .if1 .left), lt-leb _ _ (c .if2 .taken)))
 
--- src/lib.rt:170:14
 word-requires-3 : tie.Need-word-requires-3
 word-requires-3 c κs = search needs
 
--- src/lib.rt:171:9
 returns-3 : tie.Need-returns-3
 unfolding every
 returns-3 c =
@@ -56,11 +49,9 @@ returns-3 c =
     let w = wordAt (a .img .now) in
     sym (rules-words w (c .before .before .before .before .before .before .before .before .pre .0) (a .m) (c .before .before .before .before .before .before .before .before .pre .1) ∙ simp (sym (c .before .before .before .before .before .before .word .ensures .0), sym (c .before .before .before .word2 .ensures .0), sym (c .before .word3 .ensures .0), sym (c .before .before .before .before .before .within .ensures) ∙ not-false _ (c .before .before .before .before .if1 .left), le-leb _ _ (c .before .before .if2 .left), lt-leb _ _ (c .if3 .taken)))
 
--- src/lib.rt:173:9
 rows-ok-requires : tie.Need-rows-ok-requires
 rows-ok-requires c κs = (search needs, search needs, leb-true _ _ (both (leb 1 (c .before .before .before .before .before .before .word .result)) (leb (c .before .before .before .before .before .before .word .result) 64) (sym (c .before .before .before .before .before .within .ensures) ∙ not-false _ (c .before .before .before .before .if1 .left)) .1))
 
--- src/lib.rt:174:9
 returns-4 : tie.Need-returns-4
 unfolding every
 returns-4 c =
@@ -68,11 +59,9 @@ returns-4 c =
     let w = wordAt (a .img .now) in
     sym (rules-words w (c .before .before .before .before .before .before .before .before .before .before .pre .0) (a .m) (c .before .before .before .before .before .before .before .before .before .before .pre .1) ∙ simp (sym (c .before .before .before .before .before .before .before .before .word .ensures .0), sym (c .before .before .before .before .before .word2 .ensures .0), sym (c .before .before .before .word3 .ensures .0), sym (c .before .before .before .before .before .before .before .within .ensures) ∙ not-false _ (c .before .before .before .before .before .before .if1 .left), le-leb _ _ (c .before .before .before .before .if2 .left), le-leb _ _ (c .before .before .if3 .left), sym (c .before .rows-ok .ensures) ∙ not-true _ (c .if4 .taken)))
 
--- src/lib.rt:176:5
 numbers-distinct-requires : tie.Need-numbers-distinct-requires
 numbers-distinct-requires c κs = leb-true _ _ (both (leb 1 (c .before .before .before .before .before .before .before .before .word .result)) (leb (c .before .before .before .before .before .before .before .before .word .result) 64) (sym (c .before .before .before .before .before .before .before .within .ensures) ∙ not-false _ (c .before .before .before .before .before .before .if1 .left)) .1)
 
--- src/lib.rt:159:1
 returns-5 : tie.Need-returns-5
 unfolding every
 returns-5 c =

@@ -5,12 +5,10 @@ use Rattle.rules.proofs.weight_ok.Tie as tie
 use Rattle.rules.proofs.weight_ok.Reads as reads
 use Rattle.rules.proofs.weight_ok.Lts as lts
 
--- src/lib.rt:28:9
 returns : tie.Need-returns
 unfolding unitOk
 returns c = simp (lt-leb _ _ (c .if1 .taken))
 
--- src/lib.rt:24:1
 returns-2 : tie.Need-returns-2
 unfolding unitOk
 returns-2 c = simp (le-leb _ _ (c .if1 .left))

@@ -4,11 +4,9 @@ use Rattle.rules.proofs.within.Tie as tie
 use Rattle.rules.proofs.within.Reads as reads
 use Rattle.rules.proofs.within.Lts as lts
 
--- src/lib.rt:19:9
 returns : tie.Need-returns
 returns c = simp (lt-leb _ _ (c .if1 .taken))
 
--- src/lib.rt:15:1
 returns-2 : tie.Need-returns-2
 returns-2 c = simp (le-leb _ _ (c .if1 .left))
 

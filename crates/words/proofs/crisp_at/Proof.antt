@@ -13,31 +13,25 @@ use Rattle.words.proofs.crisp_at.Reads as reads
 use Rattle.words.proofs.crisp_at.Lts as lts
 use Rattle.words.proofs.word.Reads as word-reads
 
--- src/lib.rt:40:9
 word-requires : tie.Need-word-requires
 word-requires c κs = search needs
 
--- src/lib.rt:42:22
 cast-t5 : tie.Need-cast-t5
 cast-t5 c = search needs
 
--- src/lib.rt:42:9
 returns : tie.Need-returns
 returns c =
     let x = c .before .word .result in
     toZ-pos w32 x (omega arith) ∙ crisp-low x (c .if1 .taken) ∙ ap crispOf (c .before .word .ensures .0)
 
--- src/lib.rt:44:12
 cast-t6 : tie.Need-cast-t6
 cast-t6 c = search needs
 
--- src/lib.rt:44:12
 sub-t7 : tie.Need-sub-t7
 sub-t7 c =
     let x = c .before .word .result in
     rw (toZ-pos w64 x (omega arith)) (high-fits-64 x (c .if1 .left) (c .before .word .ensures .1))
 
--- src/lib.rt:44:11
 cast-t8 : tie.Need-cast-t8
 cast-t8 c =
     let x = c .before .word .result in
@@ -45,7 +39,6 @@ cast-t8 c =
     rw (toZ-pos w64 x (omega arith), toZ-ofZ w64 (subℕ x 4294967296) (high-fits-64 x (c .if1 .left) k))
     (high-fits-32 x (c .if1 .left) k)
 
--- src/lib.rt:36:1
 returns-2 : tie.Need-returns-2
 returns-2 c =
     let x = c .before .word .result in

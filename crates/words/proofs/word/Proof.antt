@@ -6,67 +6,51 @@ use Rattle.words.proofs.word.Reads as reads
 use Rattle.words.proofs.word.Lts as lts
 use Rattle.words.proofs.byte.Reads as byte-reads
 
--- src/lib.rt:27:13
 mul-k : tie.Need-mul-k
 mul-k c = search needs
 
--- src/lib.rt:28:6
 byte-requires : tie.Need-byte-requires
 byte-requires c κs = search needs
 
--- src/lib.rt:28:31
 add-byte : tie.Need-add-byte
 add-byte c = search needs
 
--- src/lib.rt:28:21
 byte-requires-2 : tie.Need-byte-requires-2
 byte-requires-2 c κs = search needs
 
--- src/lib.rt:28:21
 mul-result : tie.Need-mul-result
 mul-result c = search needs
 
--- src/lib.rt:28:6
 add-result : tie.Need-add-result
 add-result c = search needs
 
--- src/lib.rt:28:56
 add-byte-2 : tie.Need-add-byte-2
 add-byte-2 c = search needs
 
--- src/lib.rt:28:46
 byte-requires-3 : tie.Need-byte-requires-3
 byte-requires-3 c κs = search needs
 
--- src/lib.rt:28:46
 mul-result-2 : tie.Need-mul-result-2
 mul-result-2 c = search needs
 
--- src/lib.rt:28:6
 add-result-2 : tie.Need-add-result-2
 add-result-2 c = search needs
 
--- src/lib.rt:28:83
 add-byte-3 : tie.Need-add-byte-3
 add-byte-3 c = search needs
 
--- src/lib.rt:28:73
 byte-requires-4 : tie.Need-byte-requires-4
 byte-requires-4 c κs = search needs
 
--- src/lib.rt:28:73
 mul-result-3 : tie.Need-mul-result-3
 mul-result-3 c = search needs
 
--- src/lib.rt:28:6
 add-result-3 : tie.Need-add-result-3
 add-result-3 c = search needs
 
--- src/lib.rt:28:5
 cast-result : tie.Need-cast-result
 cast-result c = search needs
 
--- src/lib.rt:23:1
 returns : tie.Need-returns
 unfolding wordAt
 returns c = search needs
