@@ -1,6 +1,6 @@
 // The load check: any bytes are accepted, or refused with 11.
 ghost use mathlib.Core.Path.{_≡_};
-ghost use mathlib.Core.Bool.{true};
+ghost use mathlib.Core.Bool.{true, false};
 ghost use Prim.Native.Nat.{_≤_};
 ghost use Rattle.model.specs.Outcome.{verdictIn};
 ghost use Rattle.model.specs.Refusals.{verdictOf};
@@ -16,33 +16,36 @@ pub struct Checked {
     pub input_terms: usize,
 }
 
+fn not_accepted() -> Checked
+    ensures { λ r. ⌜ (r .ok ≡ false) × (r .«input_terms» ≡ 0) ⌝ }
+{
+    Checked {
+        ok: false,
+        input_terms: 0,
+    }
+}
+
 pub fn examine(img: &[u8]) -> Checked
     ensures { λ r. ⌜ r .ok ≡ isImageOf (now (img .entry)) (decode (wordAt (now (img .entry)))) ⌝ }
-    ensures sound { λ r. ⌜ (r .ok ≡ true → Sound (wordAt (now (img .entry))) × (r .«input_terms» ≡ inputTermsIn (wordAt (now (img .entry))))) ⌝ }
+    ensures told { λ r. ⌜ (r .ok ≡ true → Sound (wordAt (now (img .entry))) × (r .«input_terms» ≡ inputTermsIn (wordAt (now (img .entry))))) × (r .ok ≡ false → r .«input_terms» ≡ 0) ⌝ }
 {
     let n = words::word(img, 1);
     if img.len() != n * 4 {
-        return Checked {
-            ok: false,
-            input_terms: 0,
-        };
+        return not_accepted();
     }
     let f = frame::frame(img);
     if !f.ok {
-        return Checked {
-            ok: false,
-            input_terms: 0,
-        };
+        return not_accepted();
     }
     if !variables::variables_ok(img) {
-        return Checked {
-            ok: false,
-            input_terms: 0,
-        };
+        return not_accepted();
     }
     let m = f.input_terms;
+    if !rules::rules_ok(img, m) {
+        return not_accepted();
+    }
     Checked {
-        ok: rules::rules_ok(img, m),
+        ok: true,
         input_terms: m,
     }
 }

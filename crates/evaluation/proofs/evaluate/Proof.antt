@@ -17,7 +17,7 @@ examine-requires : tie.Need-examine-requires
 examine-requires c κs = search needs
 
 evaluate-accepted-requires : tie.Need-evaluate-accepted-requires
-evaluate-accepted-requires c κs = c .before .examine .ensures .1 (c .if1 .taken)
+evaluate-accepted-requires c κs = c .before .examine .ensures .1 .0 (c .if1 .taken)
 
 returns : tie.Need-returns
 returns c =

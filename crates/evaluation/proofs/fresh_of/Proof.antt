@@ -16,7 +16,7 @@ examine-requires : tie.Need-examine-requires
 examine-requires c κs = search needs
 
 fresh-record-requires : tie.Need-fresh-record-requires
-fresh-record-requires c κs = c .before .examine .ensures .1 (c .if1 .taken) .0
+fresh-record-requires c κs = c .before .examine .ensures .1 .0 (c .if1 .taken) .0
 
 returns : tie.Need-returns
 returns c =
