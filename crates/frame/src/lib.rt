@@ -350,7 +350,7 @@ fn refused() -> Tables
 
 pub fn frame(img: &[u8]) -> Tables
     ensures { λ r. ⌜ (r .ok ≡ frameOk (wordAt (now (img .entry)))) × (r .ok ≡ true → r .«input_terms» ≡ inputTermsIn (wordAt (now (img .entry)))) ⌝ }
-    ensures small { λ r. ⌜ r .«input_terms» ≤ 4294967295 ⌝ }
+    ensures small { λ r. ⌜ (r .«input_terms» ≤ 4294967295) × (r .ok ≡ false → r .«input_terms» ≡ 0) ⌝ }
 {
     if !header_ok(img) {
         return refused();

@@ -14,9 +14,6 @@ use Rattle.model.specs.Image.{wordAt, decode, isImageOf, loads}
 use Rattle.layout.specs.Groups.{frameOk, variablesOk, rulesOk}
 use Rattle.layout.proofs.Groups.{grouped, groups}
 
-pub clash : {X : Type 0} → false ≡ true → X
-clash h = let z : _≡_ {A = ℕ} 0 1 = cc in absurd (omega arith)
-
 and-false : (a : Bool) → a && false ≡ false
 and-false true = refl
 and-false false = refl

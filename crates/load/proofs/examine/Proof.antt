@@ -7,11 +7,12 @@ use lib.ListN.{getD}
 use borrow.Author.Tests.{not-true, not-false}
 use Rattle.model.specs.Image.{wordAt, decode, isImageOf}
 use Rattle.layout.specs.Groups.{frameOk, variablesOk}
-use Rattle.load.proofs.Laws.{clash, wrong-length, no-frame, no-variables, by-rules}
+use Rattle.load.proofs.Laws.{wrong-length, no-frame, no-variables, by-rules}
 use Rattle.load.proofs.examine.Statement.{statement}
 use Rattle.load.proofs.examine.Tie as tie
 use Rattle.load.proofs.examine.Reads as reads
 use Rattle.load.proofs.examine.Lts as lts
+use Rattle.frame.proofs.Lists.{clash}
 use Rattle.frame.proofs.frame.Reads as frame-reads
 use Rattle.load.proofs.not_accepted.Reads as not-accepted-reads
 use Rattle.rules.proofs.rules_ok.Reads as rules-ok-reads
@@ -72,7 +73,7 @@ rules-ok-requires : tie.Need-rules-ok-requires
 rules-ok-requires c κs =
     let e = c .before .before in
     let f = e .before .before in
-    (framed e, f .frame .ensures .0 .1 (not-false (f .frame .result .ok) (e .if2 .left)), f .frame .ensures .1)
+    (framed e, f .frame .ensures .0 .1 (not-false (f .frame .result .ok) (e .if2 .left)), f .frame .ensures .1 .0)
 
 judged : (c : tie.After-rules-ok) → isImageOf (c .before .before .before .before .before .before .before .before .before .args .img .now) (decode (wordAt (c .before .before .before .before .before .before .before .before .before .args .img .now))) ≡ c .rules-ok .result
 judged c =
