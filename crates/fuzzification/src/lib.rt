@@ -5,6 +5,7 @@ use model::InputType;
 use model::Reading;
 use model::Taken;
 use terms::Point;
+use words::crisp_at;
 use words::word;
 ghost use mathlib.Core.Path.{_≡_};
 ghost use mathlib.Core.Bool.{true};
@@ -23,18 +24,6 @@ ghost use Rattle.crisp.specs.Crisp.{InCrisp};
 ghost use Rattle.terms.specs.Points.{pointView, noPoint};
 ghost use Rattle.layout.specs.Groups.{Sound};
 ghost use Rattle.fuzzification.specs.Filled.{filled, numbers, figures, Low, AllCrisp};
-
-// The word at place i, in two's complement.
-fn crisp_at(img: &[u8], i: usize) -> Crisp
-    requires { ⌜ i ≤ 1000000000000 ⌝ }
-    ensures { λ r. ⌜ r .0 ≡ crispOf (wordAt (now (img .entry)) i) ⌝ }
-{
-    let v = word(img, i);
-    if v < 2147483648 {
-        return Crisp(v as i32);
-    }
-    Crisp((v as i64 - 4294967296) as i32)
-}
 
 fn point_at(img: &[u8], i: usize) -> Point
     requires { ⌜ i ≤ 5000000000 ⌝ }
