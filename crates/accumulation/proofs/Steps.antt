@@ -15,7 +15,7 @@ use Rattle.model.specs.Evaluation.{ruleDegree, accumulated, accumulateAll, subc
 use Rattle.model.specs.Image.{tab, decode, ruleAt}
 use Rattle.model.specs.declared.Degree.{Degree}
 use Rattle.model.specs.Bounds.{M}
-use Rattle.aggregation.specs.Stacks.{numbers, Low}
+use Rattle.degrees.specs.Tables.{numbers, Low}
 use Rattle.aggregation.proofs.Degrees.{low-set, numbers-set, numbers-zeros, number-at}
 use Rattle.accumulation.specs.Heights.{afterConclusions, afterRules}
 

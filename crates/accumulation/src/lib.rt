@@ -7,7 +7,7 @@ ghost use Rattle.model.specs.Evaluation.{ruleDegree, height};
 ghost use Rattle.model.specs.Image.{wordAt, pairOf, accuOf, decode, ruleAt};
 ghost use Rattle.layout.specs.Tables.{inputTermsIn};
 ghost use Rattle.layout.specs.Groups.{Sound};
-ghost use Rattle.aggregation.specs.Stacks.{numbers, Low};
+ghost use Rattle.degrees.specs.Tables.{numbers, Low};
 ghost use Rattle.accumulation.specs.Heights.{afterConclusions};
 use aggregation::condition_degree;
 use degrees::accumulate;

@@ -13,7 +13,7 @@ use Rattle.model.specs.Bounds.{M}
 use Rattle.model.specs.declared.Pair.{Pair}
 use Rattle.model.specs.Block.{Condition, term, neg, two}
 use Rattle.model.specs.Degrees.{notOf, conditionDegree}
-use Rattle.aggregation.specs.Stacks.{numbers, Low}
+use Rattle.degrees.specs.Tables.{numbers, Low}
 use Rattle.model.specs.WellFormed.{termsBelow}
 use Rattle.words.proofs.Places.{both}
 

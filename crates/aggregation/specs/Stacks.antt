@@ -1,21 +1,13 @@
 -- The machine that keeps of each subtree its degree.
-use mathlib.Core.List.{List, map}
+use mathlib.Core.List.{List}
 use mathlib.Core.Bool.{true}
 use Prim.Native.Nat.{ℕ, _≤_}
 use lib.ListN.{getD}
-use Rattle.model.specs.declared.Degree.{Degree}
-use Rattle.model.specs.Bounds.{M}
 use Rattle.model.specs.declared.Pair.{Pair}
 use Rattle.model.specs.Degrees.{notOf, pairs}
+use Rattle.degrees.specs.Tables.{Low}
 use Rattle.conditions.specs.Machine.{Meaning, room, stackOf}
 use Rattle.aggregation.specs.declared.Stack.{Stack}
-
-abbrev pub numbers : List Degree → List ℕ
-numbers ds = map (λ x. x .0) ds
-
--- every degree is at most 1
-abbrev pub Low : List ℕ → Type 0
-Low l = (k : ℕ) → getD l k 0 ≤ M
 
 abbrev pub byDegrees : Pair → List ℕ → Meaning ℕ
 byDegrees p ds = record { leaf = λ t. getD ds t 0; no = notOf; join = pairs p; fine = λ a. true; known = λ t. true }

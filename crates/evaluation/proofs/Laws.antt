@@ -27,7 +27,8 @@ use Rattle.layout.specs.Tables.{inputTermsIn}
 use Rattle.layout.specs.Groups.{frameOk, Sound}
 use Rattle.layout.proofs.Parts.{inputTerms-are}
 use Rattle.layout.proofs.Whole.{inputs-count}
-use Rattle.fuzzification.specs.Filled.{filled, numbers, figures}
+use Rattle.degrees.specs.Tables.{numbers}
+use Rattle.fuzzification.specs.Filled.{filled, figures}
 use Rattle.fuzzification.proofs.Degrees.{degrees-of-call}
 use Rattle.fuzzification.proofs.Fill.{filled-at}
 use Rattle.aggregation.proofs.Degrees.{number-at}

@@ -1,26 +1,17 @@
 -- Arrays that are filled from the front, as lists of numbers.
 use mathlib.Core.List.{List, _++_, map}
-use Prim.Native.Nat.{ℕ, _-_, _≤_}
+use Prim.Native.Nat.{ℕ, _-_}
 use lib.IntN.{ℤ, pos}
 use lib.ListN.{length, replicate, getD}
-use Rattle.model.specs.Bounds.{M}
 use Rattle.model.specs.declared.Crisp.{Crisp}
-use Rattle.model.specs.declared.Degree.{Degree}
 use Rattle.crisp.specs.Crisp.{InCrisp}
 
 -- xs, and a in the places past it, up to n
 abbrev pub filled : {A : Type 0} → ℕ → A → List A → List A
 filled n a xs = xs ++ replicate (n - length xs) a
 
-abbrev pub numbers : List Degree → List ℕ
-numbers ds = map (λ d. d .0) ds
-
 abbrev pub figures : List Crisp → List ℤ
 figures xs = map (λ x. x .0) xs
-
--- every degree is at most 1
-abbrev pub Low : List ℕ → Type 0
-Low ds = (k : ℕ) → getD ds k 0 ≤ M
 
 abbrev pub AllCrisp : List ℤ → Type 0
 AllCrisp xs = (k : ℕ) → InCrisp (getD xs k (pos 0))

@@ -23,7 +23,8 @@ ghost use Rattle.model.specs.WellFormed.{termOk};
 ghost use Rattle.crisp.specs.Crisp.{InCrisp};
 ghost use Rattle.terms.specs.Points.{pointView, noPoint};
 ghost use Rattle.layout.specs.Groups.{Sound};
-ghost use Rattle.fuzzification.specs.Filled.{filled, numbers, figures, Low, AllCrisp};
+ghost use Rattle.degrees.specs.Tables.{numbers, Low};
+ghost use Rattle.fuzzification.specs.Filled.{filled, figures, AllCrisp};
 
 fn point_at(img: &[u8], i: usize) -> Point
     requires { ⌜ i ≤ 5000000000 ⌝ }

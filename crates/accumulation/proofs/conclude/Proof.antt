@@ -5,7 +5,7 @@ use native.Mathlib.Omega.{arith}
 use lib.ListN.{length, getD}
 use Rattle.model.specs.Image.{wordAt, tab, conclusionAt}
 use Rattle.aggregation.proofs.Degrees.{number-at}
-use Rattle.aggregation.specs.Stacks.{numbers, Low}
+use Rattle.degrees.specs.Tables.{numbers, Low}
 use Rattle.accumulation.specs.Heights.{afterConclusions}
 use Rattle.accumulation.proofs.Steps.{conclusion-turn, conclusions-start, conclusions-end, low-turn}
 use Rattle.accumulation.proofs.Rules.{rules-few, rule-conclusions, term-read}

@@ -5,7 +5,7 @@ use native.Mathlib.Omega.{arith}
 use lib.ListN.{getD}
 use Rattle.model.specs.Evaluation.{height}
 use Rattle.model.specs.Image.{wordAt, tab, decode, ruleAt}
-use Rattle.aggregation.specs.Stacks.{numbers, Low}
+use Rattle.degrees.specs.Tables.{numbers, Low}
 use Rattle.accumulation.specs.Heights.{afterRules}
 use Rattle.accumulation.proofs.Steps.{zeros, rules-start, rule-turn, rules-end}
 use Rattle.accumulation.proofs.heights.Statement.{statement}

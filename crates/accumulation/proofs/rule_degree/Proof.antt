@@ -2,7 +2,7 @@ use mathlib.Core.Path.{_≡_, ap, _∙_}
 use Prim.Native.Nat.{ℕ, _+_, _*_}
 use native.Mathlib.Omega.{arith}
 use Rattle.model.specs.Image.{wordAt}
-use Rattle.aggregation.specs.Stacks.{numbers}
+use Rattle.degrees.specs.Tables.{numbers}
 use Rattle.accumulation.proofs.Rules.{rules-few, weight-small, rule-degree-is}
 use borrow.Author.Needs.{needs}
 use Rattle.accumulation.proofs.rule_degree.Statement.{statement}

@@ -2,7 +2,8 @@ use Prim.Native.Nat.{_-_, _≤_}
 use borrow.Author.Needs.{needs}
 use Rattle.model.specs.Image.{wordAt}
 use Rattle.conditions.specs.Machine.{stackOf}
-use Rattle.aggregation.specs.Stacks.{numbers, byDegrees, onStack, Small}
+use Rattle.degrees.specs.Tables.{numbers}
+use Rattle.aggregation.specs.Stacks.{byDegrees, onStack, Small}
 use Rattle.aggregation.proofs.Steps as laws
 use Rattle.aggregation.proofs.Degrees.{low-zeros}
 use Rattle.aggregation.proofs.condition_degree.Statement.{statement}

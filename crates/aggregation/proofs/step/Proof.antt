@@ -3,7 +3,8 @@ use Prim.Native.Nat.{_<_, _≤_}
 use native.Mathlib.Omega.{arith}
 use borrow.Author.Needs.{needs}
 use Rattle.model.specs.Block.{and}
-use Rattle.aggregation.specs.Stacks.{numbers, onStack}
+use Rattle.degrees.specs.Tables.{numbers}
+use Rattle.aggregation.specs.Stacks.{onStack}
 use Rattle.aggregation.proofs.Steps as laws
 use Rattle.aggregation.proofs.step.Statement.{statement}
 use Rattle.aggregation.proofs.step.Tie as tie

@@ -11,7 +11,8 @@ use Rattle.model.specs.Evaluation.{termDegrees}
 use Rattle.model.specs.Image.{wordAt, tab, inputAt, decode}
 use Rattle.crisp.specs.Crisp.{InCrisp}
 use Rattle.layout.specs.Tables.{sums, inputCount}
-use Rattle.fuzzification.specs.Filled.{filled, numbers, figures, Low}
+use Rattle.degrees.specs.Tables.{numbers, Low}
+use Rattle.fuzzification.specs.Filled.{filled, figures}
 use Rattle.fuzzification.proofs.Fill.{each-start, filled-sets}
 use Rattle.fuzzification.proofs.Entries.{input-limit, accepted-terms, sums-last}
 use Rattle.fuzzification.proofs.Degrees.{length-degrees, input-more}

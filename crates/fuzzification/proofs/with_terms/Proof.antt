@@ -10,7 +10,7 @@ use Rattle.model.specs.declared.Degree.{Degree}
 use Rattle.model.specs.Degrees.{termDegree}
 use Rattle.model.specs.Image.{wordAt, tab, termAt}
 use Rattle.model.specs.WellFormed.{termOk}
-use Rattle.fuzzification.specs.Filled.{numbers, Low}
+use Rattle.degrees.specs.Tables.{numbers, Low}
 use Rattle.fuzzification.proofs.Fill.{map-set, one-more, each-set}
 use Rattle.fuzzification.proofs.Entries.{all-at}
 use Rattle.fuzzification.proofs.Degrees.{degreesAt, length-at, term-more}
