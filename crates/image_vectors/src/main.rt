@@ -1,6 +1,5 @@
 // Runs the load check on each image of data/images and writes a line for each: accepted, or the number of the refusal.
 // The file, and the lines to expect, are made by tools/vectors.py from vectors worked out elsewhere.
-ghost use Prim.Native.Nat.{_<_};
 use model::Refusal;
 use model::Verdict;
 
