@@ -1,0 +1,72 @@
+#!/usr/bin/env python3
+"""vectors.py FOLDER: from images.json and calls.json of FOLDER, writes what the programs image_vectors and call_vectors read and must write."""
+import json
+import os
+import sys
+
+source = sys.argv[1]
+crates = os.path.join(os.path.dirname(os.path.abspath(__file__)), "..", "crates")
+
+
+def word(n):
+    return (n % 2**32).to_bytes(4, "little")
+
+
+def with_length(text):
+    image = bytes.fromhex(text)
+    return word(len(image)) + image
+
+
+def write(crate, data, lines):
+    folder = os.path.join(crates, crate)
+    os.makedirs(os.path.join(folder, "data"), exist_ok=True)
+    with open(os.path.join(folder, "data", crate.split("_")[0] + "s"), "wb") as f:
+        f.write(data)
+    with open(os.path.join(folder, "stdout"), "w") as f:
+        f.write("".join(line + "\n" for line in lines))
+
+
+def reading(r):
+    if r is None:
+        return word(0) + word(0)
+    if "REAL" in r:
+        return word(1) + word(r["REAL"])
+    return word(2) + word(r["INT"])
+
+
+def figures(held):
+    return " ".join(str(x) for x in held)
+
+
+def answer(a):
+    return f"{a['mark']} {a['thousandths']} {a['S']} {a['f64']:016x}, "
+
+
+def outcome(call):
+    none = {"mark": "none", "thousandths": 0, "S": 0, "f64": 0}
+    answers = call.get("answers", [])
+    number, place = call.get("refused", [0, None])
+    shown = "".join(answer(a) for a in answers + [none] * (6 - len(answers)))
+    # a refused call leaves the record
+    after = call["held"] if "refused" in call else call["after"]
+    return f"{number} {'-' if place is None else place}, {shown}{figures(after)}"
+
+
+cases = json.load(open(os.path.join(source, "images.json")))
+write(
+    "image_vectors",
+    b"".join(with_length(c["image"]) for c in cases),
+    ["accepted" if c["accepted"] else "11" for c in cases],
+)
+
+data, lines = [], []
+for block in json.load(open(os.path.join(source, "calls.json"))):
+    data += [with_length(block["image"]), word(len(block["calls"]))]
+    lines.append("0 -, " + figures(block["fresh"]))
+    for call in block["calls"]:
+        readings = call["readings"]
+        data.append(word(len(readings)))
+        data += [reading(r) for r in readings + [None] * (8 - len(readings))]
+        data += [word(x) for x in call["held"]]
+        lines.append(outcome(call))
+write("call_vectors", b"".join(data), lines)
