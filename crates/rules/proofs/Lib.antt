@@ -1,3 +1,4 @@
 pub mod Outputs
 pub mod Rules
+pub mod Numbers
 pub mod Loops

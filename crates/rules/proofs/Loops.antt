@@ -1,5 +1,5 @@
 -- One turn of each loop.
-use mathlib.Core.Path.{_≡_, sym, ap, _∙_}
+use mathlib.Core.Path.{_≡_}
 use mathlib.Core.Bool.{Bool, true, false, _&&_, not}
 use Prim.Native.Nat.{ℕ, suc, _+_, _*_, _-_, _≤_, _<_}
 use native.Mathlib.Omega.{arith}
@@ -7,7 +7,7 @@ use native.Mathlib.Numerals.{add-one}
 use lib.Dec.{eqb}
 use Rattle.model.specs.Basic.{all, distinct}
 use Rattle.model.specs.Image.{tab}
-use Rattle.rules.specs.Walk.{ruleNumber, rowStored, rulesWalk}
+use Rattle.rules.specs.Walk.{rowStored, rulesWalk}
 
 module _ (w : ℕ → ℕ) (m e i n k : ℕ) where
   pub walk-more : (o a b : ℕ) → o ≡ w 13 → a ≡ w (o + i * 6 + 2) → b ≡ w (o + i * 6 + 4) → i < e → rowStored w m i n k ≡ true
@@ -38,8 +38,3 @@ module _ {A : Type 0} (eq : A → A → Bool) (f : ℕ → A) (e i : ℕ) where
   pub distinct-end : e ≤ i → distinct eq (tab f (e - i) i) ≡ true
   unfolding distinct tab
   distinct-end h = let s : e - i ≡ 0 = omega arith in rw s
-
--- two rules' numbers, as they were read
-pub numbers-read : (w : ℕ → ℕ) (i j o a b : ℕ) → o ≡ w 13 → a ≡ w (o + i * 6) → b ≡ w (o + j * 6) → eqb (ruleNumber w i) (ruleNumber w j) ≡ eqb a b
-numbers-read w i j o a b eo ea eb =
-    λ t. eqb ((ap (λ (x : ℕ). w (x + i * 6)) (sym eo) ∙ sym ea) t) ((ap (λ (x : ℕ). w (x + j * 6)) (sym eo) ∙ sym eb) t)

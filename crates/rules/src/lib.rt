@@ -1,7 +1,7 @@
 // The rules of a stored image: their rows, conditions and conclusions.
 ghost use mathlib.Core.Path.{_≡_};
-ghost use mathlib.Core.Bool.{true, not};
-ghost use Prim.Native.Nat.{_+_, _-_, _≤_};
+ghost use mathlib.Core.Bool.{true};
+ghost use Prim.Native.Nat.{ℕ, _≤_, _<_};
 ghost use lib.Dec.{eqb};
 ghost use Rattle.model.specs.Basic.{all, between, distinct};
 ghost use Rattle.model.specs.WellFormed.{unitOk, conclusionOk};
@@ -127,33 +127,21 @@ fn rows_ok(img: &[u8], m: usize, e: usize) -> bool
     k == word(img, 8)
 }
 
-// Whether no rule after rule i, below e, has its number.
-fn number_fresh(img: &[u8], i: usize, e: usize) -> bool
-    requires { ⌜ (i ≤ 64) × (e ≤ 64) ⌝ }
-    ensures { λ r. ⌜ r ≡ all (λ x. not (eqb (ruleNumber (wordAt (now (img .entry))) i) x)) (tab (ruleNumber (wordAt (now (img .entry)))) (e - (i + 1)) (i + 1)) ⌝ }
-{
-    let o = word(img, 13);
-    let number = word(img, o + i * 6);
-    let mut j = i + 1;
-    while j < e {
-        if number == word(img, o + j * 6) {
-            return false;
-        }
-        j += 1;
-    }
-    true
-}
-
+// From the last rule on, each number is marked; one that is marked already stands twice.
 fn numbers_distinct(img: &[u8], e: usize) -> bool
-    requires { ⌜ e ≤ 64 ⌝ }
+    requires { ⌜ (e ≤ 64) × ((i : ℕ) → i < e → ruleNumber (wordAt (now img)) i ≤ 65535) ⌝ }
     ensures { λ r. ⌜ r ≡ distinct eqb (tab (ruleNumber (wordAt (now (img .entry)))) e 0) ⌝ }
 {
-    let mut i: usize = 0;
-    while i < e {
-        if !number_fresh(img, i, e) {
+    let o = word(img, 13);
+    let mut marked = [false; 65_536];
+    let mut i = e;
+    while 0 < i {
+        i -= 1;
+        let number = word(img, o + i * 6);
+        if marked[number] {
             return false;
         }
-        i += 1;
+        marked[number] = true;
     }
     true
 }

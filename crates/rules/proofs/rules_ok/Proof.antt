@@ -6,6 +6,7 @@ use mathlib.Core.Path.{sym, _∙_}
 use Rattle.model.specs.Basic.{every}
 use Rattle.model.specs.Image.{wordAt}
 use mathlib.Core.Bool.{and-true}
+use Rattle.rules.proofs.Numbers.{walk-numbers}
 use Rattle.rules.proofs.Rules.{rules-words}
 use Rattle.rules.proofs.rules_ok.Statement.{statement}
 use Rattle.rules.proofs.rules_ok.Tie as tie
@@ -60,7 +61,13 @@ returns-4 c =
     sym (rules-words w (c .before .before .before .before .before .before .before .before .before .before .pre .0) (a .m) (c .before .before .before .before .before .before .before .before .before .before .pre .1) ∙ simp (sym (c .before .before .before .before .before .before .before .before .word .ensures .0), sym (c .before .before .before .before .before .word2 .ensures .0), sym (c .before .before .before .word3 .ensures .0), sym (c .before .before .before .before .before .before .before .within .ensures) ∙ not-false _ (c .before .before .before .before .before .before .if1 .left), le-leb _ _ (c .before .before .before .before .if2 .left), le-leb _ _ (c .before .before .if3 .left), sym (c .before .rows-ok .ensures) ∙ not-true _ (c .if4 .taken)))
 
 numbers-distinct-requires : tie.Need-numbers-distinct-requires
-numbers-distinct-requires c κs = leb-true _ _ (both (leb 1 (c .before .before .before .before .before .before .before .before .word .result)) (leb (c .before .before .before .before .before .before .before .before .word .result) 64) (sym (c .before .before .before .before .before .before .before .within .ensures) ∙ not-false _ (c .before .before .before .before .before .before .if1 .left)) .1)
+numbers-distinct-requires c κs =
+    let r = c .before in
+    let x = r .before .before .before .before .before .before .before in
+    let a = r .before .before .before .before .before .before .before .before .before .args in (
+      leb-true _ _ (both (leb 1 (x .word .result)) (leb (x .word .result) 64) (sym (c .before .before .before .before .before .before .before .within .ensures) ∙ not-false _ (c .before .before .before .before .before .before .if1 .left)) .1),
+      walk-numbers (wordAt (a .img .now)) (a .m) (x .word .result) (sym (r .rows-ok .ensures) ∙ not-false _ (c .if4 .left)),
+    )
 
 returns-5 : tie.Need-returns-5
 unfolding every
