@@ -89,7 +89,7 @@ loop-again c =
     let m = marks-here (c .before .before) in
     let q = number-is (c .before) in (
       omega (arith, h),
-      length-set (l .marked) _ true ∙ l .inv .1,
+      length-set (l .marked) _ _ ∙ l .inv .1,
       unmet f (a .e) (l .i - 1) (l .marked) h m (ap (λ (x : ℕ). getD (l .marked) x false) (sym q) ∙ c .if1 .left) ∙ rw (back (c .before .before)) (l .inv .2),
       subst (λ (x : ℕ). Marks f (a .e) (l .i - 1) (set (l .marked) x true)) (sym q)
           (marks-more f (a .e) (l .i - 1) (l .marked) h (omega (arith, q, number-small (c .before), l .inv .1)) m),
