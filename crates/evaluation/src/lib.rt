@@ -37,7 +37,13 @@ fn refused(why: Refusal, before: Held) -> Evaluation
 }
 
 // On an accepted image with m input terms.
-pub fn evaluate_accepted(img: &[u8], m: usize, rs: [Reading; 8], n: usize, before: Held) -> Evaluation
+pub fn evaluate_accepted(
+    img: &[u8],
+    m: usize,
+    rs: [Reading; 8],
+    n: usize,
+    before: Held,
+) -> Evaluation
     requires { ⌜ Sound (wordAt (now img)) × (m ≡ inputTermsIn (wordAt (now img))) ⌝ }
     ensures { λ r. ⌜ Tells r before (called (decode (wordAt (now (img .entry)))) rs n before) ⌝ }
 {
