@@ -12,10 +12,9 @@ use lib.Dec.{eqb}
 use Rattle.model.specs.Basic.{if_then_else_, gather}
 use Rattle.model.specs.Block.{Condition, term, neg, two, Output, Rule, Block, inputTerms}
 use Rattle.model.specs.Degrees.{notOf, pairs, prodOf, conditionDegree}
-use Rattle.model.specs.Image.{tab, wordAt, termAt, decode, isImageOf, loads}
+use Rattle.model.specs.Image.{wordAt, termAt, decode, isImageOf, loads}
 use Rattle.model.specs.Outcome.{Outcome, accepted, refused}
 use Rattle.model.specs.Evaluation.{ruleDegree, accumulateAll, subconclusions, height, answerOf, answersFrom, figuresOf, heldOk, valuesOf, orZero, firstWrong, Evaluated, termDegrees, answers, evaluated, called, freshOf, evaluate, fresh}
-use Rattle.model.specs.declared.Answer.{Answer}
 use Rattle.model.specs.declared.Crisp.{Crisp}
 use Rattle.model.specs.declared.Degree.{Degree}
 use Rattle.model.specs.declared.Held.{Held}

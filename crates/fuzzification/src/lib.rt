@@ -18,7 +18,7 @@ ghost use Rattle.model.specs.Basic.{all};
 ghost use Rattle.model.specs.Bounds.{M};
 ghost use Rattle.model.specs.Degrees.{termDegree};
 ghost use Rattle.model.specs.Evaluation.{termDegrees, valuesOf, orZero, firstWrong};
-ghost use Rattle.model.specs.Image.{wordAt, crispOf, tab, pointAt, termAt, inputAt, decode};
+ghost use Rattle.model.specs.Image.{wordAt, tab, pointAt, termAt, inputAt, decode};
 ghost use Rattle.model.specs.WellFormed.{termOk};
 ghost use Rattle.crisp.specs.Crisp.{InCrisp};
 ghost use Rattle.terms.specs.Points.{pointView, noPoint};

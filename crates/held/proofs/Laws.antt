@@ -1,32 +1,27 @@
 -- The crisp bounds as two comparisons; and the held record place by place.
-use mathlib.Core.Path.{_≡_, refl, sym, ap, _∙_, subst}
-use mathlib.Core.List.{List, [], _∷_, _++_, map, map-append}
-use mathlib.Core.Bool.{Bool, true, false, _&&_}
+use mathlib.Core.Path.{_≡_, refl, sym, ap, _∙_}
+use mathlib.Core.List.{List, _++_, map, map-append}
+use mathlib.Core.Bool.{Bool, true, false, _&&_, and-true}
 use Prim.Native.Nat.{ℕ, zero, suc, _+_, _-_, _≤_, _<_}
 use native.Mathlib.Omega.{arith}
 use lib.Dec.{leb, eqb, leb·suc-suc, leb·suc-zero}
 use lib.IntN.{ℤ, pos, negsuc, natAbs}
-use lib.ListN.{length, getD, drop, replicate, drop-of-length-le}
+use lib.ListN.{length, drop, replicate, drop-of-length-le}
 use lib.Seq.{drop-cons}
 use lib.Signed.{leZ, ltZ}
 use borrow.Author.Tests.{ltb-true, ne-eqb}
 use Rattle.model.specs.Basic.{all}
-use Rattle.model.specs.Block.{Output, inRange}
 use Rattle.model.specs.Tokens.{inCrisp}
 use Rattle.model.specs.Image.{outputAt, tab}
 use Rattle.model.specs.Evaluation.{heldOf, heldOk}
 use Rattle.words.proofs.Places.{length-tab, map-replicate}
 use Rattle.layout.proofs.TableLaws.{map-tab}
-use Rattle.held.specs.Places.{figureAt, fits, isZero}
+use Rattle.held.specs.Places.{fits, isZero}
 use Rattle.model.specs.declared.Crisp.{Crisp}
 
 pub bounds : (z : ℤ) → inCrisp z ≡ leZ (negsuc 999999999) z && leZ z (pos 1000000000)
 bounds (pos n) = refl
 bounds (negsuc n) = leb·suc-suc n 999999999 ∙ sym (and-true (leb n 999999999))
-  where
-    and-true : (b : Bool) → b && true ≡ b
-    and-true true = refl
-    and-true false = refl
 
 pub zero-below : (z : ℤ) → ltZ z (pos 0) ≡ true → eqb (natAbs z) 0 ≡ false
 zero-below (pos n) h = let l : n < 0 = ltb-true n 0 h in absurd (omega arith)

@@ -1,14 +1,14 @@
 -- The number of bytes and the three groups of tests are what the load check has to test.
-use mathlib.Core.Path.{_≡_, refl, sym, ap, _∙_}
+use mathlib.Core.Path.{_≡_, _∙_}
 use mathlib.Core.List.{List, [], _∷_}
-use mathlib.Core.Bool.{Bool, true, false, _&&_}
+use mathlib.Core.Bool.{Bool, true, _&&_}
 use Prim.Native.Nat.{ℕ, _*_, _<_}
 use lib.Dec.{eqb}
 use lib.ListN.{length, getD}
 use Rattle.model.specs.Basic.{every}
 use Rattle.model.specs.WellFormed.{wellFormed}
 use Rattle.model.specs.Image.{wordAt, decode, isImageOf}
-use Rattle.words.proofs.Places.{both, and-i, Every, passed, pass}
+use Rattle.words.proofs.Places.{both, and-i, passed, pass}
 use Rattle.layout.specs.Tables.{shapeOk, countsOk}
 use Rattle.layout.specs.Groups.{frameOk, variablesOk, rulesOk}
 use Rattle.layout.proofs.Bytes.{tests-equal, image-tests}

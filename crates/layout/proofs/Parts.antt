@@ -1,20 +1,19 @@
 -- What the tables of an image hold, joined, where its rows are laid out as document 01 says.
-use mathlib.Core.Path.{_≡_, refl, sym, ap, _∙_, subst}
-use mathlib.Core.List.{List, [], _∷_, _++_, map}
+use mathlib.Core.Path.{_≡_, refl, sym, ap, _∙_}
+use mathlib.Core.List.{List, _∷_, _++_, map}
 use mathlib.Core.Option.{Option, none, some}
-use mathlib.Core.Bool.{Bool, true, false, _&&_}
-use Prim.Native.Nat.{ℕ, zero, suc, _+_, _*_, _-_, _≤_, _<_}
+use mathlib.Core.Bool.{true}
+use Prim.Native.Nat.{ℕ, zero, suc, _+_, _*_}
 use native.Mathlib.Omega.{arith}
 use lib.IntN.{ℤ}
-use lib.ListN.{length, length-append}
+use lib.ListN.{length}
 use Rattle.model.specs.Basic.{same, gather, all}
-use Rattle.model.specs.Block.{Point, Term, Singleton, Input, Range, Output, Conclusion, Rule, Block, inputTerms, outputTerms, conclusions, size}
-use Rattle.model.specs.Image.{nameWords, rangeWords, defaultWords, postfix, singletonTerm, terms, points, tab, nameAt, pointAt, termAt, singletonAt, inputAt, outputAt, conclusionAt, ruleAt, decode}
-use Rattle.words.proofs.Places.{both, At, length-tab, same-eq}
-use Rattle.layout.specs.Rows.{rowsOk}
-use Rattle.layout.specs.Tables.{inputRow, inputNext, outputRow, outputNext, termRow, termNext, ruleRow, ruleNext, sums, outputTermAt, outputPointAt, inputCount, outputCount, termCount, wordCount, conclusionCount, inputTermsIn, outputTermsIn, inputPointsIn, wordsIn, conclusionsIn, inputRows, outputRows, inputTermRows, outputTermRows, ruleRows, conditionExact, conditionRows}
+use Rattle.model.specs.Block.{Term, Singleton, Input, Range, Output, inputTerms, outputTerms, conclusions}
+use Rattle.model.specs.Image.{nameWords, rangeWords, defaultWords, postfix, singletonTerm, terms, points, tab, pointAt, termAt, singletonAt, inputAt, outputAt, conclusionAt, ruleAt, decode}
+use Rattle.words.proofs.Places.{both, length-tab, same-eq}
+use Rattle.layout.specs.Tables.{inputRow, inputNext, outputRow, outputNext, termRow, termNext, ruleRow, ruleNext, outputTermAt, outputPointAt, inputCount, outputCount, termCount, wordCount, conclusionCount, inputTermsIn, outputTermsIn, inputPointsIn, wordsIn, conclusionsIn, inputRows, outputRows, inputTermRows, outputTermRows, ruleRows, conditionExact, conditionRows}
 use Rattle.layout.proofs.RowLaws.{stands}
-use Rattle.layout.proofs.TableLaws.{tab-append, map-tab, gather-append, Each, each, Runs, runs-from, gather-runs, sums-one}
+use Rattle.layout.proofs.TableLaws.{map-tab, gather-append, Each, each, Runs, runs-from, gather-runs, sums-one}
 
 -- every row has the words of its table
 pub wide-input : (n : ℕ) (v : Input) → length (inputRow n v) ≡ 7

@@ -1,14 +1,14 @@
 -- A table stands in the words exactly when its rows do; and what the rows hold, joined.
 use mathlib.Core.Path.{_≡_, refl, sym, ap, _∙_, subst}
 use mathlib.Core.List.{List, [], _∷_, _++_, append-assoc}
-use mathlib.Core.Bool.{Bool, true, false, _&&_}
+use mathlib.Core.Bool.{true}
 use Prim.Native.Nat.{ℕ, zero, suc, _+_, _*_}
 use native.Mathlib.Omega.{arith}
 use native.Mathlib.Nat.{suc-mul, zero-mul}
 use lib.ListN.{length, length-append}
 use Rattle.model.specs.Basic.{same}
 use Rattle.model.specs.Image.{tab}
-use Rattle.words.proofs.Places.{both, and-i, At, at-shift, at-cut, at-join, at-tab, tab-at, length-tab, same-eq, same-refl}
+use Rattle.words.proofs.Places.{both, and-i, At, at-shift, at-cut, at-join, at-tab, tab-at, same-eq, same-refl}
 use Rattle.layout.specs.Rows.{laid, after, rowsOk}
 use Rattle.layout.specs.Tables.{sums}
 

@@ -1,7 +1,6 @@
 -- What an accepted image says of its outputs: where their terms stand, how many they are, and that their positions are crisp.
-use mathlib.Core.Path.{_≡_, refl, sym, ap, _∙_, subst}
-use mathlib.Core.List.{List, [], _∷_}
-use mathlib.Core.Bool.{Bool, true, false, _&&_}
+use mathlib.Core.Path.{_≡_, ap, _∙_}
+use mathlib.Core.Bool.{Bool, true, _&&_}
 use Prim.Native.Nat.{ℕ, zero, suc, _+_, _*_, _-_, _≤_, _<_}
 use native.Mathlib.Nat.{suc-mul}
 use native.Mathlib.Omega.{arith}
@@ -9,14 +8,14 @@ use lib.Dec.{leb}
 use lib.IntN.{ℤ, natAbs}
 use lib.ListN.{length}
 use borrow.Author.Tests.{leb-true}
-use Rattle.model.specs.Basic.{all, between}
+use Rattle.model.specs.Basic.{all}
 use Rattle.model.specs.Bounds.{crispLimit}
-use Rattle.model.specs.Block.{Singleton, inRange}
+use Rattle.model.specs.Block.{inRange}
 use Rattle.model.specs.Tokens.{isName, inCrisp}
 use Rattle.model.specs.WellFormed.{outputOk, singletonOk}
 use Rattle.model.specs.Image.{tab, singletonAt, outputAt, decode}
 use Rattle.words.proofs.Places.{both, passed, length-tab}
-use Rattle.layout.specs.Tables.{sums, outputCount, inputTermsIn, outputTermsIn, outputRow, outputNext, outputRows}
+use Rattle.layout.specs.Tables.{sums, outputCount, inputTermsIn, outputRow, outputNext, outputRows}
 use Rattle.layout.specs.Groups.{frameOk, variablesOk, Sound}
 use Rattle.layout.proofs.TableLaws.{Runs, runs-from}
 use Rattle.layout.proofs.Parts.{outputFirst, output-row}

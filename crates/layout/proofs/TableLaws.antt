@@ -1,14 +1,14 @@
 -- The tables of document 01 as rows, and what rows with running firsts hold, joined.
 use mathlib.Core.Path.{_≡_, refl, sym, ap, _∙_, subst}
 use mathlib.Core.List.{List, [], _∷_, _++_, map, append-assoc}
-use mathlib.Core.Bool.{Bool, true, false, _&&_}
-use Prim.Native.Nat.{ℕ, zero, suc, _+_, _*_, _-_, _≤_, _<_}
+use mathlib.Core.Bool.{true}
+use Prim.Native.Nat.{ℕ, zero, suc, _+_, _*_}
 use native.Mathlib.Omega.{arith}
 use lib.ListN.{length, length-append}
 use Rattle.model.specs.Basic.{same, gather, total}
 use Rattle.model.specs.Block.{Input, Output, Term, Rule, size}
-use Rattle.model.specs.Image.{nameWords, typeWord, rangeWords, defaultWords, inputTable, outputTable, termTable, ruleTable, tab}
-use Rattle.words.proofs.Places.{both, and-i, At, length-tab}
+use Rattle.model.specs.Image.{nameWords, rangeWords, defaultWords, inputTable, outputTable, termTable, ruleTable, tab}
+use Rattle.words.proofs.Places.{both}
 use Rattle.layout.specs.Rows.{laid, rowsOk}
 use Rattle.layout.specs.Tables.{inputRow, inputNext, outputRow, outputNext, termRow, termNext, ruleRow, ruleNext, alone, onward, sums}
 

@@ -1,28 +1,27 @@
 -- The words of an image are those of the block that they stand for exactly when `shapeOk` says so.
 use mathlib.Core.Path.{_≡_, refl, sym, ap, _∙_, subst}
-use mathlib.Core.List.{List, [], _∷_, _++_, map}
-use mathlib.Core.Bool.{Bool, true, false, _&&_}
+use mathlib.Core.List.{List, [], _∷_, _++_}
+use mathlib.Core.Bool.{Bool, true, false}
 use Prim.Native.Nat.{ℕ, zero, suc, _+_, _*_, _-_, _≤_, _<_}
 use native.Mathlib.Omega.{arith}
 use lib.Dec.{eqb, leb, ltb}
-use lib.IntN.{ℤ, pos, negsuc}
 use lib.ListN.{length, getD, length-append}
-use borrow.Author.Tests.{eq-eqb, eqb-true, ne-eqb, eqb-false, le-leb, leb-true, ltb-true, ltb-false}
+use borrow.Author.Tests.{eq-eqb, eqb-true, le-leb, leb-true}
 use Rattle.model.specs.Basic.{all, gather, total, same}
-use Rattle.model.specs.Block.{Point, Term, Conclusion, Rule, Block, inputTerms, outputTerms, conclusions, size, Condition, term, neg, two}
+use Rattle.model.specs.Block.{Point, Term, Conclusion, Rule, inputTerms, conclusions, size, Condition, term, neg, two}
 use Rattle.model.specs.declared.Pair.{Pair}
 use Rattle.model.specs.declared.Pair.the-variants.{MinMax, ProdAsum, BdifBsum}
 use Rattle.model.specs.declared.Accumulation.{Accumulation}
 use Rattle.model.specs.declared.Accumulation.the-variants.{Max, Bsum}
 use Rattle.model.specs.declared.Activation.{Activation}
 use Rattle.model.specs.declared.Activation.the-variants.{Min, Prod}
-use Rattle.model.specs.Image.{crispWord, crispOf, nameWords, nameAt, opWord, pairWord, pairOf, accuWord, accuOf, actWord, actOf, terms, points, postfix, inputTable, outputTable, termTable, pointWords, ruleTable, conclusionWords, counts, widths, offsets, endOf, header, words, tab, pointAt, termAt, singletonAt, inputAt, outputAt, conclusionAt, ruleAt, decode}
-use Rattle.words.proofs.Places.{both, and-i, Every, passed, pass, At, at-shift, at-cut, at-join, at-tab, length-tab}
-use Rattle.layout.specs.Rows.{laid, after, rowsOk}
-use Rattle.layout.specs.Tables.{inputRow, inputNext, outputRow, outputNext, termRow, termNext, ruleRow, ruleNext, alone, onward, sums, outputTermAt, outputPointAt, termCount, wordCount, inputTermsIn, outputTermsIn, inputPointsIn, wordsIn, conclusionsIn, inputRows, outputRows, inputTermRows, outputTermRows, outputPointRows, ruleRows, conditionExact, conditionRows, nameExact, headerOk, countsOk, shapeOk}
+use Rattle.model.specs.Image.{crispWord, crispOf, nameWords, nameAt, opWord, pairWord, pairOf, accuWord, accuOf, actWord, actOf, terms, points, postfix, inputTable, outputTable, termTable, pointWords, ruleTable, conclusionWords, offsets, endOf, header, words, tab, pointAt, termAt, inputAt, outputAt, conclusionAt, ruleAt, decode}
+use Rattle.words.proofs.Places.{both, and-i, Every, passed, pass, At, at-shift, at-cut, at-join, length-tab}
+use Rattle.layout.specs.Rows.{laid, rowsOk}
+use Rattle.layout.specs.Tables.{inputRow, inputNext, outputRow, outputNext, termRow, termNext, ruleRow, ruleNext, alone, onward, outputTermAt, outputPointAt, termCount, wordCount, inputTermsIn, outputTermsIn, inputPointsIn, wordsIn, conclusionsIn, inputRows, outputRows, inputTermRows, outputTermRows, outputPointRows, ruleRows, conditionExact, conditionRows, nameExact, headerOk, countsOk, shapeOk}
 use Rattle.layout.proofs.RowLaws.{stands, stood, rows-out, rows-in, length-laid, laid-append, after-sums}
 use Rattle.layout.proofs.TableLaws.{input-table, output-table, term-table, rule-table, gather-laid, gather-append}
-use Rattle.layout.proofs.Parts.{wide-input, wide-output, wide-term, rule-words-row, inputTerms-are, outputTerms-are, terms-are, points-are, conclusions-are, conditions-are}
+use Rattle.layout.proofs.Parts.{wide-input, wide-output, wide-term, rule-words-row, inputTerms-are, terms-are, points-are, conclusions-are, conditions-are}
 
 -- a crisp value's word is the one it was read from
 pub word-crisp : (x : ℕ) → x ≤ 4294967295 → crispWord (crispOf x) ≡ x

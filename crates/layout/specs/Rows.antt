@@ -1,5 +1,5 @@
 -- Tables of an image row by row: each row's words are those that its entry is laid out as, with the firsts as running totals.
-use mathlib.Core.Bool.{Bool, true, false, _&&_}
+use mathlib.Core.Bool.{Bool, true, _&&_}
 use mathlib.Core.List.{List, [], _∷_, _++_}
 use Prim.Native.Nat.{ℕ, zero, suc, _+_, _*_}
 use Rattle.model.specs.Basic.{same}

@@ -1,13 +1,13 @@
 -- The rows of each table, as document 01 lays them out, and what the words of an image must satisfy to be laid out so.
-use mathlib.Core.Bool.{Bool, true, false, _&&_}
+use mathlib.Core.Bool.{Bool}
 use mathlib.Core.List.{List, [], _∷_, _++_}
 use Prim.Native.Nat.{ℕ, zero, suc, _+_, _*_}
 use lib.Dec.{leb, eqb}
 use lib.ListN.{length}
 use Rattle.model.specs.Basic.{every, all, same}
 use Rattle.model.specs.Bounds.{M}
-use Rattle.model.specs.Block.{Point, Term, Input, Output, Conclusion, Rule, size}
-use Rattle.model.specs.Image.{nameWords, nameAt, typeWord, rangeWords, defaultWords, pointWords, conclusionWords, postfix, singletonTerm, tab, pointAt, termAt, singletonAt, inputAt, outputAt, ruleAt}
+use Rattle.model.specs.Block.{Point, Term, Input, Output, Rule, size}
+use Rattle.model.specs.Image.{nameWords, nameAt, typeWord, rangeWords, defaultWords, pointWords, postfix, singletonTerm, tab, pointAt, termAt, singletonAt, inputAt, outputAt, ruleAt}
 use Rattle.layout.specs.Rows.{rowsOk}
 
 -- ROWS, n being the first term, point or word of the next one

@@ -1,26 +1,17 @@
 -- What each test of the load check settles.
-use mathlib.Core.Path.{_≡_, refl, sym, ap, _∙_}
+use mathlib.Core.Path.{_≡_, sym, ap, _∙_}
 use mathlib.Core.List.{List, [], _∷_}
-use mathlib.Core.Bool.{Bool, true, false, _&&_}
+use mathlib.Core.Bool.{Bool, true, false, and-true, and-false}
 use mathlib.Core.Option.{none}
 use Prim.Native.Nat.{ℕ, _*_, _<_}
-use native.Mathlib.Omega.{arith}
 use lib.Dec.{eqb}
 use lib.ListN.{length, getD}
 use borrow.Author.Tests.{eq-eqb, ne-eqb}
 use Rattle.model.specs.Basic.{every}
-use Rattle.model.specs.Outcome.{Outcome, accepted, refused, verdictIn}
+use Rattle.model.specs.Outcome.{accepted, refused, verdictIn}
 use Rattle.model.specs.Image.{wordAt, decode, isImageOf, loads}
 use Rattle.layout.specs.Groups.{frameOk, variablesOk, rulesOk}
-use Rattle.layout.proofs.Groups.{grouped, groups}
-
-and-false : (a : Bool) → a && false ≡ false
-and-false true = refl
-and-false false = refl
-
-and-true : (a : Bool) → a && true ≡ a
-and-true true = refl
-and-true false = refl
+use Rattle.layout.proofs.Groups.{groups}
 
 -- four tests in a row
 at-once : (a f v r : Bool) → a ≡ false → every (a ∷ f ∷ v ∷ r ∷ []) ≡ false

@@ -1,7 +1,6 @@
 // The load check: any bytes are accepted, or refused with 11.
 ghost use mathlib.Core.Path.{_≡_};
 ghost use mathlib.Core.Bool.{true, false};
-ghost use Prim.Native.Nat.{_≤_};
 ghost use Rattle.model.specs.Outcome.{verdictIn};
 ghost use Rattle.model.specs.Refusals.{verdictOf};
 ghost use Rattle.model.specs.Image.{wordAt, decode, isImageOf, loads};

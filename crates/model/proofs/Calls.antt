@@ -4,7 +4,7 @@ use mathlib.Core.List.{List, [], _∷_, _++_, map}
 use mathlib.Core.Option.{none, some}
 use mathlib.Core.Path.{_≡_, refl}
 use Prim.Native.Nat.{ℕ}
-use lib.Ieee.{Float, nan, inf, fin, binary32, binary64, ofInt, ofBits}
+use lib.Ieee.{nan, inf, fin, binary32, binary64, ofInt, ofBits}
 use lib.IntN.{ℤ, pos, negsuc, negℤ}
 use Rattle.model.specs.Basic.{bytes}
 use Rattle.model.specs.Block.{Block}
@@ -14,7 +14,6 @@ use Rattle.model.specs.Image.{image}
 use Rattle.model.specs.Readings.{realOf, valueIn}
 use Rattle.model.specs.Evaluation.{heldOf, noAnswer, padded, Evaluated, evaluate, fresh, heldAfterAll, fromFresh, Call}
 use Rattle.model.specs.declared.Answer.{Answer}
-use Rattle.model.specs.declared.Held.{Held}
 use Rattle.model.specs.declared.Mark.{Mark}
 use Rattle.model.specs.declared.Mark.the-variants.{Fired, Default, Held as HeldMark}
 use Rattle.model.specs.declared.Reading.{Reading}

@@ -1,12 +1,11 @@
 -- Cases worked out by another implementation: one block with its image, fresh record and calls, and four texts with their listing.
-use mathlib.Core.List.{List, [], _∷_, _++_, map}
-use mathlib.Core.Option.{none, some}
+use mathlib.Core.List.{List, [], _∷_, _++_}
+use mathlib.Core.Option.{none}
 use mathlib.Core.Path.{_≡_, refl}
 use Prim.Native.Nat.{ℕ}
 use lib.Ieee.{binary32, binary64, ofBits}
 use lib.IntN.{ℤ, pos, negsuc}
 use Rattle.model.specs.Basic.{bytes}
-use Rattle.model.specs.Block.{Block}
 use Rattle.model.specs.Outcome.{Outcome, accepted, refused, andThen}
 use Rattle.model.specs.Reader.{reads}
 use Rattle.model.specs.Image.{words, bytesOf}
@@ -16,7 +15,7 @@ use Rattle.model.specs.declared.Answer.{Answer}
 use Rattle.model.specs.declared.Mark.{Mark}
 use Rattle.model.specs.declared.Mark.the-variants.{Fired, Default, Held as HeldMark}
 use Rattle.model.specs.declared.Reading.{Reading}
-use Rattle.model.specs.declared.Reading.the-variants.{Real, Int, Absent}
+use Rattle.model.specs.declared.Reading.the-variants.{Real}
 use Rattle.model.proofs.Opened.{opened}
 
 abbrev wordsRead : List ℕ → Outcome (List ℕ)

@@ -1,6 +1,6 @@
 -- A function block as document 01 speaks of it: variables, terms, points, rules with conditions as trees.
 -- Names are their bytes, crisp values thousandths, degrees and weights millionths.
-use mathlib.Core.Bool.{Bool, true, false, _&&_}
+use mathlib.Core.Bool.{Bool, true, _&&_}
 use mathlib.Core.List.{List, [], _∷_, map}
 use mathlib.Core.Option.{Option, none, some}
 use Prim.Native.Nat.{ℕ, _+_}

@@ -2,23 +2,21 @@
 use mathlib.Core.Bool.{Bool, true, false, _&&_, not}
 use mathlib.Core.List.{List, [], _∷_, _++_, map}
 use mathlib.Core.Option.{Option, none, some}
-use Prim.Native.Nat.{ℕ, zero, suc, _+_, _-_, max}
+use Prim.Native.Nat.{ℕ, _+_, _-_, max}
 use lib.Dec.{ltb, eqb}
-use lib.Ieee.{Float, fin}
+use lib.Ieee.{fin}
 use lib.IntN.{ℤ, pos, natAbs, _+ℤ_, _*ℤ_}
-use lib.ListN.{length, replicate, getD}
+use lib.ListN.{length, replicate}
 use lib.Signed.{ltZ}
 use Rattle.model.specs.Basic.{if_then_else_, all, total, gather, indexOf}
 use Rattle.model.specs.Bounds.{outputLimit}
 use Rattle.model.specs.Tokens.{inCrisp}
-use Rattle.model.specs.Block.{Term, Input, Range, Output, Conclusion, Rule, Accumulation, by-max, by-bsum, Block, inputTerms, inRange}
+use Rattle.model.specs.Block.{Input, Range, Output, Rule, Accumulation, by-max, by-bsum, Block, inputTerms, inRange}
 use Rattle.model.specs.Outcome.{Outcome, accepted, refused, andThen}
 use Rattle.model.specs.Image.{tab, loads}
 use Rattle.model.specs.Degrees.{nearestℤ, prodOf, bsumOf, termDegree, conditionDegree}
 use Rattle.model.specs.Readings.{taken, valueIn, floatOf}
-use Rattle.model.specs.declared.Crisp.{Crisp}
 use Rattle.model.specs.declared.Reading.{Reading}
-use Rattle.model.specs.declared.Reading.the-variants.{Absent}
 use Rattle.model.specs.declared.Mark.{Mark}
 use Rattle.model.specs.declared.Mark.the-variants.{None, Fired, Default, Held as HeldMark}
 use Rattle.model.specs.declared.Answer.{Answer}

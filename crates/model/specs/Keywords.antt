@@ -1,10 +1,10 @@
 -- Keywords: the words of Table 7 of source 001 in its order, then REAL and INT. They are compared byte by byte.
 use mathlib.Core.Bool.{Bool}
 use mathlib.Core.List.{List, [], _∷_}
-use Prim.Native.Nat.{ℕ, _+_}
+use Prim.Native.Nat.{ℕ}
 use lib.Dec.{ltb}
 use lib.ListN.{length}
-use Rattle.model.specs.Basic.{if_then_else_, bytes, same, indexOf}
+use Rattle.model.specs.Basic.{bytes, same, indexOf}
 
 unfoldable pub keywords : List (List ℕ)
 keywords =

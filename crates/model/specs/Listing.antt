@@ -1,11 +1,11 @@
 -- A listing: the text of a block, with the fewest parentheses.
-use mathlib.Core.Bool.{Bool, true, false, _&&_}
+use mathlib.Core.Bool.{true, false, _&&_}
 use mathlib.Core.List.{List, [], _∷_, _++_, map}
 use mathlib.Core.Option.{Option, none, some}
 use Prim.Native.Nat.{ℕ, zero, suc, _+_, _/_, _%_}
 use lib.Dec.{ltb, eqb}
 use lib.IntN.{ℤ, pos, negsuc}
-use lib.ListN.{length, getD}
+use lib.ListN.{getD}
 use Rattle.model.specs.Basic.{if_then_else_, bytes, isEmpty, gather}
 use Rattle.model.specs.Bounds.{M}
 use Rattle.model.specs.Block.{Point, Term, Singleton, InputType, real, int, Input, Range, Output, Op, and, or, Condition, term, neg, two, Conclusion, Rule, Pair, min-max, prod-asum, bdif-bsum, Accumulation, by-max, by-bsum, Activation, by-min, by-prod, Block}

@@ -1,5 +1,5 @@
 -- Readings: what a REAL, an INT or no reading at all is as a crisp value; and a crisp value as a 64-bit float.
-use mathlib.Core.Bool.{Bool, true, false, cond}
+use mathlib.Core.Bool.{Bool}
 use mathlib.Core.Option.{Option, none, some}
 use Prim.Native.Nat.{ℕ, _*_}
 use lib.Ieee.{Float, nan, inf, fin, binary64, up, down, ofInt, div}
@@ -9,7 +9,6 @@ use Rattle.model.specs.Basic.{if_then_else_}
 use Rattle.model.specs.Bounds.{crispLimit}
 use Rattle.model.specs.Block.{InputType, real, int}
 use Rattle.model.specs.Degrees.{nearestℤ}
-use Rattle.model.specs.declared.Crisp.{Crisp}
 use Rattle.model.specs.declared.Taken.{Taken}
 use Rattle.model.specs.declared.Taken.the-variants.{Value, Absent as Missing, NotFinite, WrongKind}
 use Rattle.model.specs.declared.Reading.{Reading}

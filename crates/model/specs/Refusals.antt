@@ -1,5 +1,5 @@
 -- Refusal numbers: the number and the place of each case of each answer.
-use mathlib.Core.Option.{Option, none, some}
+use mathlib.Core.Option.{none, some}
 use Prim.Native.Nat.{ℕ}
 use Rattle.model.specs.Outcome.{Outcome, accepted, refused}
 use Rattle.model.specs.declared.Refusal.{Refusal}

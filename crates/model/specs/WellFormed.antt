@@ -1,11 +1,11 @@
 -- What every block that was read satisfies, as a test.
-use mathlib.Core.Bool.{Bool, true, false, _&&_, not}
+use mathlib.Core.Bool.{Bool, true, _&&_, not}
 use mathlib.Core.List.{List, [], _∷_, _++_, map}
 use mathlib.Core.Option.{Option, none, some}
 use Prim.Native.Nat.{ℕ, _+_, _%_}
 use lib.Dec.{leb, ltb, eqb}
 use lib.IntN.{ℤ}
-use lib.ListN.{length, getD}
+use lib.ListN.{length}
 use lib.Signed.{ltZ}
 use Rattle.model.specs.Basic.{between, isEmpty, every, all, total, distinct}
 use Rattle.model.specs.Bounds.{M, inputLimit, outputLimit, termLimit, pointLeast, pointLimit, ruleLimit, wordLimit, conclusionLimit, ruleNumberLimit, depthLimit}

@@ -1,17 +1,13 @@
 -- Four words from a place on, compared one after the other.
-use mathlib.Core.Path.{_≡_, refl, sym, _∙_}
+use mathlib.Core.Path.{_≡_, sym, _∙_}
 use mathlib.Core.List.{[], _∷_}
-use mathlib.Core.Bool.{Bool, true, false, _&&_}
+use mathlib.Core.Bool.{true, false, _&&_, and-true}
 use Prim.Native.Nat.{ℕ, suc, _+_}
 use native.Mathlib.Omega.{arith}
 use borrow.Author.Tests.{eq-eqb, ne-eqb}
 use lib.Dec.{eqb}
 use Rattle.model.specs.Basic.{same}
 use Rattle.model.specs.Image.{tab}
-
-pub and-true : (a : Bool) → a && true ≡ a
-and-true true = refl
-and-true false = refl
 
 pub four : (f : ℕ → ℕ) (o : ℕ) → tab f 4 o ≡ f o ∷ f (o + 1) ∷ f (o + 2) ∷ f (o + 3) ∷ []
 unfolding tab

@@ -1,7 +1,7 @@
 -- A stored name is one that is spelt well and is no keyword; two stored names are the same where their words are.
 use mathlib.Core.Path.{_≡_, refl, sym, ap, _∙_, subst}
 use mathlib.Core.List.{List, [], _∷_, _++_}
-use mathlib.Core.Bool.{Bool, true, false, _&&_, not}
+use mathlib.Core.Bool.{Bool, true, false, _&&_, not, and-false, and-true}
 use Prim.Native.Nat.{ℕ, zero, suc, _+_, _*_, _≤_, compare·suc-suc}
 use native.Mathlib.Omega.{arith}
 use borrow.Author.Tests.{leb-false, le-leb, lt-ltb}
@@ -16,7 +16,7 @@ use Rattle.words.proofs.Places.{both, same-eq, same-refl}
 use Rattle.words.proofs.Bytes.{words-at, length-bytes}
 use Rattle.names.specs.Steps.{steps, spelt}
 use Rattle.names.specs.Stored.{nameStored, absent, keywordWords}
-use Rattle.names.proofs.Fours.{and-true, four}
+use Rattle.names.proofs.Fours.{four}
 use Rattle.names.proofs.Spelling.{before, padded, spelling, before-le, before-short, padded-in, padded-out}
 
 -- two tests are equal where each passes when the other does
@@ -139,10 +139,6 @@ module _ (v : List ℕ) (e : v ≡ nameWords (before (bytesOf v))) (h : length (
           simp (l, s, ih)
 
 -- THE TWO LAWS
-and-false : (a : Bool) → a && false ≡ false
-and-false true = refl
-and-false false = refl
-
 arranged : (a b c k s m : Bool) → (s ≡ true → k ≡ m) → (a && (b && (c && (true && k)))) && s ≡ ((a && (b && c)) && s) && m
 arranged false b c k s m f = refl
 arranged true false c k s m f = refl

@@ -1,7 +1,7 @@
 -- Numbers that are marked from the last rule on.
 use mathlib.Core.Path.{_≡_, refl, sym, ap, _∙_}
-use mathlib.Core.List.{List, []}
-use mathlib.Core.Bool.{Bool, true, false, _&&_, not}
+use mathlib.Core.List.{List}
+use mathlib.Core.Bool.{Bool, true, false, not, and-false}
 use Prim.Native.Nat.{ℕ, zero, suc, _+_, _-_, _≤_, _<_}
 use native.Mathlib.Omega.{arith}
 use native.Mathlib.Nat.{sub-zero}
@@ -10,16 +10,12 @@ use borrow.Author.Tests.{eqb-true, eqb-false, leb-true}
 use lib.Dec.{eqb, leb}
 use lib.ListN.{length, getD, set, replicate}
 use lib.Seq.{getD-set-same, getD-set-other}
-use Rattle.model.specs.Basic.{all, distinct, every}
+use Rattle.model.specs.Basic.{all, distinct}
 use Rattle.model.specs.Bounds.{ruleNumberLimit}
 use Rattle.model.specs.Image.{tab}
 use Rattle.words.proofs.Places.{both, passed}
 use Rattle.rules.specs.Walk.{ruleNumber, ruleStored, rowStored, rulesWalk}
 use Rattle.rules.proofs.Loops.{distinct-more, distinct-stop}
-
-and-false : (a : Bool) → a && false ≡ false
-and-false true = refl
-and-false false = refl
 
 not-back : (a : Bool) (b : Bool) → b ≡ not a → a ≡ not b
 not-back true b e = ap not (sym e)

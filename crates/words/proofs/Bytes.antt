@@ -1,11 +1,11 @@
 -- The words of an image against its bytes.
-use mathlib.Core.Path.{_≡_, refl, sym, ap, _∙_, subst}
-use mathlib.Core.List.{List, [], _∷_, _++_}
-use Prim.Native.Nat.{ℕ, zero, suc, _+_, _*_, _/_, _%_, _≤_, _<_}
+use mathlib.Core.Path.{_≡_, refl, sym, _∙_}
+use mathlib.Core.List.{List, [], _∷_}
+use Prim.Native.Nat.{ℕ, suc, _+_, _*_, _/_, _%_, _<_}
 use native.Mathlib.Omega.{arith}
 use lib.ListN.{length, getD}
 use Rattle.model.specs.Basic.{gather}
-use Rattle.model.specs.Image.{wordAt, wordBytes, bytesOf}
+use Rattle.model.specs.Image.{wordAt, bytesOf}
 use Rattle.words.proofs.Places.{At}
 
 pub length-bytes : (ws : List ℕ) → length (bytesOf ws) ≡ length ws * 4

@@ -1,6 +1,6 @@
 use borrow.Author.Needs.{needs}
-use mathlib.Core.Path.{_≡_, refl, sym, ap, _∙_, subst}
-use mathlib.Core.List.{List, map}
+use mathlib.Core.Path.{_≡_, sym, ap, _∙_, subst}
+use mathlib.Core.List.{map}
 use Prim.Native.Nat.{ℕ, _+_, _*_, _-_, _≤_, _<_}
 use native.Mathlib.Omega.{arith}
 use lib.Ieee.{Float}
@@ -15,7 +15,7 @@ use Rattle.centre.specs.Centre.{positionAt, positions, heights, figureOf}
 use Rattle.layout.specs.Tables.{inputTermsIn, outputCount}
 use Rattle.layout.proofs.TableLaws.{map-tab}
 use Rattle.layout.proofs.Parts.{outputFirst}
-use Rattle.defuzzification.specs.Outputs.{heightOf, HeightsOk}
+use Rattle.defuzzification.specs.Outputs.{heightOf}
 use Rattle.layout.proofs.Sound.{output-numbers, positions-crisp}
 use Rattle.defuzzification.proofs.Answers.{fired-is, unfired-is}
 use Rattle.words.proofs.Places.{element, tab-ext}

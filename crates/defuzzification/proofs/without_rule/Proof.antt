@@ -1,8 +1,7 @@
 use borrow.Author.Needs.{needs}
-use mathlib.Core.Path.{refl, sym, ap, _∙_}
+use mathlib.Core.Path.{sym}
 use borrow.Author.Tests.{eq-eqb, ne-eqb}
 use Rattle.model.specs.Image.{outputAt}
-use Rattle.model.specs.Evaluation.{unfired}
 use Rattle.defuzzification.proofs.without_rule.Statement.{statement}
 use Rattle.defuzzification.proofs.without_rule.Tie as tie
 use Rattle.defuzzification.proofs.without_rule.Reads as reads

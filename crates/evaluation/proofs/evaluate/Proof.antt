@@ -1,4 +1,4 @@
-use mathlib.Core.Path.{_≡_, sym, _∙_, subst}
+use mathlib.Core.Path.{sym, _∙_, subst}
 use Rattle.model.specs.Outcome.{Outcome}
 use Rattle.model.specs.Evaluation.{Evaluated, evaluate}
 use Rattle.model.specs.declared.Evaluation.{Evaluation}

@@ -11,7 +11,7 @@ use Rattle.model.specs.Image.{wordAt, decode}
 use mathlib.Core.Option.{some}
 use Rattle.model.specs.Outcome.{Outcome, refused}
 use Rattle.model.specs.declared.Verdict.the-variants.{Accepted}
-use Rattle.model.specs.Evaluation.{Evaluated, called, answers, noAnswer, padded, heldOf, heldOk, figuresOf, valuesOf, orZero}
+use Rattle.model.specs.Evaluation.{Evaluated, called, answers, noAnswer, padded, heldOf, heldOk, figuresOf}
 use Rattle.model.specs.declared.Answer.{Answer}
 use Rattle.model.specs.declared.Evaluation.{Evaluation}
 use Rattle.layout.proofs.Whole.{inputs-count}

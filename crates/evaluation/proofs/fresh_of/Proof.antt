@@ -1,5 +1,4 @@
-use mathlib.Core.Path.{_≡_, refl, sym, ap, _∙_}
-use Rattle.model.specs.Image.{wordAt, decode}
+use mathlib.Core.Path.{sym, ap, _∙_}
 use Rattle.model.specs.Outcome.{Outcome, verdictIn}
 use Rattle.model.specs.Evaluation.{recordIn}
 use Rattle.model.specs.declared.Held.{Held}

@@ -1,10 +1,10 @@
+use mathlib.Core.Bool.{and-true}
 use mathlib.Core.Path.{ap}
 use Prim.Native.Nat.{ℕ}
 use lib.Dec.{eqb}
 use Rattle.model.specs.Basic.{every}
 use Rattle.frame.specs.Tests.{rangeTest}
 use Rattle.frame.proofs.Lists.{equal, differs}
-use Rattle.frame.proofs.RowTests.{and-true}
 use borrow.Author.Needs.{needs}
 use Rattle.frame.proofs.range_ok.Statement.{statement}
 use Rattle.frame.proofs.range_ok.Tie as tie

@@ -1,14 +1,14 @@
 use borrow.Author.Needs.{needs}
-use mathlib.Core.Path.{_≡_, refl, sym, ap, _∙_}
-use mathlib.Core.Bool.{Bool, true, false, _&&_}
-use Prim.Native.Nat.{ℕ, _+_, _-_, _≤_, _<_}
+use mathlib.Core.Path.{_≡_, sym, ap, _∙_}
+use mathlib.Core.Bool.{Bool, _&&_}
+use Prim.Native.Nat.{ℕ, _+_, _-_, _≤_}
 use native.Mathlib.Omega.{arith}
 use borrow.Author.Tests.{not-true, not-false}
 use Rattle.model.specs.Basic.{all}
 use Rattle.model.specs.Block.{inRange}
 use Rattle.model.specs.Image.{wordAt, outputAt, tab}
-use Rattle.words.proofs.Places.{all-more, all-stop, all-end, all-start}
-use Rattle.held.specs.Places.{figureAt, fits, isZero}
+use Rattle.words.proofs.Places.{all-more, all-stop, all-end}
+use Rattle.held.specs.Places.{figureAt, fits}
 use Rattle.held.proofs.figures_ok.Statement.{statement}
 use Rattle.held.proofs.figures_ok.Tie as tie
 use Rattle.held.proofs.figures_ok.Reads as reads

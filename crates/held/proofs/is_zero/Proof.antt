@@ -1,5 +1,5 @@
 use borrow.Author.Needs.{needs}
-use mathlib.Core.Path.{_≡_, refl, sym, ap, _∙_}
+use mathlib.Core.Path.{sym, _∙_}
 use Rattle.held.proofs.Laws.{zero-below, zero-not-below}
 use Rattle.held.proofs.is_zero.Statement.{statement}
 use Rattle.held.proofs.is_zero.Tie as tie

@@ -1,13 +1,11 @@
 use borrow.Author.Needs.{needs}
-use mathlib.Core.Path.{_≡_, refl, sym, ap, _∙_}
-use mathlib.Core.Bool.{Bool, true, false, _&&_}
-use Prim.Native.Nat.{ℕ, _+_, _-_, _≤_, _<_}
-use native.Mathlib.Omega.{arith}
+use mathlib.Core.Path.{_≡_, refl, sym, _∙_}
+use Prim.Native.Nat.{_+_, _-_, _≤_}
 use borrow.Author.Tests.{not-true, not-false}
 use Rattle.model.specs.Basic.{all}
-use Rattle.model.specs.Image.{wordAt, tab}
-use Rattle.words.proofs.Places.{all-more, all-stop, all-end, all-start}
-use Rattle.held.specs.Places.{figureAt, fits, isZero}
+use Rattle.model.specs.Image.{tab}
+use Rattle.words.proofs.Places.{all-more, all-stop, all-end}
+use Rattle.held.specs.Places.{isZero}
 use Rattle.held.proofs.zero_from.Statement.{statement}
 use Rattle.held.proofs.zero_from.Tie as tie
 use Rattle.held.proofs.zero_from.Reads as reads

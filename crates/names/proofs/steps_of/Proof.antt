@@ -1,6 +1,5 @@
 use borrow.Author.Needs.{needs}
 use mathlib.Core.Path.{sym}
-use Prim.Native.Nat.{_-_}
 use Rattle.names.specs.Steps.{steps}
 use Rattle.names.proofs.steps_of.Statement.{statement}
 use Rattle.names.proofs.steps_of.Tie as tie

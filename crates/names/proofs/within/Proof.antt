@@ -1,4 +1,3 @@
-use Prim.Native.Nat.{_-_}
 use borrow.Author.Tests.{le-leb, lt-leb}
 use Rattle.names.proofs.within.Statement.{statement}
 use Rattle.names.proofs.within.Tie as tie
