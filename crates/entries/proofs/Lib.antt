@@ -1,0 +1,9 @@
+pub mod Tabs
+pub mod Views
+pub mod Inputs
+pub mod Types
+pub mod Outputs
+pub mod Terms
+pub mod Points
+pub mod Rows
+pub mod Singletons

@@ -1,0 +1,135 @@
+-- Laws of names as places in a text: when two are the same, which of a table is found first, and a table with one more.
+use mathlib.Core.Path.{_≡_, refl, sym, ap, _∙_}
+use mathlib.Core.List.{List, [], _∷_}
+use mathlib.Core.Bool.{Bool, true, false, and-false}
+use Prim.Native.Nat.{ℕ, zero, suc, _+_, _-_, _≤_, _<_}
+use native.Mathlib.Omega.{arith}
+use borrow.Author.Tests.{eq-eqb, ne-eqb, eqb-true, eqb-false}
+use lib.Dec.{eqb}
+use lib.ListN.{length, getD, set, length-set}
+use lib.Seq.{slice, slice-cons, slice-empty, length-slice, getD-set-same, getD-set-other}
+use Rattle.model.specs.Basic.{indexOf, same}
+use Rattle.model.specs.Tokens.{sameName}
+use Rattle.model.specs.Image.{tab}
+use Rattle.lookup.specs.Names.{nameOf, Placed}
+
+-- NAMES OF DIFFERENT LENGTHS, AND BYTE BY BYTE
+other-length : (v w : List ℕ) → (length v ≡ length w → ⊥) → same v w ≡ false
+unfolding same
+other-length [] [] h = absurd (h refl)
+other-length [] (y ∷ w) h = refl
+other-length (x ∷ v) [] h = refl
+other-length (x ∷ v) (y ∷ w) h = rw (other-length v w (λ e. h (ap suc e))) (and-false (eqb x y))
+
+module _ (s : List ℕ) (a e b f : ℕ) (he : e ≤ length s) (hf : f ≤ length s) where
+  pub differ-long : (e - a ≡ f - b → ⊥) → sameName (slice a e s) (slice b f s) ≡ false
+  unfolding sameName
+  differ-long h = other-length _ _ (λ q. h (sym (length-slice a e s he) ∙ q ∙ length-slice b f s hf))
+
+  module _ (j : ℕ) (ha : a + j < e) (hb : b + j < f) where
+    pub alike-more : getD s (a + j) 0 ≡ getD s (b + j) 0 → sameName (slice (a + j) e s) (slice (b + j) f s) ≡ sameName (slice (a + (j + 1)) e s) (slice (b + (j + 1)) f s)
+    unfolding sameName same
+    alike-more q =
+        let ka : a + (j + 1) ≡ suc (a + j) = omega arith in
+        let kb : b + (j + 1) ≡ suc (b + j) = omega arith in
+        rw (ka, kb, slice-cons (a + j) e s 0 ha he, slice-cons (b + j) f s 0 hb hf) (simp (eq-eqb _ _ q))
+
+    pub differ-here : (getD s (a + j) 0 ≡ getD s (b + j) 0 → ⊥) → sameName (slice (a + j) e s) (slice (b + j) f s) ≡ false
+    unfolding sameName same
+    differ-here q = rw (slice-cons (a + j) e s 0 ha he, slice-cons (b + j) f s 0 hb hf) (simp (ne-eqb _ _ q))
+
+pub alike-end : (s : List ℕ) (a e b f : ℕ) → a ≡ e → b ≡ f → sameName (slice a e s) (slice b f s) ≡ true
+unfolding sameName same
+alike-end s a e b f p q = rw (p, q, slice-empty e s, slice-empty f s)
+
+-- THE FIRST OF n VALUES FROM m ON THAT PASSES: from the i-th on, one a turn
+step : (n i : ℕ) → i < n → n - i ≡ suc (n - (i + 1))
+step n i h = omega arith
+
+module _ {A : Type 0} (f : A → Bool) (g : ℕ → A) (n m i : ℕ) where
+  first-more : i < n → f (g (m + i)) ≡ false → i + indexOf f (tab g (n - i) (m + i)) ≡ i + 1 + indexOf f (tab g (n - (i + 1)) (m + (i + 1)))
+  unfolding indexOf tab
+  first-more h q =
+      let k : m + (i + 1) ≡ suc (m + i) = omega arith in
+      rw (k, step n i h) (simp q (omega arith))
+
+  first-here : i < n → f (g (m + i)) ≡ true → i + indexOf f (tab g (n - i) (m + i)) ≡ i
+  unfolding indexOf tab
+  first-here h q = rw (step n i h) (simp q (omega arith))
+
+  first-none : n ≤ i → i + indexOf f (tab g (n - i) (m + i)) ≡ i
+  unfolding indexOf tab
+  first-none h = let q : n - i ≡ 0 = omega arith in rw q (omega arith)
+
+-- the first i of the names are none of them the text from start to end
+abbrev pub Past : (s names : List ℕ) (from count start end i : ℕ) → Type 0
+Past s names from count start end i =
+    (i ≤ count)
+    × (i + indexOf (sameName (slice start end s)) (tab (nameOf s names) (count - i) (from + i))
+    ≡ indexOf (sameName (slice start end s)) (tab (nameOf s names) count from))
+
+module _ (s names : List ℕ) (from count start end : ℕ) where
+  pub past-start : Past s names from count start end 0
+  past-start =
+      let p : from + 0 ≡ from = omega arith in
+      let q : count - 0 ≡ count = omega arith in
+      (omega arith, rw (p, q) (omega arith))
+
+  module _ (i : ℕ) where
+    pub past-more : i < count → sameName (slice start end s) (nameOf s names (from + i)) ≡ false
+        → Past s names from count start end i → Past s names from count start end (i + 1)
+    past-more h q p = (omega arith, sym (first-more (sameName (slice start end s)) (nameOf s names) count from i h q) ∙ p .1)
+
+    pub past-here : i < count → sameName (slice start end s) (nameOf s names (from + i)) ≡ true
+        → Past s names from count start end i → i ≡ indexOf (sameName (slice start end s)) (tab (nameOf s names) count from)
+    past-here h q p = sym (first-here (sameName (slice start end s)) (nameOf s names) count from i h q) ∙ p .1
+
+    pub past-end : count ≤ i → Past s names from count start end i → i ≡ indexOf (sameName (slice start end s)) (tab (nameOf s names) count from)
+    past-end h p = sym (first-none (sameName (slice start end s)) (nameOf s names) count from i h) ∙ p .1
+
+-- rows are found by their names
+pub index-tab : {A : Type 0} (name : A → List ℕ) (f : ℕ → A) (g : ℕ → List ℕ) (w : List ℕ) → ((k : ℕ) → name (f k) ≡ g k)
+    → (n i : ℕ) → indexOf (λ v. sameName w (name v)) (tab f n i) ≡ indexOf (sameName w) (tab g n i)
+unfolding indexOf tab
+index-tab name f g w e zero i = refl
+index-tab name f g w e (suc n) i =
+    λ j. elim (sameName w (e i j)) as (λ b. ℕ) [ true ↦ 0 | false ↦ suc (index-tab name f g w e n (suc i) j) ]
+
+-- ANOTHER NAME IN SLOT k
+module _ (s names : List ℕ) (k a e : ℕ) where
+  abbrev changed : List ℕ
+  changed = set (set names k a) (112 + k) e
+
+  start-same : k < 112 → length names ≡ 224 → getD changed k 0 ≡ a
+  start-same h n = getD-set-other (set names k a) (112 + k) k e 0 (λ q. omega arith) ∙ getD-set-same names k a 0 (omega arith)
+
+  end-same : k < 112 → length names ≡ 224 → getD changed (112 + k) 0 ≡ e
+  end-same h n = getD-set-same (set names k a) (112 + k) e 0 (omega (arith, length-set names k a))
+
+  place-other : (j : ℕ) → (j ≡ k → ⊥) → (j ≡ 112 + k → ⊥) → getD changed j 0 ≡ getD names j 0
+  place-other j p q = getD-set-other (set names k a) (112 + k) j e 0 q ∙ getD-set-other names k j a 0 p
+
+  pub name-same : k < 112 → length names ≡ 224 → nameOf s (set (set names k a) (112 + k) e) k ≡ slice a e s
+  unfolding nameOf
+  name-same h n = rw (start-same h n, end-same h n)
+
+  pub name-other : (j : ℕ) → (j ≡ k → ⊥) → j < 112 → k < 112 → nameOf s (set (set names k a) (112 + k) e) j ≡ nameOf s names j
+  unfolding nameOf
+  name-other j q hj hk = rw (place-other j q (λ z. omega arith), place-other (112 + j) (λ z. omega arith) (λ z. q (omega arith)))
+
+  pub placed-set : k < 112 → length names ≡ 224 → a ≤ e → e ≤ length s → Placed s names → Placed s (set (set names k a) (112 + k) e)
+  placed-set hk n ae es p = record {
+    order = λ j h. order j h (eqb j k) refl;
+    inside = λ j. inside j (eqb j k) (eqb j (112 + k)) refl refl;
+  }
+    where
+      order : (j : ℕ) → j < 112 → (t : Bool) → eqb j k ≡ t → getD changed j 0 ≤ getD changed (112 + j) 0
+      order j h true q = rw (eqb-true j k q, start-same hk n, end-same hk n) ae
+      order j h false q =
+          rw (place-other j (eqb-false j k q) (λ z. omega arith), place-other (112 + j) (λ z. omega arith) (λ z. eqb-false j k q (omega arith)))
+          (p .order j h)
+
+      inside : (j : ℕ) (t u : Bool) → eqb j k ≡ t → eqb j (112 + k) ≡ u → getD changed j 0 ≤ length s
+      inside j true u q r = rw (eqb-true j k q, start-same hk n) (omega arith)
+      inside j false true q r = rw (eqb-true j (112 + k) r, end-same hk n) es
+      inside j false false q r = rw (place-other j (eqb-false j k q) (eqb-false j (112 + k) r)) (p .inside j)

@@ -1,0 +1,160 @@
+use mathlib.Core.Path.{_≡_, refl, sym, _∙_}
+use Prim.Native.Nat.{_+_, _-_, _≤_}
+use native.Mathlib.Omega.{arith}
+use native.Mathlib.Numerals.{unary-clauses}
+use borrow.Author.Needs.{needs}
+use lib.ListN.{getD}
+use lib.Seq.{slice}
+use Rattle.model.specs.Tokens.{sameName}
+use Rattle.lookup.specs.Names.{nameOf}
+use Rattle.lookup.proofs.Names as laws
+use Rattle.lookup.proofs.find.Statement.{statement}
+use Rattle.lookup.proofs.find.Tie as tie
+use Rattle.lookup.proofs.find.Reads as reads
+use Rattle.lookup.proofs.find.Lts as lts
+
+abbrev Inv-loop : tie.InvT-loop
+Inv-loop s names from count start end n i₀ k a e j₀ i j =
+    (i ≡ i₀) × (j ≤ n) × (sameName (slice (start + j) end s) (slice (a + j) e s) ≡ sameName (slice start end s) (slice a e s))
+
+abbrev μ-loop : tie.MeasureT-loop
+μ-loop s names from count start end n i₀ k a e j₀ i j = n - j
+
+abbrev Inv-search : tie.InvT-search
+Inv-search s names from count start end n i₀ i = laws.Past s names from count start end i
+
+abbrev μ-search : tie.MeasureT-search
+μ-search s names from count start end n i₀ i = count - i
+
+sub-n : tie.Need-sub-n Inv-loop μ-loop Inv-search μ-search
+sub-n c = search needs
+
+search-holds : tie.Need-search-holds Inv-loop μ-loop Inv-search μ-search
+search-holds c = laws.past-start (c .args .s .now) (c .args .names .now) (c .args .from) (c .args .count) (c .args .start) (c .args .end)
+
+add-k : tie.Need-add-k Inv-loop μ-loop Inv-search μ-search
+add-k c = search needs
+
+mul-a : tie.Need-mul-a Inv-loop μ-loop Inv-search μ-search
+mul-a c = search needs
+
+element-copy-out-a : tie.Need-element-copy-out-a Inv-loop μ-loop Inv-search μ-search
+element-copy-out-a c = search needs
+
+add-e : tie.Need-add-e Inv-loop μ-loop Inv-search μ-search
+add-e c = search needs
+
+mul-e : tie.Need-mul-e Inv-loop μ-loop Inv-search μ-search
+mul-e c = search needs
+
+element-copy-out-e : tie.Need-element-copy-out-e Inv-loop μ-loop Inv-search μ-search
+element-copy-out-e c = search needs
+
+sub-if1 : tie.Need-sub-if1 Inv-loop μ-loop Inv-search μ-search
+sub-if1 c = c .before .before .before .before .pre .3 .order _ (omega arith)
+
+loop-holds : tie.Need-loop-holds Inv-loop μ-loop Inv-search μ-search
+loop-holds c = (refl, search needs, simp unary-clauses)
+
+add-if2 : tie.Need-add-if2 Inv-loop μ-loop Inv-search μ-search
+add-if2 c = search needs
+
+shared-slice-read-if2 : tie.Need-shared-slice-read-if2 Inv-loop μ-loop Inv-search μ-search
+shared-slice-read-if2 c = search needs
+
+add-if2-2 : tie.Need-add-if2-2 Inv-loop μ-loop Inv-search μ-search
+add-if2-2 c = omega (arith, c .before .before .before .before .before .before .before .before .pre .3 .inside (112 + (c .before .before .before .before .before .before .before .before .args .from + c .before .before .before .before .before .before .before .search .i)))
+
+shared-slice-read-if2-2 : tie.Need-shared-slice-read-if2-2 Inv-loop μ-loop Inv-search μ-search
+shared-slice-read-if2-2 c =
+    let z = c .before .before .before .before .before .before .before .before .before in
+    let o = c .before .before .before .before .before .before .before .before .search in
+    omega (arith, z .pre .3 .inside (112 + (z .args .from + o .i)), z .pre .3 .order (z .args .from + o .i) (omega arith))
+
+add-i : tie.Need-add-i Inv-loop μ-loop Inv-search μ-search
+add-i c = search needs
+
+search-less : tie.Need-search-less Inv-loop μ-loop Inv-search μ-search
+search-less c = search needs
+
+search-again : tie.Need-search-again Inv-loop μ-loop Inv-search μ-search
+unfolding nameOf
+search-again c =
+    let z = c .before .before .before .before .before .before .before .before .before .before in
+    let o = c .before .before .before .before .before .before .before .before .before .search in
+    let l = c .before .before .before .before .loop in
+    let q = laws.differ-here (z .args .s .now) (z .args .start) (z .args .end) (getD (z .args .names .now) (z .args .from + o .i) 0) (getD (z .args .names .now) (112 + (z .args .from + o .i)) 0) (z .pre .1) (z .pre .3 .inside (112 + (z .args .from + o .i))) (l .j) (omega arith) (omega (arith, z .pre .3 .order (z .args .from + o .i) (omega arith))) (c .if2 .taken) in
+    rw (l .inv .0) (laws.past-more (z .args .s .now) (z .args .names .now) (z .args .from) (z .args .count) (z .args .start) (z .args .end) (o .i) (search needs) (sym (l .inv .2) ∙ q) (o .inv))
+
+add-j : tie.Need-add-j Inv-loop μ-loop Inv-search μ-search
+add-j c = search needs
+
+loop-less : tie.Need-loop-less Inv-loop μ-loop Inv-search μ-search
+loop-less c = search needs
+
+loop-again : tie.Need-loop-again Inv-loop μ-loop Inv-search μ-search
+loop-again c =
+    let z = c .before .before .before .before .before .before .before .before .before .before in
+    let o = c .before .before .before .before .before .before .before .before .before .search in
+    let l = c .before .before .before .before .loop in
+    let q = laws.alike-more (z .args .s .now) (z .args .start) (z .args .end) (getD (z .args .names .now) (z .args .from + o .i) 0) (getD (z .args .names .now) (112 + (z .args .from + o .i)) 0) (z .pre .1) (z .pre .3 .inside (112 + (z .args .from + o .i))) (l .j) (omega arith) (omega (arith, z .pre .3 .order (z .args .from + o .i) (omega arith))) (c .if2 .left) in
+    (l .inv .0, search needs, sym q ∙ l .inv .2)
+
+add-i-2 : tie.Need-add-i-2 Inv-loop μ-loop Inv-search μ-search
+add-i-2 c = search needs
+
+search-less-2 : tie.Need-search-less-2 Inv-loop μ-loop Inv-search μ-search
+search-less-2 c = search needs
+
+search-again-2 : tie.Need-search-again-2 Inv-loop μ-loop Inv-search μ-search
+unfolding nameOf
+search-again-2 c =
+    let z = c .before .before .before .before .before in
+    let o = c .before .before .before .before .search in
+    laws.past-more (z .args .s .now) (z .args .names .now) (z .args .from) (z .args .count) (z .args .start) (z .args .end) (o .i) (search needs) (laws.differ-long (z .args .s .now) (z .args .start) (z .args .end) (getD (z .args .names .now) (z .args .from + o .i) 0) (getD (z .args .names .now) (112 + (z .args .from + o .i)) 0) (z .pre .1) (z .pre .3 .inside (112 + (z .args .from + o .i))) (λ q. c .if1 .left (sym q))) (o .inv)
+
+returns : tie.Need-returns Inv-loop μ-loop Inv-search μ-search
+returns c = (laws.past-end (c .before .before .args .s .now) (c .before .before .args .names .now) (c .before .before .args .from) (c .before .before .args .count) (c .before .before .args .start) (c .before .before .args .end) (c .before .search .i) (search needs) (c .before .search .inv), search needs)
+
+returns-2 : tie.Need-returns-2 Inv-loop μ-loop Inv-search μ-search
+unfolding nameOf
+returns-2 c =
+    let z = c .before .before .before .before .before .before .before in
+    let o = c .before .before .before .before .before .before .search in
+    let l = c .before .loop in
+    let q = laws.alike-end (z .args .s .now) (z .args .start + l .j) (z .args .end) (getD (z .args .names .now) (z .args .from + o .i) 0 + l .j) (getD (z .args .names .now) (112 + (z .args .from + o .i)) 0) (omega arith) (omega (arith, z .pre .3 .order (z .args .from + o .i) (omega arith))) in
+    rw (l .inv .0) (laws.past-here (z .args .s .now) (z .args .names .now) (z .args .from) (z .args .count) (z .args .start) (z .args .end) (o .i) (search needs) (sym (l .inv .2) ∙ q) (o .inv), search needs)
+
+pub find-spec : {M : Type 1} → statement M
+find-spec =
+    tie.close
+    (tie.spec
+    Inv-loop
+    μ-loop
+    Inv-search
+    μ-search
+    sub-n
+    search-holds
+    add-k
+    mul-a
+    element-copy-out-a
+    add-e
+    mul-e
+    element-copy-out-e
+    sub-if1
+    loop-holds
+    add-if2
+    shared-slice-read-if2
+    add-if2-2
+    shared-slice-read-if2-2
+    add-i
+    search-less
+    search-again
+    add-j
+    loop-less
+    loop-again
+    add-i-2
+    search-less-2
+    search-again-2
+    returns
+    returns-2)

@@ -1,0 +1,14 @@
+-- Names as places in a text: the name k, one of at most 112, starts at the k-th place and ends at the (112 + k)-th.
+use mathlib.Core.List.{List}
+use Prim.Native.Nat.{ℕ, _+_, _≤_, _<_}
+use lib.ListN.{length, getD}
+use lib.Seq.{slice}
+
+-- the name k
+unfoldable pub nameOf : List ℕ → List ℕ → ℕ → List ℕ
+nameOf s names k = slice (getD names k 0) (getD names (112 + k) 0) s
+
+-- every name lies in the text
+pub record Placed (s names : List ℕ) : Type 0 where
+  pub order : (k : ℕ) → k < 112 → getD names k 0 ≤ getD names (112 + k) 0
+  pub inside : (k : ℕ) → getD names k 0 ≤ length s

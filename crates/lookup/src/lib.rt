@@ -1,0 +1,44 @@
+// Lookup of a name: the names declared so far are places in the text, and are compared with it there.
+ghost use mathlib.Core.Path.{_≡_};
+ghost use Prim.Native.Nat.{_+_, _≤_};
+ghost use lib.ListN.{length};
+ghost use lib.Seq.{slice};
+ghost use Rattle.model.specs.Basic.{indexOf};
+ghost use Rattle.model.specs.Tokens.{sameName};
+ghost use Rattle.model.specs.Image.{tab};
+ghost use Rattle.lookup.specs.Names.{nameOf, Placed};
+
+// Which of `count` names, the first being the name `from`, is the text from `start` to `end`: `count` where none is.
+pub fn find(
+    s: &[u8],
+    names: &[usize; 224],
+    from: usize,
+    count: usize,
+    start: usize,
+    end: usize,
+) -> usize
+    requires { ⌜ (start ≤ end) × (end ≤ length (now s)) × (from + count ≤ 112) × Placed (now s) (now names) ⌝ }
+    ensures { λ r. ⌜ r ≡ indexOf (sameName (slice start end (now (s .entry)))) (tab (nameOf (now (s .entry)) (now (names .entry))) count from) ⌝ }
+    ensures within { λ r. ⌜ r ≤ count ⌝ }
+{
+    let n = end - start;
+    let mut i: usize = 0;
+    'search: while i < count {
+        let k = from + i;
+        let a = names[k];
+        let e = names[112 + k];
+        if e - a == n {
+            let mut j: usize = 0;
+            while j < n {
+                if s[start + j] != s[a + j] {
+                    i += 1;
+                    continue 'search;
+                }
+                j += 1;
+            }
+            break 'search;
+        }
+        i += 1;
+    }
+    i
+}

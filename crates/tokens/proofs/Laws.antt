@@ -1,0 +1,286 @@
+-- One step of each definition that walks over a text or a table, at a place of it.
+use mathlib.Core.Path.{_≡_, refl, sym, ap, _∙_}
+use mathlib.Core.List.{List, [], _∷_}
+use mathlib.Core.Bool.{Bool, true, false, _&&_, not, and-false, false≢true}
+use mathlib.Core.Option.{Option, none, some}
+use Prim.Native.Nat.{ℕ, zero, suc, _+_, _-_, _≤_, _<_}
+use native.Mathlib.Numerals.{add-one}
+use native.Mathlib.Omega.{arith}
+use borrow.Author.Tests.{eq-eqb, ne-eqb, eqb-true, eqb-false, leb-true}
+use lib.Dec.{eqb, leb}
+use lib.ListN.{length, take, drop, getD, drop-of-length-le, length-drop}
+use lib.Seq.{drop-cons, drop-nil, drop-drop, take-all, take-nil, slice, slice-empty}
+use Rattle.model.specs.Basic.{if_then_else_, all, run, same, indexOf}
+use Rattle.model.specs.Image.{tab}
+use Rattle.model.specs.Keywords.{END, WRONG, BLANK, keywords, keywordAt}
+use Rattle.model.specs.Tokens.{isUnderscore, isDigit, isNameByte, isMark, starts, tidy, wordKind, pointPart, numberPart, commentPart, commentPiece, piece, wordPiece, pieceAt, token, placed, scan}
+use Rattle.tokens.specs.Tokens.{spelling, tokensFrom, after}
+
+-- the text from a place on, as a part of it
+pub part : (s : List ℕ) (a : ℕ) → take (length s - a) (drop a s) ≡ drop a s
+part s a = take-all (length s - a) (drop a s) (omega (arith, length-drop a s))
+
+module _ (f : ℕ → Bool) (s : List ℕ) (i : ℕ) where
+  pub starts-here : i < length s → starts f (drop i s) ≡ f (getD s i 0)
+  starts-here h = rw (drop-cons s i 0 h)
+
+  pub starts-end : length s ≤ i → starts f (drop i s) ≡ false
+  starts-end h = rw (drop-of-length-le s h)
+
+  pub run-more : i < length s → f (getD s i 0) ≡ true → i + run f (drop i s) ≡ (i + 1) + run f (drop (i + 1) s)
+  unfolding run
+  run-more h e =
+      let q : run f (drop i s) ≡ suc (run f (drop (suc i) s)) = rw (drop-cons s i 0 h) (simp (run, e)) in
+      rw add-one (omega (arith, q))
+
+  pub run-stop : i < length s → f (getD s i 0) ≡ false → i + run f (drop i s) ≡ i
+  unfolding run
+  run-stop h e =
+      let q : run f (drop i s) ≡ 0 = rw (drop-cons s i 0 h) (simp (run, e)) in
+      omega (arith, q)
+
+  pub run-end : length s ≤ i → i + run f (drop i s) ≡ i
+  unfolding run
+  run-end h =
+      let q : run f (drop i s) ≡ 0 = rw (drop-of-length-le s h) in
+      omega (arith, q)
+
+-- WORDS
+tidy-cons : (c : ℕ) (w : List ℕ) → isUnderscore c ≡ false → tidy (c ∷ w) ≡ tidy w
+unfolding tidy
+tidy-cons c [] e = simp e
+tidy-cons c (d ∷ w) e = simp e
+
+module _ (w : List ℕ) (i : ℕ) (h : i < length w) where
+  pub tidy-plain : (getD w i 0 ≡ 95 → ⊥) → tidy (drop i w) ≡ tidy (drop (i + 1) w)
+  tidy-plain n = rw (add-one, drop-cons w i 0 h) (tidy-cons (getD w i 0) (drop (suc i) w) (ne-eqb _ _ n))
+
+  pub tidy-last : getD w i 0 ≡ 95 → length w ≤ i + 1 → tidy (drop i w) ≡ false
+  unfolding tidy
+  tidy-last e l = rw (drop-cons w i 0 h, drop-of-length-le w {i = suc i} (omega arith)) (simp (eq-eqb _ _ e))
+
+  pub tidy-pair : getD w i 0 ≡ 95 → i + 1 < length w → tidy (drop i w) ≡ not (isUnderscore (getD w (i + 1) 0)) && tidy (drop (i + 1) w)
+  unfolding tidy
+  tidy-pair e l = rw (add-one, drop-cons w i 0 h, drop-cons w (suc i) 0 (omega arith)) (simp (eq-eqb _ _ e))
+
+pub tidy-end : (w : List ℕ) (i : ℕ) → length w ≤ i → tidy (drop i w) ≡ true
+unfolding tidy
+tidy-end w i h = rw (drop-of-length-le w h)
+
+-- KEYWORDS
+spelling-end : (l : List ℕ) (k : ℕ) → getD l k 0 ≡ 0 → spelling (drop k l) ≡ []
+unfolding spelling
+spelling-end [] k e = rw (drop-nil {A = ℕ} k)
+spelling-end (b ∷ l) zero e = simp (eq-eqb b 0 e)
+spelling-end (b ∷ l) (suc k) e = spelling-end l k e
+
+spelling-more : (l : List ℕ) (k : ℕ) → (getD l k 0 ≡ 0 → ⊥) → spelling (drop k l) ≡ getD l k 0 ∷ spelling (drop (suc k) l)
+unfolding spelling
+spelling-more [] k n = absurd (n refl)
+spelling-more (b ∷ l) zero n = simp (ne-eqb b 0 n)
+spelling-more (b ∷ l) (suc k) n = spelling-more l k n
+
+module _ (w l : List ℕ) (k : ℕ) where
+  pub same-more : k < length w → (getD l k 0 ≡ 0 → ⊥) → getD w k 0 ≡ getD l k 0 → same (drop k w) (spelling (drop k l)) ≡ same (drop (k + 1) w) (spelling (drop (k + 1) l))
+  unfolding same
+  same-more h n e = rw (add-one, drop-cons w k 0 h, spelling-more l k n) (simp (eq-eqb _ _ e))
+
+  pub same-short : k < length w → getD l k 0 ≡ 0 → same (drop k w) (spelling (drop k l)) ≡ false
+  unfolding same
+  same-short h e = rw (drop-cons w k 0 h, spelling-end l k e)
+
+  pub same-stop : k < length w → (getD l k 0 ≡ 0 → ⊥) → (getD w k 0 ≡ getD l k 0 → ⊥) → same (drop k w) (spelling (drop k l)) ≡ false
+  unfolding same
+  same-stop h n e = rw (drop-cons w k 0 h, spelling-more l k n) (simp (ne-eqb _ _ e))
+
+  pub same-end : length w ≤ k → same (drop k w) (spelling (drop k l)) ≡ eqb (getD l k 0) 0
+  unfolding same
+  same-end h = rw (drop-of-length-le w h) (go (eqb (getD l k 0) 0) refl)
+    where
+      go : (b : Bool) → eqb (getD l k 0) 0 ≡ b → same [] (spelling (drop k l)) ≡ b
+      go true e = rw (spelling-end l k (eqb-true _ _ e))
+      go false e = rw (spelling-more l k (eqb-false _ _ e))
+
+module _ {A : Type 0} (p : A → Bool) (f : ℕ → A) (e i : ℕ) where
+  step : i < e → e - i ≡ suc (e - (i + 1))
+  step h = omega arith
+
+  pub index-more : i < e → p (f i) ≡ false → i + indexOf p (tab f (e - i) i) ≡ (i + 1) + indexOf p (tab f (e - (i + 1)) (i + 1))
+  unfolding indexOf tab
+  index-more h q =
+      let z : indexOf p (tab f (e - i) i) ≡ suc (indexOf p (tab f (e - (i + 1)) (i + 1))) = rw (step h) (simp (indexOf, q, add-one)) in
+      omega (arith, z)
+
+  pub index-here : i < e → p (f i) ≡ true → i + indexOf p (tab f (e - i) i) ≡ i
+  unfolding indexOf tab
+  index-here h q =
+      let z : indexOf p (tab f (e - i) i) ≡ 0 = rw (step h) (simp q) in
+      omega (arith, z)
+
+  pub index-end : e ≤ i → i + indexOf p (tab f (e - i) i) ≡ i
+  unfolding indexOf tab
+  index-end h =
+      let g : e - i ≡ 0 = omega arith in
+      let z : indexOf p (tab f (e - i) i) ≡ 0 = rw g in
+      omega (arith, z)
+
+same-length : (x y : List ℕ) → (length x ≡ length y → ⊥) → same x y ≡ false
+unfolding same
+same-length [] [] n = absurd (n refl)
+same-length [] (b ∷ y) n = refl
+same-length (a ∷ x) [] n = refl
+same-length (a ∷ x) (b ∷ y) n = rw (same-length x y (λ e. n (ap suc e))) (and-false (eqb a b))
+
+index-length : (n : ℕ) (w : List ℕ) (ks : List (List ℕ)) → n < length w → all (λ k. leb (length k) n) ks ≡ true → indexOf (same w) ks ≡ length ks
+unfolding indexOf all
+index-length n w [] h e = refl
+index-length n w (k ∷ ks) h e = go (index-length n w ks h) (leb (length k) n) refl e
+  where
+    go : (all (λ k. leb (length k) n) ks ≡ true → indexOf (same w) ks ≡ length ks) → (b : Bool) → leb (length k) n ≡ b → b && all (λ k. leb (length k) n) ks ≡ true
+        → indexOf (same w) (k ∷ ks) ≡ length (k ∷ ks)
+    go ih true q r = let g = leb-true (length k) n q in rw (indexOf, same-length w k (λ e. omega (arith, e, g, h))) (ap suc (ih r))
+    go ih false q r = absurd (false≢true r)
+
+-- no keyword is longer than 18 bytes
+pub keyword-long : (w : List ℕ) → 18 < length w → keywordAt w ≡ 43
+unfolding keywordAt keywords all
+keyword-long w h = index-length 18 w keywords h refl
+
+-- NUMBERS
+module _ (s : List ℕ) (i : ℕ) where
+  pub point-here : (d : Bool) → i < length s → getD s i 0 ≡ 46 → d ≡ starts isDigit (drop (i + 1) s)
+      → pointPart (drop i s) ≡ if d then suc (run isDigit (drop (i + 1) s)) else 0
+  point-here d h e q = rw (q, add-one, drop-cons s i 0 h) (simp (eq-eqb _ _ e))
+
+  pub point-none : i < length s → (getD s i 0 ≡ 46 → ⊥) → pointPart (drop i s) ≡ 0
+  point-none h n = rw (drop-cons s i 0 h) (simp (ne-eqb _ _ n))
+
+  pub point-end : length s ≤ i → pointPart (drop i s) ≡ 0
+  point-end h = rw (drop-of-length-le s h)
+
+-- e is where the first digits end, and p are the bytes of the point and what follows it
+pub number : (s : List ℕ) (a e p : ℕ) → e ≡ a + run isDigit (drop a s) → pointPart (drop e s) ≡ p → e + p ≡ a + numberPart (drop a s)
+unfolding numberPart
+number s a e p h q =
+    let z : pointPart (drop (run isDigit (drop a s)) (drop a s)) ≡ p = rw (drop-drop (run isDigit (drop a s)) a s, sym h) q in
+    omega (arith, h, z)
+
+-- PIECES
+pub word-piece : (s : List ℕ) (e k : ℕ) → 0 < length s → e ≡ 1 + run isNameByte (drop 1 s) → k ≡ wordKind (take e s) → piece k (e - 1) ≡ wordPiece (getD s 0 0) (drop 1 s)
+unfolding wordPiece
+word-piece [] e k h p q = absurd (omega arith)
+word-piece (c ∷ s) e k h p q =
+    let z : e ≡ suc (run isNameByte s) = omega (arith, p) in
+    let y : e - 1 ≡ run isNameByte s = omega (arith, p) in
+    rw (y, q, z)
+
+-- n bytes more
+abbrev longer : ℕ → Option ℕ → Option ℕ
+longer n none = none
+longer n (some m) = some (n + m)
+
+longer-zero : (o : Option ℕ) → longer 0 o ≡ o
+longer-zero none = refl
+longer-zero (some m) = ap some (omega arith)
+
+longer-more : (n : ℕ) (o : Option ℕ) → longer n (longer 1 o) ≡ longer (n + 1) o
+longer-more n none = refl
+longer-more n (some m) = ap some (omega arith)
+
+eqb-sym : (a b : ℕ) → eqb a b ≡ eqb b a
+eqb-sym a b = go (eqb b a) refl
+  where
+    go : (t : Bool) → eqb b a ≡ t → eqb a b ≡ t
+    go true e = eq-eqb a b (sym (eqb-true b a e))
+    go false e = ne-eqb a b (λ q. eqb-false b a e (sym q))
+
+comment-cons : (c : ℕ) (s : List ℕ) (b : Bool) → b ≡ eqb c 42 && starts (eqb 41) s → commentPart (c ∷ s) ≡ if b then some 2 else longer 1 (commentPart s)
+unfolding commentPart
+comment-cons c [] b e = rw (e, and-false (eqb c 42))
+comment-cons c (d ∷ s) b e = rw (e, eqb-sym 41 d) (go (eqb c 42 && eqb d 41) (commentPart (d ∷ s)))
+  where
+    go : (t : Bool) (o : Option ℕ) → elim t [ true ↦ some 2 | false ↦ elim o [ none ↦ none | some n ↦ some (suc n) ] ] ≡ if t then some 2 else longer 1 o
+    go true o = refl
+    go false none = refl
+    go false (some n) = ap some (omega arith)
+
+-- the bytes of a comment that begins at place 2, if what is left from i on closes it
+abbrev pub commentFrom : List ℕ → ℕ → Option ℕ
+commentFrom s i = longer (i - 2) (commentPart (drop i s))
+
+pub comment-begins : (s : List ℕ) → commentFrom s 2 ≡ commentPart (drop 2 s)
+comment-begins s = longer-zero (commentPart (drop 2 s))
+
+module _ (s : List ℕ) (i : ℕ) (g : 2 ≤ i) (b : Bool) where
+  at-byte : i < length s → b ≡ eqb (getD s i 0) 42 && starts (eqb 41) (drop (i + 1) s) → commentPart (drop i s) ≡ if b then some 2 else longer 1 (commentPart (drop (i + 1) s))
+  at-byte h e = rw (add-one, drop-cons s i 0 h) (comment-cons (getD s i 0) (drop (suc i) s) b (rw add-one at e))
+
+  pub comment-more : i < length s → b ≡ eqb (getD s i 0) 42 && starts (eqb 41) (drop (i + 1) s) → b ≡ false → commentFrom s i ≡ commentFrom s (i + 1)
+  comment-more h e f =
+      let z : i + 1 - 2 ≡ i - 2 + 1 = omega arith in
+      rw (at-byte h e, f, z) (longer-more (i - 2) (commentPart (drop (i + 1) s)))
+
+  pub comment-closed : i < length s → b ≡ eqb (getD s i 0) 42 && starts (eqb 41) (drop (i + 1) s) → b ≡ true → commentFrom s i ≡ commentPart (drop 2 s)
+      → piece BLANK (i + 1) ≡ commentPiece (drop 2 s) (commentPart (drop 2 s))
+  comment-closed h e f q =
+      let z : i - 2 + 2 ≡ i = omega arith in
+      rw (sym q, at-byte h e, f, z, add-one)
+
+pub comment-open : (s : List ℕ) (i : ℕ) → 2 ≤ length s → length s ≤ i → commentFrom s i ≡ commentPart (drop 2 s)
+    → piece WRONG (length s - 1) ≡ commentPiece (drop 2 s) (commentPart (drop 2 s))
+unfolding commentPart
+comment-open s i g h q =
+    let y : commentPart (drop 2 s) ≡ none = sym q ∙ rw (drop-of-length-le s h) in
+    let z : length s - 1 ≡ suc (length (drop 2 s)) = omega (arith, length-drop 2 s) in
+    rw (y, z)
+
+pub mark-some : (c : ℕ) → isMark c ≡ true → 0 < c
+mark-some zero e = absurd (false≢true e)
+mark-some (suc c) e = omega arith
+
+-- TOKENS
+-- the bytes of a piece are passed over
+jump : (n p : ℕ) (s : List ℕ) → n ≤ length s → scan n p s ≡ scan 0 (p + n) (drop n s)
+unfolding scan
+jump zero p s h = let z : p + 0 ≡ p = omega arith in rw z
+jump (suc n) p [] h = absurd (omega arith)
+jump (suc n) p (c ∷ s) h =
+    let z : suc p + n ≡ p + suc n = omega arith in
+    jump n (suc p) s (omega arith) ∙ ap (λ (q : ℕ). scan 0 q (drop n s)) z
+
+cut : (f n : ℕ) (l : List ℕ) → take n (drop f l) ≡ slice f (f + n) l
+cut zero n l = let z : 0 + n ≡ n = omega arith in rw z
+cut (suc f) n [] = let z : suc f + n ≡ suc (f + n) = omega arith in rw z (take-nil {A = ℕ} n)
+cut (suc f) n (x ∷ l) = let z : suc f + n ≡ suc (f + n) = omega arith in rw z (cut f n l)
+
+first : (l : List ℕ) (i k m : ℕ) → m < length l → piece k m ≡ pieceAt (getD l 0 0) (drop 1 l)
+    → scan 0 i l ≡ placed (piece k m) i l (scan 0 (i + 1 + m) (drop (suc m) l))
+unfolding scan
+first [] i k m h e = absurd (omega arith)
+first (c ∷ s) i k m h e =
+    let z : suc i + m ≡ i + 1 + m = omega arith in
+    rw (sym e) (ap (placed (piece k m) i (c ∷ s)) (jump m (suc i) s (omega arith) ∙ ap (λ (q : ℕ). scan 0 q (drop m s)) z))
+
+module _ (s : List ℕ) (i k m : ℕ) (h : m < length (drop i s)) (e : piece k m ≡ pieceAt (getD (drop i s) 0 0) (drop 1 (drop i s))) where
+  found : tokensFrom s i ≡ placed (piece k m) i (drop i s) (tokensFrom s (i + 1 + m))
+  unfolding tokensFrom
+  found =
+      let z : i + suc m ≡ i + 1 + m = omega arith in
+      let y : drop (suc m) (drop i s) ≡ drop (i + 1 + m) s = rw (drop-drop (suc m) i s, z) in
+      first (drop i s) i k m h e ∙ ap (λ l. placed (piece k m) i (drop i s) (scan 0 (i + 1 + m) l)) y
+
+  pub pass : k ≡ BLANK → tokensFrom s i ≡ tokensFrom s (i + 1 + m)
+  pass b = found ∙ simp (eq-eqb _ _ b)
+
+  pub answer : (k ≡ BLANK → ⊥) → 0 < k
+      → tokensFrom s i ≡ token k (slice i (i + 1 + m) s) i ∷ after s (record { kind = k; start = i; end = i + 1 + m })
+  unfolding after
+  answer b g =
+      let z : i + suc m ≡ i + 1 + m = omega arith in
+      let y : take (suc m) (drop i s) ≡ slice i (i + 1 + m) s = cut i (suc m) s ∙ ap (λ (q : ℕ). slice i q s) z in
+      let x : k ≡ END → ⊥ = λ q. omega (arith, q, g) in
+      found ∙ simp (ne-eqb _ _ b, ne-eqb _ _ x, y)
+
+pub last : (s : List ℕ) (i : ℕ) → length s ≤ i → tokensFrom s i ≡ token END (slice i i s) i ∷ after s (record { kind = END; start = i; end = i })
+unfolding tokensFrom scan after
+last s i h = rw (drop-of-length-le s h, slice-empty i s)

@@ -1,0 +1,32 @@
+-- The tokens of a text from a place on, and the first of them as the scanner gives it.
+use mathlib.Core.List.{List, [], _∷_}
+use Prim.Native.Nat.{ℕ}
+use lib.Dec.{eqb}
+use lib.ListN.{drop, getD}
+use lib.Seq.{slice}
+use Rattle.model.specs.Basic.{if_then_else_}
+use Rattle.model.specs.Keywords.{END}
+use Rattle.model.specs.Tokens.{Token as ModelToken, token, Piece as ModelPiece, piece, scan}
+use Rattle.tokens.specs.declared.Token.{Token}
+use Rattle.tokens.specs.declared.Piece.{Piece}
+
+unfoldable pub tokensFrom : List ℕ → ℕ → List ModelToken
+tokensFrom s at = scan 0 at (drop at s)
+
+abbrev pub tokenOf : List ℕ → Token → ModelToken
+tokenOf s t = token (t .kind) (slice (t .start) (t .end) s) (t .start)
+
+-- the tokens behind t
+unfoldable pub after : List ℕ → Token → List ModelToken
+after s t = if eqb (t .kind) END then [] else tokensFrom s (t .end)
+
+abbrev pub pieceOf : Piece → ModelPiece
+pieceOf p = piece (p .kind) (p .more)
+
+-- a row of the table of keywords, up to its first zero
+unfoldable pub spelling : List ℕ → List ℕ
+spelling [] = []
+spelling (b ∷ s) = if eqb b 0 then [] else b ∷ spelling s
+
+abbrev pub spelt : List (List ℕ) → ℕ → List ℕ
+spelt t i = spelling (getD t i [])
