@@ -123,7 +123,7 @@ text-length s c g = length-slice (c .start) (c .end) s (g .inside)
 pub steps : {f g : Part} {s : List ℕ} {a b c : Cursor} → Step f s a b → Step g s b c → Step (λ r. g (f r)) s a c
 steps {f} {g} {s} {a} {b} {c} p q = record { reads = λ x n. q .reads x n ∙ ap g (p .reads x n); fewer = let u = p .fewer in let v = q .fewer in omega arith; fits = q .fits; sticky = λ h. p .sticky (q .sticky h) }
 
-clash : {X : Type 0} → false ≡ true → X
+pub clash : {X : Type 0} → false ≡ true → X
 clash h = let z : _≡_ {A = ℕ} 0 1 = cc in absurd (omega arith)
 
 -- JUDGING, by the number of the first check that fails
