@@ -4,14 +4,14 @@ use mathlib.Core.Bool.{Bool, true, false}
 use mathlib.Core.List.{List, [], _∷_, _++_}
 use Prim.Native.Nat.{ℕ, zero, suc, _+_, _-_, _≤_, _<_}
 use native.Mathlib.Omega.{arith}
-use borrow.Author.Tests.{eq-eqb, ne-eqb, lt-leb, le-leb}
+use borrow.Author.Tests.{eq-eqb, ne-eqb, eqb-true, eqb-false}
 use lib.Dec.{eqb}
 use lib.ListN.{length}
 use lib.Seq.{slice, length-slice}
 use Rattle.model.specs.Basic.{if_then_else_}
 use Rattle.model.specs.Keywords.{END}
 use Rattle.model.specs.Block.{Block}
-use Rattle.model.specs.Parse.{Parse, Part, Checks, kind, text, here, refuse, advance, change, judged, expect}
+use Rattle.model.specs.Parse.{Parse, Part, Checks, kind, text, here, is, refuse, advance, change, judged, expect, repeatOn, repeated}
 use Rattle.model.specs.Tokens.{Token, tokens}
 use Rattle.tokens.specs.Tokens.{tokensFrom, tokenOf, after}
 use Rattle.tokens.specs.declared.Token.{Token as Found}
@@ -125,6 +125,36 @@ steps {f} {g} {s} {a} {b} {c} p q = record { reads = λ x n. q .reads x n ∙ ap
 
 pub clash : {X : Type 0} → false ≡ true → X
 clash h = let z : _≡_ {A = ℕ} 0 1 = cc in absurd (omega arith)
+
+-- A REFUSED READING stays as it is
+module _ (s : List ℕ) (c : Cursor) (g : Fits s c) (h : c .why ≡ 0 → ⊥) where
+  pub lost-kind : c .kind ≡ 0
+  lost-kind = by (eqb (c .kind) 0) refl
+    where
+      by : (t : Bool) → eqb (c .kind) 0 ≡ t → c .kind ≡ 0
+      by true q = eqb-true (c .kind) 0 q
+      by false q = absurd (h (g .halted (eqb-false (c .kind) 0 q)))
+
+  module _ (b : Block) (n : ℕ) where
+    pub lost-is : (k : ℕ) → (k ≡ 0 → ⊥) → is k (seen s c b n) ≡ false
+    lost-is k z = simp (kind-seen s c b n, lost-kind) (ne-eqb 0 k (λ q. z (sym q)))
+
+    pub lost-refuse : (w : ℕ) → refuse w (seen s c b n) ≡ seen s c b n
+    unfolding refuse seen
+    lost-refuse w = simp (ne-eqb _ _ h)
+
+    pub lost-expect : (k : ℕ) → (k ≡ 0 → ⊥) → expect k (seen s c b n) ≡ seen s c b n
+    unfolding expect
+    lost-expect k z = simp (lost-is k z) (lost-refuse 2)
+
+    -- where a token of some kind is asked for first
+    pub lost-judged : (k : ℕ) (cs : Checks) (next : Parse) → (k ≡ 0 → ⊥) → judged ((is k (seen s c b n), 2) ∷ cs) (seen s c b n) next ≡ seen s c b n
+    unfolding judged
+    lost-judged k cs next z = simp (lost-is k z) (lost-refuse 2)
+
+    pub lost-repeated : (k : ℕ) (part : Part) → (k ≡ 0 → ⊥) → repeated k part (seen s c b n) ≡ seen s c b n
+    unfolding repeated repeatOn
+    lost-repeated k part z = simp (repeatOn, lost-is k z)
 
 -- JUDGING, by the number of the first check that fails
 -- no check is refused by 0

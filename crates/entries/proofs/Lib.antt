@@ -7,3 +7,4 @@ pub mod Terms
 pub mod Points
 pub mod Rows
 pub mod Singletons
+pub mod Lookups

@@ -37,7 +37,10 @@ pub fn crisp_here(s: &[u8], c: Cursor) -> CrispHere
     ensures kind { λ r. ⌜ (r .fault ≡ 0 → c .kind ≡ 3) ⌝ }
 {
     if c.kind != 3 {
-        return CrispHere { fault: 2, value: Crisp(0) };
+        return CrispHere {
+            fault: 2,
+            value: Crisp(0),
+        };
     }
     let a = c.start;
     let e = c.end;
@@ -56,7 +59,10 @@ pub fn unit_here(s: &[u8], c: Cursor) -> UnitHere
     ensures kind { λ r. ⌜ (r .fault ≡ 0 → c .kind ≡ 3) ⌝ }
 {
     if c.kind != 3 {
-        return UnitHere { fault: 2, value: Degree(0) };
+        return UnitHere {
+            fault: 2,
+            value: Degree(0),
+        };
     }
     let a = c.start;
     let e = c.end;

@@ -1,0 +1,290 @@
+// A condition's text to its words: parentheses first, then NOT, AND, OR, equal operators grouped to the left. Each NOT, AND, OR and input name
+// is counted at its token; its word is put when its operands are.
+ghost use mathlib.Core.Path.{_≡_};
+ghost use mathlib.Core.List.{List};
+ghost use Prim.Native.Nat.{ℕ, _≤_, _<_};
+ghost use Rattle.model.specs.Block.{Block, and};
+ghost use Rattle.model.specs.Keywords.{AND};
+ghost use Rattle.model.specs.Parse.{refuse};
+ghost use Rattle.model.specs.Rules.{word, termNamed, termHere, subcondition as subconditionOf, chain, plain as plainOf, operand as operandOf, conditionWith, parenthesis};
+ghost use Rattle.cursor.specs.View.{seen, Fits, Step};
+ghost use Rattle.declared.specs.Book.{Book, Describes, inputCount};
+ghost use Rattle.condition_text.specs.Pending.{Room, Reads, Within, Stops, Counts, Puts};
+use cursor::Cursor;
+
+const OPEN: u8 = 40;
+
+const CLOSE: u8 = 41;
+
+const AND: u8 = 130;
+
+const IS: u8 = 148;
+
+const NOT: u8 = 154;
+
+const OR: u8 = 157;
+
+// A reading in the midst of a condition: the words that are counted, and how many of them are put.
+pub struct Pending {
+    pub cursor: Cursor,
+    pub words: usize,
+    pub put: usize,
+}
+
+fn refused(p: Pending, why: u8) -> Pending
+    requires { ⌜ 0 < why ⌝ }
+    ensures { λ r. ⌜ ((s : List ℕ) → Fits s (p .cursor) → Step (refuse why) s (p .cursor) (r .cursor)) ⌝ }
+    ensures stops { λ r. ⌜ Stops p r ⌝ }
+{
+    let c = p.cursor;
+    let d = cursor::refuse(c, why);
+    Pending {
+        cursor: d,
+        words: p.words,
+        put: p.put,
+    }
+}
+
+// The current token as one condition word more.
+fn count(s: &[u8], p: Pending) -> Pending
+    requires { ⌜ Room (now s) p × (p .cursor .kind ≡ 0 → ⊥) ⌝ }
+    ensures { λ r. ⌜ ((b : Block) → seen (now (s .entry)) (r .cursor) b (r .words) ≡ word (seen (now (s .entry)) (p .cursor) b (p .words))) ⌝ }
+    ensures counts { λ r. ⌜ Counts (now (s .entry)) p r ⌝ }
+{
+    if p.words < 640 {
+        let c = p.cursor;
+        let d = cursor::advance(s, c);
+        return Pending {
+            cursor: d,
+            words: p.words + 1,
+            put: p.put,
+        };
+    }
+    refused(p, 6)
+}
+
+// A word behind those that are put.
+fn put(words: &mut [u32; 640], p: Pending, w: u32) -> Pending
+    requires { ⌜ (p .put ≤ p .words) × (p .words ≤ 640) × (p .cursor .why ≡ 0 → p .put < p .words) ⌝ }
+    ensures { λ r. ⌜ Puts p r w (now (words .entry)) (now (words .exit)) ⌝ }
+{
+    let c = p.cursor;
+    if c.why != 0 {
+        return p;
+    }
+    let n = p.put;
+    words[n] = w;
+    Pending {
+        cursor: c,
+        words: p.words,
+        put: n + 1,
+    }
+}
+
+// term, of input i
+fn term_named(
+    s: &[u8],
+    names: &[usize; 224],
+    book: &[usize; 17],
+    words: &mut [u32; 640],
+    p: Pending,
+    i: usize,
+) -> Pending
+    requires { ⌜ Room (now s) p × Book (now s) (now names) (now book) × (i < inputCount (now book)) × (p .cursor .why ≡ 0 → p .put < p .words) ⌝ }
+    ensures { λ r. ⌜ ((b : Block) → Describes (now (s .entry)) (now (names .entry)) (now (book .entry)) b
+        → Reads (now (s .entry)) b p r (termNamed i (seen (now (s .entry)) (p .cursor) b (p .words))) (now (words .entry)) (now (words .exit))) ⌝ }
+    ensures within { λ r. ⌜ Within (now (s .entry)) 1 p r (now (words .entry)) (now (words .exit)) ⌝ }
+{
+    let c = p.cursor;
+    let w = cursor::name_fault(c);
+    if w != 0 {
+        return refused(p, w);
+    }
+    let j = declared::term_of(s, names, book, i, c);
+    if book[i + 1] - book[i] <= j {
+        return refused(p, 5);
+    }
+    let d = cursor::advance(s, c);
+    put(
+        words,
+        Pending {
+            cursor: d,
+            words: p.words,
+            put: p.put,
+        },
+        (16 + book[i] + j) as u32,
+    )
+}
+
+// [NOT] term
+fn term_here(
+    s: &[u8],
+    names: &[usize; 224],
+    book: &[usize; 17],
+    words: &mut [u32; 640],
+    p: Pending,
+    i: usize,
+) -> Pending
+    requires { ⌜ Room (now s) p × Book (now s) (now names) (now book) × (i < inputCount (now book)) × (p .cursor .why ≡ 0 → p .put < p .words) ⌝ }
+    ensures { λ r. ⌜ ((b : Block) → Describes (now (s .entry)) (now (names .entry)) (now (book .entry)) b
+        → Reads (now (s .entry)) b p r (termHere i (seen (now (s .entry)) (p .cursor) b (p .words))) (now (words .entry)) (now (words .exit))) ⌝ }
+    ensures within { λ r. ⌜ Within (now (s .entry)) 1 p r (now (words .entry)) (now (words .exit)) ⌝ }
+{
+    let c = p.cursor;
+    if c.kind != NOT {
+        return term_named(s, names, book, words, p, i);
+    }
+    let q = count(s, p);
+    let r = term_named(s, names, book, words, q, i);
+    put(words, r, 0)
+}
+
+// input IS [NOT] term
+fn subcondition(
+    s: &[u8],
+    names: &[usize; 224],
+    book: &[usize; 17],
+    words: &mut [u32; 640],
+    p: Pending,
+) -> Pending
+    requires { ⌜ Room (now s) p × Book (now s) (now names) (now book) ⌝ }
+    ensures { λ r. ⌜ ((b : Block) → Describes (now (s .entry)) (now (names .entry)) (now (book .entry)) b
+        → Reads (now (s .entry)) b p r (subconditionOf (seen (now (s .entry)) (p .cursor) b (p .words))) (now (words .entry)) (now (words .exit))) ⌝ }
+    ensures within { λ r. ⌜ Within (now (s .entry)) 0 p r (now (words .entry)) (now (words .exit)) ⌝ }
+{
+    let c = p.cursor;
+    let w = cursor::name_fault(c);
+    if w != 0 {
+        return refused(p, w);
+    }
+    let i = declared::input_of(s, names, book, c);
+    if book[15] <= i {
+        return refused(p, 5);
+    }
+    let q = count(s, p);
+    let d = q.cursor;
+    let e = cursor::expect(s, d, IS);
+    term_here(
+        s,
+        names,
+        book,
+        words,
+        Pending {
+            cursor: e,
+            words: q.words,
+            put: q.put,
+        },
+        i,
+    )
+}
+
+// A subcondition or a parenthesised condition, where depth more parentheses may be open at once.
+fn plain(
+    s: &[u8],
+    names: &[usize; 224],
+    book: &[usize; 17],
+    words: &mut [u32; 640],
+    p: Pending,
+    depth: usize,
+) -> Pending
+    requires { ⌜ Room (now s) p × Book (now s) (now names) (now book) ⌝ }
+    ensures { λ r. ⌜ ((b : Block) → Describes (now (s .entry)) (now (names .entry)) (now (book .entry)) b
+        → Reads (now (s .entry)) b p r (plainOf (parenthesis depth) (seen (now (s .entry)) (p .cursor) b (p .words))) (now (words .entry)) (now (words .exit))) ⌝ }
+    ensures within { λ r. ⌜ Within (now (s .entry)) 0 p r (now (words .entry)) (now (words .exit)) ⌝ }
+{
+    let c = p.cursor;
+    if c.kind != OPEN {
+        return subcondition(s, names, book, words, p);
+    }
+    if depth == 0 {
+        return refused(p, 6);
+    }
+    let d = cursor::advance(s, c);
+    let q = condition(
+        s,
+        names,
+        book,
+        words,
+        Pending {
+            cursor: d,
+            words: p.words,
+            put: p.put,
+        },
+        depth - 1,
+    );
+    let e = q.cursor;
+    let f = cursor::expect(s, e, CLOSE);
+    Pending {
+        cursor: f,
+        words: q.words,
+        put: q.put,
+    }
+}
+
+fn operand(
+    s: &[u8],
+    names: &[usize; 224],
+    book: &[usize; 17],
+    words: &mut [u32; 640],
+    p: Pending,
+    depth: usize,
+) -> Pending
+    requires { ⌜ Room (now s) p × Book (now s) (now names) (now book) ⌝ }
+    ensures { λ r. ⌜ ((b : Block) → Describes (now (s .entry)) (now (names .entry)) (now (book .entry)) b
+        → Reads (now (s .entry)) b p r (operandOf (parenthesis depth) (seen (now (s .entry)) (p .cursor) b (p .words))) (now (words .entry)) (now (words .exit))) ⌝ }
+    ensures within { λ r. ⌜ Within (now (s .entry)) 0 p r (now (words .entry)) (now (words .exit)) ⌝ }
+{
+    let c = p.cursor;
+    if c.kind != NOT {
+        return plain(s, names, book, words, p, depth);
+    }
+    let q = count(s, p);
+    let r = plain(s, names, book, words, q, depth);
+    put(words, r, 0)
+}
+
+// operand {AND operand}
+fn conjunction(
+    s: &[u8],
+    names: &[usize; 224],
+    book: &[usize; 17],
+    words: &mut [u32; 640],
+    p: Pending,
+    depth: usize,
+) -> Pending
+    requires { ⌜ Room (now s) p × Book (now s) (now names) (now book) ⌝ }
+    ensures { λ r. ⌜ ((b : Block) → Describes (now (s .entry)) (now (names .entry)) (now (book .entry)) b
+        → Reads (now (s .entry)) b p r (chain (operandOf (parenthesis depth)) AND and (seen (now (s .entry)) (p .cursor) b (p .words))) (now (words .entry)) (now (words .exit))) ⌝ }
+    ensures within { λ r. ⌜ Within (now (s .entry)) 0 p r (now (words .entry)) (now (words .exit)) ⌝ }
+{
+    let mut q = operand(s, names, book, words, p, depth);
+    while q.cursor.kind == AND {
+        let n = count(s, q);
+        let m = operand(s, names, book, words, n, depth);
+        q = put(words, m, 1);
+    }
+    q
+}
+
+// conjunction {OR conjunction}
+pub fn condition(
+    s: &[u8],
+    names: &[usize; 224],
+    book: &[usize; 17],
+    words: &mut [u32; 640],
+    p: Pending,
+    depth: usize,
+) -> Pending
+    requires { ⌜ Room (now s) p × Book (now s) (now names) (now book) ⌝ }
+    ensures { λ r. ⌜ ((b : Block) → Describes (now (s .entry)) (now (names .entry)) (now (book .entry)) b
+        → Reads (now (s .entry)) b p r (conditionWith (parenthesis depth) (seen (now (s .entry)) (p .cursor) b (p .words))) (now (words .entry)) (now (words .exit))) ⌝ }
+    ensures within { λ r. ⌜ Within (now (s .entry)) 0 p r (now (words .entry)) (now (words .exit)) ⌝ }
+{
+    let mut q = conjunction(s, names, book, words, p, depth);
+    while q.cursor.kind == OR {
+        let n = count(s, q);
+        let m = conjunction(s, names, book, words, n, depth);
+        q = put(words, m, 2);
+    }
+    q
+}
