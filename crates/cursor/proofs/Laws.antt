@@ -163,6 +163,19 @@ numbered [] = true
 numbered ((ok, zero) ∷ cs) = false
 numbered ((ok, suc n) ∷ cs) = numbered cs
 
+pub fault-bad : (w : ℕ) (xs ys : Checks) → fault xs ≡ w → (w ≡ 0 → ⊥) → fault (xs ++ ys) ≡ w
+unfolding fault
+fault-bad w [] ys e h = absurd (h (sym e))
+fault-bad w ((true, n) ∷ xs) ys e h = fault-bad w xs ys e h
+fault-bad w ((false, n) ∷ xs) ys e h = e
+
+pub fault-good : (xs ys : Checks) → numbered xs ≡ true → fault xs ≡ 0 → fault (xs ++ ys) ≡ fault ys
+unfolding fault numbered
+fault-good [] ys u e = refl
+fault-good ((ok, zero) ∷ xs) ys u e = clash u
+fault-good ((true, suc n) ∷ xs) ys u e = fault-good xs ys u e
+fault-good ((false, suc n) ∷ xs) ys u e = absurd (omega arith)
+
 module _ (r next : Parse) where
   pub judged-bad : (w : ℕ) (xs ys : Checks) → fault xs ≡ w → (w ≡ 0 → ⊥) → judged (xs ++ ys) r next ≡ refuse w r
   unfolding judged fault

@@ -101,3 +101,19 @@ module _ (k : ℕ) (part : Part) (s : List ℕ) where
 pub expect-advance : (k : ℕ) (s : List ℕ) (p : Reading) → p .cursor .kind ≡ k → expect k (view s p) ≡ advance (view s p)
 unfolding expect
 expect-advance k s p h = simp (kind-view s p, eq-eqb _ _ h)
+
+-- part, and part again after each comma
+module _ (part : Part) (s : List ℕ) where
+  abbrev pub again : Part
+  again r = part (expect COMMA r)
+
+  pub list-goes : (q₀ q r : Reading) (d : Cursor) → Going COMMA again s q₀ q → q .cursor .kind ≡ COMMA → Step advance s (q .cursor) d → left s d < left s (q .cursor)
+      → Reads part s (at d (q .tables)) r → Going COMMA again s q₀ r
+  list-goes q₀ q r d g k a m x =
+      let y = also (next (step (q .tables) (g .1 .holds) a) x) (ap part (sym (expect-advance COMMA s q k))) in
+      let z = x .fewer in
+      goes COMMA again s q₀ q r g k y (omega arith)
+
+  pub list-leaves : (p q₀ q : Reading) → Reads part s p q₀ → Going COMMA again s q₀ q → (q .cursor .kind ≡ COMMA → ⊥) → Reads (listed part) s p q
+  unfolding listed
+  list-leaves p q₀ q x g k = also (next x (leaves COMMA again s q₀ q g k)) refl

@@ -1,0 +1,24 @@
+-- The names of the variables so far.
+use mathlib.Core.Path.{_≡_}
+use mathlib.Core.Bool.{Bool, _||_, not}
+use mathlib.Core.List.{List, [], _∷_}
+use Prim.Native.Nat.{ℕ}
+use lib.ListN.{length}
+use Rattle.model.specs.Basic.{indexOf}
+use Rattle.model.specs.Block.{Block}
+use Rattle.model.specs.Tokens.{sameName}
+use Rattle.model.specs.Parse.{Parse, Checks, text, aName}
+use Rattle.model.specs.Declarations.{inputOf, outputOf, isInput, isOutput}
+use Rattle.model.specs.Image.{tab}
+use Rattle.lookup.specs.Names.{nameOf}
+
+-- block b has m inputs and n outputs of these names
+pub record Declares (s names : List ℕ) (m n : ℕ) (b : Block) : Type 0 where
+  pub inputs : length (b .inputs) ≡ m
+  pub outputs : length (b .outputs) ≡ n
+  pub input : (w : List ℕ) → inputOf w b ≡ indexOf (sameName w) (tab (nameOf s names) m 0)
+  pub output : (w : List ℕ) → outputOf w b ≡ indexOf (sameName w) (tab (nameOf s names) n 8)
+
+-- what a new variable is checked for, where there is room or not
+abbrev pub newChecks : Parse → Bool → Checks
+newChecks r room = aName r ((not (isInput (text r) (r .block) || isOutput (text r) (r .block)), 4) ∷ (room, 6) ∷ [])
