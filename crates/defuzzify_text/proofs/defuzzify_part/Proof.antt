@@ -1,0 +1,25 @@
+use mathlib.Core.Path.{_≡_, refl, sym, ap, _∙_}
+use native.Mathlib.Omega.{arith}
+use borrow.Author.Needs.{needs}
+use Rattle.defuzzify_text.proofs.Laws as laws
+use Rattle.reading.proofs.Laws as reading
+use Rattle.model.specs.Declarations.{defuzzify}
+use Rattle.defuzzify_text.proofs.defuzzify_part.Statement.{statement}
+use Rattle.defuzzify_text.proofs.defuzzify_part.Tie as tie
+use Rattle.defuzzify_text.proofs.defuzzify_part.Reads as reads
+use Rattle.defuzzify_text.proofs.defuzzify_part.Lts as lts
+use Rattle.cursor.proofs.expect.Reads as expect-reads
+use Rattle.defuzzify_text.proofs.defuzzify_named.Reads as defuzzify-named-reads
+
+expect-requires : tie.Need-expect-requires
+expect-requires c κs = (c .before .before .pre .fits, omega arith)
+
+defuzzify-named-requires : tie.Need-defuzzify-named-requires
+defuzzify-named-requires c κs = record { fits = c .expect .ensures .0 .fits; holds = c .before .before .before .pre .holds }
+
+returns : tie.Need-returns
+unfolding defuzzify
+returns c = (reading.next (reading.step _ (c .before .before .before .before .pre .holds) (c .before .expect .ensures .0)) (c .defuzzify-named .ensures), λ h. omega (arith, c .before .expect .ensures .1 h, c .defuzzify-named .ensures .fewer))
+
+pub defuzzify-part-spec : {M : Type 1} → statement M
+defuzzify-part-spec = tie.close (tie.spec expect-requires defuzzify-named-requires returns)

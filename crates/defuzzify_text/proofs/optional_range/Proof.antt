@@ -1,0 +1,35 @@
+use mathlib.Core.Path.{_≡_, refl, sym, ap, _∙_}
+use native.Mathlib.Omega.{arith}
+use borrow.Author.Needs.{needs}
+use Rattle.defuzzify_text.proofs.Laws as laws
+use Rattle.cursor.proofs.Laws.{steps}
+use Rattle.defuzzify_text.proofs.optional_range.Statement.{statement}
+use Rattle.defuzzify_text.proofs.optional_range.Tie as tie
+use Rattle.defuzzify_text.proofs.optional_range.Reads as reads
+use Rattle.defuzzify_text.proofs.optional_range.Lts as lts
+use Rattle.cursor.proofs.advance.Reads as advance-reads
+use Rattle.cursor.proofs.expect.Reads as expect-reads
+use Rattle.defuzzify_text.proofs.range_from.Reads as range-from-reads
+
+returns : tie.Need-returns
+returns c = let a = c .before .before .before .before .args in
+    let g = c .before .before .before .before .pre in
+    laws.range-not (a .s .now) (a .p .cursor) (a .p .tables) (a .o) (c .if1 .taken) (g .0)
+
+advance-requires : tie.Need-advance-requires
+advance-requires c κs = (c .before .before .before .before .pre .0 .fits, λ q. omega (arith, c .if1 .left))
+
+expect-requires : tie.Need-expect-requires
+expect-requires c κs = (c .advance .ensures .0 .fits, omega arith)
+
+range-from-requires : tie.Need-range-from-requires
+range-from-requires c κs = (record { fits = c .expect .ensures .0 .fits; holds = c .before .before .before .before .before .before .pre .0 .holds }, c .before .before .before .before .before .before .pre .1)
+
+returns-2 : tie.Need-returns-2
+returns-2 c = let a = c .before .before .before .before .before .before .before .args in
+    let g = c .before .before .before .before .before .before .before .pre in
+    laws.range-given (a .s .now) (a .p .cursor) (a .p .tables) (a .o) (c .before .expect .result) _ (c .before .before .before .if1 .left) (g .0 .holds) (steps (c .before .before .advance .ensures .0) (c .before .expect .ensures .0)) (c .range-from .ensures)
+
+pub optional-range-spec : {M : Type 1} → statement M
+optional-range-spec =
+    tie.close (tie.spec returns advance-requires expect-requires range-from-requires returns-2)

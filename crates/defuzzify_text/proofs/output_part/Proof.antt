@@ -1,0 +1,52 @@
+use mathlib.Core.Path.{_≡_, refl, sym, ap, _∙_}
+use native.Mathlib.Omega.{arith}
+use borrow.Author.Needs.{needs}
+use Rattle.defuzzify_text.proofs.Laws as laws
+use Rattle.cursor.proofs.Laws.{steps}
+use Rattle.reading.proofs.Laws as reading
+use Rattle.defuzzify_text.specs.Output.{partText}
+use Rattle.defuzzify_text.proofs.output_part.Statement.{statement}
+use Rattle.defuzzify_text.proofs.output_part.Tie as tie
+use Rattle.defuzzify_text.proofs.output_part.Reads as reads
+use Rattle.defuzzify_text.proofs.output_part.Lts as lts
+use Rattle.cursor.proofs.expect.Reads as expect-reads
+use Rattle.defuzzify_text.proofs.default_value.Reads as default-value-reads
+use Rattle.defuzzify_text.proofs.method.Reads as method-reads
+use Rattle.defuzzify_text.proofs.optional_range.Reads as optional-range-reads
+use Rattle.defuzzify_text.proofs.output_terms.Reads as output-terms-reads
+
+optional-range-requires : tie.Need-optional-range-requires
+optional-range-requires c κs = c .before .pre
+
+output-terms-requires : tie.Need-output-terms-requires
+output-terms-requires c κs = (c .optional-range .ensures .reads .good, omega (arith, c .optional-range .ensures .count, c .before .before .pre .1))
+
+method-requires : tie.Need-method-requires
+method-requires c κs = c .before .output-terms .ensures .reads .good .fits
+
+default-value-requires : tie.Need-default-value-requires
+default-value-requires c κs = (record { fits = c .method .ensures .fits; holds = c .before .before .output-terms .ensures .reads .good .holds }, omega (arith, c .before .before .output-terms .ensures .count, c .before .before .before .optional-range .ensures .count, c .before .before .before .before .before .pre .1))
+
+expect-requires : tie.Need-expect-requires
+expect-requires c κs = (c .before .default-value .ensures .reads .good .fits, omega arith)
+
+expect-requires-2 : tie.Need-expect-requires-2
+expect-requires-2 c κs = (c .expect .ensures .0 .fits, omega arith)
+
+returns : tie.Need-returns
+unfolding partText
+returns c = let x = c .before .before .before .before .before .before .output-terms .ensures .reads in
+    let y = c .before .before .before .default-value .ensures .reads in
+    reading.next (reading.next (reading.next (reading.next (c .before .before .before .before .before .before .before .optional-range .ensures .reads) x) (reading.step _ (x .good .holds) (c .before .before .before .before .method .ensures))) y) (reading.step _ (y .good .holds) (steps (c .before .expect .ensures .0) (c .expect2 .ensures .0)))
+
+pub output-part-spec : {M : Type 1} → statement M
+output-part-spec =
+    tie.close
+    (tie.spec
+    optional-range-requires
+    output-terms-requires
+    method-requires
+    default-value-requires
+    expect-requires
+    expect-requires-2
+    returns)

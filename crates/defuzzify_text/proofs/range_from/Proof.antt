@@ -1,0 +1,67 @@
+use mathlib.Core.Path.{_≡_, refl, sym, ap, _∙_}
+use native.Mathlib.Omega.{arith}
+use borrow.Author.Needs.{needs}
+use Rattle.defuzzify_text.proofs.Laws as laws
+use Rattle.cursor.proofs.Laws.{steps}
+use Rattle.reading.proofs.Laws as reading
+use Rattle.defuzzify_text.proofs.range_from.Statement.{statement}
+use Rattle.defuzzify_text.proofs.range_from.Tie as tie
+use Rattle.defuzzify_text.proofs.range_from.Reads as reads
+use Rattle.defuzzify_text.proofs.range_from.Lts as lts
+use Rattle.cursor.proofs.advance.Reads as advance-reads
+use Rattle.cursor.proofs.expect.Reads as expect-reads
+use Rattle.cursor.proofs.refuse.Reads as refuse-reads
+use Rattle.defuzzify_text.proofs.upper_end.Reads as upper-end-reads
+use Rattle.values.proofs.crisp_here.Reads as crisp-here-reads
+
+crisp-here-requires : tie.Need-crisp-here-requires
+crisp-here-requires c κs = c .before .before .pre .0 .fits
+
+refuse-requires : tie.Need-refuse-requires
+refuse-requires c κs = search needs
+
+returns : tie.Need-returns
+returns c = let a = c .before .before .before .before .before .args in
+    let g = c .before .before .before .before .before .pre in
+    laws.range-lost (a .s .now) (a .p .cursor) (c .refuse .result) (a .p .tables) (a .o) _ (c .before .before .crisp-here .ensures .0 _ 0) (c .before .if1 .taken) (g .0 .holds) (c .refuse .ensures .1 .1) (c .refuse .ensures .0 _ (g .0 .fits))
+
+advance-requires : tie.Need-advance-requires
+advance-requires c κs = (c .before .before .before .before .before .pre .0 .fits, λ q. omega (arith, c .before .before .crisp-here .ensures .1 .1 (c .before .if1 .left)))
+
+expect-requires : tie.Need-expect-requires
+expect-requires c κs = (c .advance .ensures .0 .fits, omega arith)
+
+upper-end-requires : tie.Need-upper-end-requires
+upper-end-requires c κs = (record { fits = c .expect .ensures .0 .fits; holds = c .before .before .before .before .before .before .before .pre .0 .holds }, c .before .before .before .before .before .before .before .pre .1)
+
+expect-requires-2 : tie.Need-expect-requires-2
+expect-requires-2 c κs = (c .before .upper-end .ensures .reads .good .fits, omega arith)
+
+expect-requires-3 : tie.Need-expect-requires-3
+expect-requires-3 c κs = (c .expect2 .ensures .0 .fits, omega arith)
+
+returns-2 : tie.Need-returns-2
+returns-2 c = let a = c .before .before .before .before .before .before .before .before .before .before .before .args in
+    let g = c .before .before .before .before .before .before .before .before .before .before .before .pre in
+    let e = c .before .before .before .before .before .before .before .before .crisp-here .ensures in
+    let z = c .before .before .before .before .before .before .before .if1 .left in
+    let u = c .before .before .before .upper-end .ensures in
+    record {
+      reads = reading.also (reading.next (reading.next (reading.next (laws.is-crisp (a .s .now) (a .p .cursor) (c .before .before .before .before .before .advance .result) (a .p .tables) (a .o) (sym z ∙ e .0 _ 0) (g .0 .holds) (c .before .before .before .before .before .advance .ensures .0)) (reading.step _ (g .0 .holds) (c .before .before .before .before .expect .ensures .0))) (u .reads)) (reading.step _ (u .reads .good .holds) (steps (c .before .expect2 .ensures .0) (c .expect3 .ensures .0))))
+          (laws.range-is (a .s .now) (a .p) (a .o) _ (laws.value-is _ z _ _ (e .1 .0)));
+      count = u .count;
+    }
+
+pub range-from-spec : {M : Type 1} → statement M
+range-from-spec =
+    tie.close
+    (tie.spec
+    crisp-here-requires
+    refuse-requires
+    returns
+    advance-requires
+    expect-requires
+    upper-end-requires
+    expect-requires-2
+    expect-requires-3
+    returns-2)
