@@ -1,0 +1,18 @@
+use mathlib.Core.Path.{_≡_, refl, sym, ap, _∙_}
+use native.Mathlib.Omega.{arith}
+use borrow.Author.Needs.{needs}
+use Rattle.book.proofs.Laws as laws
+use borrow.Author.Tests.{lt-ltb, le-ltb}
+use Rattle.book.proofs.among.Statement.{statement}
+use Rattle.book.proofs.among.Tie as tie
+use Rattle.book.proofs.among.Reads as reads
+use Rattle.book.proofs.among.Lts as lts
+
+returns : tie.Need-returns
+returns c = (sym (simp (lt-ltb _ _ (c .if1 .taken)) refl), omega arith)
+
+returns-2 : tie.Need-returns-2
+returns-2 c = (sym (simp (le-ltb _ _ (c .if1 .left)) refl), omega arith)
+
+pub among-spec : {M : Type 1} → statement M
+among-spec = tie.close (tie.spec returns returns-2)

@@ -1,0 +1,71 @@
+use native.Mathlib.Omega.{arith}
+use borrow.Author.Needs.{needs}
+use Rattle.fuzzify_text.proofs.Laws as laws
+use Rattle.fuzzify_text.proofs.input_term.Statement.{statement}
+use Rattle.fuzzify_text.proofs.input_term.Tie as tie
+
+mul-v : tie.Need-mul-v
+mul-v c = search needs
+
+element-copy-out-v : tie.Need-element-copy-out-v
+element-copy-out-v c = search needs
+
+refuse-requires : tie.Need-refuse-requires
+refuse-requires c κs = search needs
+
+returns : tie.Need-returns
+returns c =
+    let a = c .before .before .before .before .before .before .before .args in
+    let g = c .before .before .before .before .before .before .before .pre in
+    (laws.term-none (a .s .now) (a .p .cursor) (a .p .tables) (c .refuse .result) (a .i) (g .0 .holds) (c .before .if1 .taken) (c .refuse .ensures .0 _ (g .0 .fits)), (c .refuse .ensures .1 .0 _ (g .0 .fits), g .1))
+
+refuse-requires-2 : tie.Need-refuse-requires-2
+refuse-requires-2 c κs = search needs
+
+returns-2 : tie.Need-returns-2
+returns-2 c =
+    let a = c .before .before .before .before .before .before .before .before .before .args in
+    let g = c .before .before .before .before .before .before .before .before .before .pre in
+    (laws.term-full (a .s .now) (a .p .cursor) (a .p .tables) (c .refuse2 .result) (a .i) (c .before .before .before .if1 .left) (g .1) (g .0 .holds) (c .before .if2 .taken) (c .refuse2 .ensures .0 _ (g .0 .fits)), (c .refuse2 .ensures .1 .0 _ (g .0 .fits), g .1))
+
+advance-requires : tie.Need-advance-requires
+advance-requires c κs = search needs
+
+term-name-requires : tie.Need-term-name-requires
+term-name-requires c κs =
+    let a = c .before .before .before .before .before .before .before .before .before .args in
+    let g = c .before .before .before .before .before .before .before .before .before .pre in
+    (record { fits = c .advance .ensures .0 .fits; holds = g .0 .holds }, g .1, c .before .if2 .left)
+
+returns-3 : tie.Need-returns-3
+returns-3 c =
+    let a = c .before .before .before .before .before .before .before .before .before .before .before .before .args in
+    let g = c .before .before .before .before .before .before .before .before .before .before .before .before .pre in
+    let n = c .before .before .term-name in
+    (laws.term-lost (a .s .now) (a .p .cursor) (a .p .tables) (c .before .before .before .advance .result) (a .i) (c .before .before .before .before .before .before .if1 .left) (g .1) (g .0 .holds) (c .before .before .before .before .if2 .left) (c .before .before .before .advance .ensures .0) (n .result) (n .ensures .0) (c .if3 .taken), (λ z. omega (arith, n .ensures .0 .fewer, c .before .before .before .advance .ensures .1 .0), n .ensures .1 .0))
+
+term-points-requires : tie.Need-term-points-requires
+term-points-requires c κs = (c .before .before .term-name .ensures .0 .good, c .before .before .term-name .ensures .1 .1 (c .if3 .left))
+
+returns-4 : tie.Need-returns-4
+returns-4 c =
+    let a = c .before .before .before .before .before .before .before .before .before .before .before .before .before .args in
+    let g = c .before .before .before .before .before .before .before .before .before .before .before .before .before .pre in
+    let n = c .before .before .before .term-name in
+    (laws.term-good (a .s .now) (a .p .cursor) (a .p .tables) (c .before .before .before .before .advance .result) (a .i) (c .before .before .before .before .before .before .before .if1 .left) (g .1) (g .0 .holds) (c .before .before .before .before .before .if2 .left) (c .before .before .before .before .advance .ensures .0) (n .result) (n .ensures .0) (c .term-points .result) (c .term-points .ensures .0), (λ z. omega (arith, n .ensures .0 .fewer, c .before .before .before .before .advance .ensures .1 .0, c .term-points .ensures .0 .fewer), c .term-points .ensures .1 .input))
+
+pub input-term-spec : {M : Type 1} → statement M
+input-term-spec =
+    tie.close
+    (tie.spec
+    mul-v
+    element-copy-out-v
+    refuse-requires
+    returns
+    refuse-requires-2
+    returns-2
+    advance-requires
+    term-name-requires
+    returns-3
+    term-points-requires
+    returns-4)

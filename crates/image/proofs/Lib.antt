@@ -1,0 +1,6 @@
+pub mod Over
+pub mod Signed
+pub mod Lists
+pub mod Views
+pub mod Kept
+pub mod Whole

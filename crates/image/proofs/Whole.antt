@@ -1,0 +1,181 @@
+-- What is written is the image of the block that the arrays stand for, and how long that is.
+use mathlib.Core.Path.{_≡_, refl, sym, ap, _∙_}
+use mathlib.Core.List.{List, [], _∷_, _++_, append-assoc}
+use mathlib.Core.Bool.{false}
+use mathlib.Core.Option.{some}
+use Prim.Native.Nat.{ℕ, zero, suc, _*_, _≤_, _<_}
+use native.Mathlib.Omega.{arith}
+use lib.Dec.{ltb}
+use lib.ListN.{length, take, drop, length-append}
+use lib.Seq.{slice}
+use borrow.Author.Tests.{lt-ltb, le-ltb}
+use Rattle.model.specs.Basic.{gather}
+use Rattle.model.specs.Block.{Block, Rule, inputTerms, conclusions}
+use Rattle.model.specs.Block as block
+use Rattle.model.specs.Image.{terms, points, pairWord, pairOf, accuWord, accuOf, actWord, actOf, nameWords, inputTable, outputTable, termTable, pointWords, ruleTable, postfix, conclusionWords, counts, widths, offsets, endOf, headerSize, header, words, image}
+use Rattle.model.specs.Outcome.{accepted, refused, into, lengthIn, bufferAfter}
+use Rattle.words.proofs.Bytes.{length-bytes}
+use Rattle.layout.specs.Tables.{inputRow, inputNext, outputRow, outputNext, termRow, termNext, ruleRow, ruleNext}
+use Rattle.layout.proofs.RowLaws.{length-laid}
+use Rattle.layout.proofs.TableLaws.{input-table, output-table, term-table, rule-table}
+use Rattle.layout.proofs.Parts.{wide-input, wide-output, wide-term}
+use Rattle.tables.specs.declared.Tables.{Tables}
+use Rattle.tables.specs.declared.Heading.{Heading}
+use Rattle.tables.specs.View.{outputsView, inputView, outputView, wholeView, Holds, Headed}
+use Rattle.tables.specs.Stored.{Stored}
+use Rattle.words.proofs.Places.{length-tab}
+use Rattle.image.specs.declared.Counts.{Counts}
+use Rattle.image.specs.declared.Slots.{Slots}
+use Rattle.image.specs.Rows.{heldIn, variableRows, ruleRows, countList, headWords}
+use Rattle.image.proofs.Views.{Ordered, inputs-laid, outputs-laid, terms-laid, points-laid, first-output, terms-count, points-count}
+use Rattle.image.proofs.Kept.{length-conditions, length-pairs, words-count, conclusions-count, all-kept}
+
+-- HOW LONG the words of a block are
+length-points : (ps : List block.Point) → length (gather pointWords ps) ≡ length ps * 2
+unfolding gather
+length-points [] = refl
+length-points (p ∷ ps) = omega (arith, length-points ps)
+
+length-header : (b : Block) → length (header b) ≡ 28
+unfolding header offsets nameWords
+length-header b = refl
+
+module _ (b : Block) where
+  length-inputs : length (inputTable 0 (b .inputs)) ≡ length (b .inputs) * 7
+  length-inputs = ap length (input-table 0 (b .inputs)) ∙ length-laid inputRow inputNext (λ k. no) (λ k. k) 0 7 wide-input 0 (b .inputs)
+    where
+      no : block.Input
+      no = record { name = []; type = Rattle.model.specs.declared.InputType.the-variants.Real; terms = [] }
+
+  length-outputs : (n : ℕ) → length (outputTable n (b .outputs)) ≡ length (b .outputs) * 11
+  length-outputs n = ap length (output-table n (b .outputs)) ∙ length-laid outputRow outputNext (λ k. no) (λ k. k) 0 11 wide-output n (b .outputs)
+    where
+      no : block.Output
+      no = record { name = []; terms = []; range = mathlib.Core.Option.none; default = mathlib.Core.Option.none }
+
+  length-terms : length (termTable 0 (terms b)) ≡ length (terms b) * 6
+  length-terms = ap length (term-table 0 (terms b)) ∙ length-laid termRow termNext (λ k. no) (λ k. k) 0 6 wide-term 0 (terms b)
+    where
+      no : block.Term
+      no = record { name = []; points = [] }
+
+  length-rules : length (ruleTable 0 0 (b .rules)) ≡ length (b .rules) * 6
+  length-rules = ap length (rule-table 0 0 (b .rules)) ∙ length-laid ruleRow ruleNext (λ k. no) (λ k. k) 0 6 (λ σ r. refl) (0, 0) (b .rules)
+    where
+      no : Rule
+      no = record { number = 0; condition = block.term 0; conclusions = []; weight = 0 }
+
+  length-words : length (words b) ≡ endOf headerSize (counts b) widths
+  unfolding words endOf
+  length-words =
+      let g = gather conclusionWords (conclusions b) in
+      let f = gather (λ r. postfix (r .condition)) (b .rules) ++ g in
+      let e = ruleTable 0 0 (b .rules) ++ f in
+      let d = gather pointWords (points b) ++ e in
+      let c = termTable 0 (terms b) ++ d in
+      let o = outputTable (length (inputTerms b)) (b .outputs) ++ c in
+      let i = inputTable 0 (b .inputs) ++ o in
+      omega (
+        arith,
+        length-append (header b) i,
+        length-append (inputTable 0 (b .inputs)) o,
+        length-append (outputTable (length (inputTerms b)) (b .outputs)) c,
+        length-append (termTable 0 (terms b)) d,
+        length-append (gather pointWords (points b)) e,
+        length-append (ruleTable 0 0 (b .rules)) f,
+        length-append (gather (λ r. postfix (r .condition)) (b .rules)) g,
+        length-header b,
+        length-inputs,
+        length-outputs (length (inputTerms b)),
+        length-terms,
+        length-points (points b),
+        length-rules,
+        length-conditions (b .rules),
+        length-pairs (conclusions b),
+      )
+
+-- THE HEADER: words that are their own codes
+pair-code : (x : ℕ) → x ≤ 2 → pairWord (pairOf x) ≡ x
+pair-code zero h = refl
+pair-code (suc zero) h = refl
+pair-code (suc (suc zero)) h = refl
+pair-code (suc (suc (suc x))) h = absurd (omega arith)
+
+accu-code : (x : ℕ) → x ≤ 1 → accuWord (accuOf x) ≡ x
+accu-code zero h = refl
+accu-code (suc zero) h = refl
+accu-code (suc (suc x)) h = absurd (omega arith)
+
+act-code : (x : ℕ) → x ≤ 1 → actWord (actOf x) ≡ x
+act-code zero h = refl
+act-code (suc zero) h = refl
+act-code (suc (suc x)) h = absurd (omega arith)
+
+-- THE ANSWERS
+module _ (img old : List ℕ) (n : ℕ) (long : length img ≡ n) where
+  pub too-short : length old < n → (refused 10 (some n) ≡ lengthIn (into (length old) img)) × (old ≡ bufferAfter old (into (length old) img))
+  unfolding into
+  too-short h = rw (long, lt-ltb (length old) n h) (refl, refl)
+
+  fits : n ≤ length old → into (length old) img ≡ accepted img
+  unfolding into
+  fits h = let f : ltb (length old) (length img) ≡ false = le-ltb (length old) (length img) (omega arith) in rw f
+
+  pub stored : (new : List ℕ) → n ≤ length old → new ≡ img ++ drop n old
+      → (accepted n ≡ lengthIn (into (length old) img)) × (new ≡ bufferAfter old (into (length old) img))
+  stored new h e = (rw (fits h) (ap accepted (sym long)), rw (fits h) (e ∙ ap (λ (k : ℕ). img ++ drop k old) (sym long)))
+
+-- THE WHOLE
+module _ (s : List ℕ) (t : Tables) (h : Heading) (rs : List Rule) (ok : Holds s t) (head : Headed s h) (own list : Slots) (order : Ordered t own list)
+    (rules ws ks : List ℕ) (m n k : ℕ) (kept : Stored rs rules ws ks m n k) (wide : length rules ≡ 256) (long : length ws ≡ 640) (full : length ks ≡ 256) where
+  abbrev pub whole : Counts
+  whole = record {
+    inputs = t .«input_count»;
+    outputs = t .«output_count»;
+    terms = list .count;
+    points = heldIn (t .counts) (list .at) (list .count);
+    rules = m;
+    words = n;
+    conclusions = k;
+  }
+
+  counts-are : counts (wholeView s t h rs) ≡ countList whole
+  unfolding wholeView
+  counts-are = λ j.
+      length-tab (inputView s t) (t .«input_count») 0 j
+      ∷ length-tab (outputView s t) (t .«output_count») 0 j
+      ∷ terms-count s t ok own list order j
+      ∷ points-count s t ok own list order j
+      ∷ all-kept rs rules ws ks m n k kept wide long full .many j
+      ∷ words-count rs rules ws ks m n k kept wide long full j
+      ∷ conclusions-count rs rules ws ks m n k kept wide long full j
+      ∷ []
+
+  abbrev pub named : List ℕ
+  named = nameWords (slice (t .start) (t .end) s) ++ nameWords (slice (h .start) (h .end) s)
+
+  header-is : header (wholeView s t h rs) ≡ headWords whole h ++ named
+  unfolding header headWords offsets wholeView
+  header-is =
+      ap (λ (cs : List ℕ). 1 ∷ endOf headerSize cs widths ∷ (cs ++ (offsets headerSize cs widths
+      ++ (pairWord (pairOf (h .pair)) ∷ accuWord (accuOf (h .accu)) ∷ actWord (actOf (h .act)) ∷ 0 ∷ named)))) counts-are
+      ∙ (λ j. 1 ∷ endOf headerSize (countList whole) widths ∷ (countList whole ++ (offsets headerSize (countList whole) widths
+      ++ (pair-code (h .pair) (head .pair) j ∷ accu-code (h .accu) (head .accu) j ∷ act-code (h .act) (head .act) j ∷ 0 ∷ named))))
+
+  pub words-are : words (wholeView s t h rs) ≡ (headWords whole h ++ named) ++ (variableRows s t (own .count) list ++ (ruleRows rules m ++ (take n ws ++ take (k * 2) ks)))
+  unfolding words wholeView variableRows ruleRows
+  words-are =
+      (λ j. header-is j
+      ++ (inputs-laid s t j
+      ++ ((ap (λ (x : ℕ). outputTable x (outputsView s t)) (first-output s t ok own list order) ∙ outputs-laid s t (own .count)) j
+      ++ (terms-laid s t ok own list order j
+      ++ (points-laid s t ok own list order j
+      ++ (all-kept rs rules ws ks m n k kept wide long full .table j
+      ++ (sym (kept .words) j ++ sym (kept .conclusions) j)))))))
+      ∙ simp append-assoc
+
+  pub size-is : length (image (wholeView s t h rs)) ≡ endOf headerSize (countList whole) widths * 4
+  unfolding image
+  size-is =
+      length-bytes (words (wholeView s t h rs))
+      ∙ ap (λ (x : ℕ). x * 4) (length-words (wholeView s t h rs) ∙ ap (λ (cs : List ℕ). endOf headerSize cs widths) counts-are)

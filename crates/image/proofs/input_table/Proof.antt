@@ -1,0 +1,88 @@
+use borrow.Author.Needs.{needs}
+use mathlib.Core.Path.{_≡_, refl, ap}
+use Prim.Native.Nat.{_+_, _*_, _-_, _≤_}
+use native.Mathlib.Omega.{arith}
+use lib.ListN.{length, getD}
+use Rattle.model.specs.Image.{nameWords}
+use Rattle.tables.specs.View.{no-input}
+use Rattle.image.specs.Rows.{inputSize, inputWords, inputRows}
+use Rattle.image.proofs.Over.{Going, begins, goes, ends, retold}
+use Rattle.image.proofs.input_table.Statement.{statement}
+use Rattle.image.proofs.input_table.Tie as tie
+
+abbrev Inv-loop : tie.InvT-loop
+Inv-loop s names count out₀ at inputs first₀ p₀ i₀ out first p i =
+    (i ≤ count) × (first ≤ i * 7) × (p ≡ at + i * 7) × (length out ≡ length out₀)
+    × Going (λ n k. inputWords s names (getD inputs k no-input) n k) (λ n k. n + inputSize inputs k) (inputRows s names inputs count) count out₀ at i first p out
+
+abbrev μ-loop : tie.MeasureT-loop
+μ-loop s names count out₀ at inputs first₀ p₀ i₀ out first p i = count - i
+
+loop-holds : tie.Need-loop-holds Inv-loop μ-loop
+unfolding inputRows
+loop-holds c = (search needs, search needs, search needs, refl, begins _ _ _ _ _ _ 0 refl)
+
+mul-v : tie.Need-mul-v Inv-loop μ-loop
+mul-v c = search needs
+
+array-copy-out-v : tie.Need-array-copy-out-v Inv-loop μ-loop
+array-copy-out-v c = search needs
+
+input-row-requires : tie.Need-input-row-requires Inv-loop μ-loop
+input-row-requires c κs = (search needs, search needs, c .before .before .before .before .before .pre .2 (c .before .before .loop .i), c .before .before .before .before .before .pre .1)
+
+slice-aggregate-copy : tie.Need-slice-aggregate-copy Inv-loop μ-loop
+slice-aggregate-copy c = search needs
+
+copy-requires : tie.Need-copy-requires Inv-loop μ-loop
+copy-requires c κs = search needs
+
+add-first : tie.Need-add-first Inv-loop μ-loop
+add-first c = omega (arith, c .before .before .before .before .before .before .before .before .before .before .before .before .pre .2 (c .before .before .before .before .before .before .before .before .before .loop .i))
+
+add-i : tie.Need-add-i Inv-loop μ-loop
+add-i c = search needs
+
+loop-less : tie.Need-loop-less Inv-loop μ-loop
+loop-less c = search needs
+
+loop-again : tie.Need-loop-again Inv-loop μ-loop
+unfolding inputWords nameWords
+loop-again c =
+    let a = c .before .before .before .before .before .before .before .before .before .before .before .before .args in
+    let l = c .before .before .before .before .before .before .before .before .before .loop in
+    let row = c .before .before .before .before .before .before .input-row .ensures in
+    let wide : length (c .before .before .before .before .before .before .input-row .result) ≡ 7 = ap length row in
+    let more = c .before .before .before .before .before .before .before .before .before .before .before .before .pre .2 (l .i) in
+    let w = c .before .before .before .copy .ensures in (
+      search needs,
+      omega arith,
+      omega (arith, w .next),
+      omega (arith, c .before .before .before .copy .kept),
+      goes _ _ _ _ _ _ (l .i) (l .first) (l .p) _ (l .out) _ (search needs) (omega (arith, c .before .before .before .before .before .before .before .before .before .before .before .before .pre)) (retold row w) (l .inv .4),
+    )
+
+same-length : tie.Need-same-length Inv-loop μ-loop
+same-length c = search needs
+
+returns : tie.Need-returns Inv-loop μ-loop
+returns c = let l = c .before .loop in (ends _ _ _ _ _ _ (l .i) (l .first) (l .p) (l .out) (search needs) (l .inv .4), omega arith)
+
+pub input-table-spec : {M : Type 1} → statement M
+input-table-spec =
+    tie.close
+    (tie.spec
+    Inv-loop
+    μ-loop
+    loop-holds
+    mul-v
+    array-copy-out-v
+    input-row-requires
+    slice-aggregate-copy
+    copy-requires
+    add-first
+    add-i
+    loop-less
+    loop-again
+    same-length
+    returns)

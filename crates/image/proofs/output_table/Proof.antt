@@ -1,0 +1,87 @@
+use borrow.Author.Needs.{needs}
+use mathlib.Core.Path.{_≡_, refl, ap}
+use Prim.Native.Nat.{_+_, _*_, _-_, _≤_}
+use native.Mathlib.Omega.{arith}
+use lib.ListN.{length, getD}
+use Rattle.model.specs.Image.{nameWords}
+use Rattle.tables.specs.View.{no-output}
+use Rattle.image.specs.Rows.{outputSize, outputWords, outputRows}
+use Rattle.image.proofs.Over.{Going, begins, goes, ends, retold}
+use Rattle.image.proofs.output_table.Statement.{statement}
+use Rattle.image.proofs.output_table.Tie as tie
+
+abbrev Inv-loop : tie.InvT-loop
+Inv-loop s names count first out₀ at outputs n₀ p₀ o₀ out n p o =
+    (o ≤ count) × (n ≤ first + o * 7) × (p ≡ at + o * 11) × (length out ≡ length out₀)
+    × Going (λ m k. outputWords s names (getD outputs k no-output) m k) (λ m k. m + outputSize outputs k) (outputRows s names outputs count first) count out₀ at o n p out
+
+abbrev μ-loop : tie.MeasureT-loop
+μ-loop s names count first out₀ at outputs n₀ p₀ o₀ out n p o = count - o
+
+loop-holds : tie.Need-loop-holds Inv-loop μ-loop
+unfolding outputRows
+loop-holds c = (search needs, search needs, search needs, refl, begins _ _ _ _ _ _ (c .before .before .args .first) refl)
+
+mul-v : tie.Need-mul-v Inv-loop μ-loop
+mul-v c = search needs
+
+array-copy-out-v : tie.Need-array-copy-out-v Inv-loop μ-loop
+array-copy-out-v c = search needs
+
+output-row-requires : tie.Need-output-row-requires Inv-loop μ-loop
+output-row-requires c κs = (search needs, search needs, c .before .before .before .before .before .pre .3 (c .before .before .loop .o), c .before .before .before .before .before .pre .2)
+
+slice-aggregate-copy : tie.Need-slice-aggregate-copy Inv-loop μ-loop
+slice-aggregate-copy c = search needs
+
+copy-requires : tie.Need-copy-requires Inv-loop μ-loop
+copy-requires c κs = search needs
+
+add-n : tie.Need-add-n Inv-loop μ-loop
+add-n c = omega (arith, c .before .before .before .before .before .before .before .before .before .before .before .before .pre .3 (c .before .before .before .before .before .before .before .before .before .loop .o))
+
+add-o : tie.Need-add-o Inv-loop μ-loop
+add-o c = search needs
+
+loop-less : tie.Need-loop-less Inv-loop μ-loop
+loop-less c = search needs
+
+loop-again : tie.Need-loop-again Inv-loop μ-loop
+unfolding outputWords nameWords
+loop-again c =
+    let l = c .before .before .before .before .before .before .before .before .before .loop in
+    let row = c .before .before .before .before .before .before .output-row .ensures in
+    let wide : length (c .before .before .before .before .before .before .output-row .result) ≡ 11 = ap length row in
+    let more = c .before .before .before .before .before .before .before .before .before .before .before .before .pre .3 (l .o) in
+    let w = c .before .before .before .copy .ensures in (
+      search needs,
+      omega arith,
+      omega (arith, w .next),
+      omega (arith, c .before .before .before .copy .kept),
+      goes _ _ _ _ _ _ (l .o) (l .n) (l .p) _ (l .out) _ (search needs) (omega (arith, c .before .before .before .before .before .before .before .before .before .before .before .before .pre)) (retold row w) (l .inv .4),
+    )
+
+same-length : tie.Need-same-length Inv-loop μ-loop
+same-length c = search needs
+
+returns : tie.Need-returns Inv-loop μ-loop
+returns c = let l = c .before .loop in (ends _ _ _ _ _ _ (l .o) (l .n) (l .p) (l .out) (search needs) (l .inv .4), omega arith)
+
+pub output-table-spec : {M : Type 1} → statement M
+output-table-spec =
+    tie.close
+    (tie.spec
+    Inv-loop
+    μ-loop
+    loop-holds
+    mul-v
+    array-copy-out-v
+    output-row-requires
+    slice-aggregate-copy
+    copy-requires
+    add-n
+    add-o
+    loop-less
+    loop-again
+    same-length
+    returns)

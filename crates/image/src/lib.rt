@@ -1,0 +1,548 @@
+// The image of a block, written into a lent buffer word by word once there is room for all of it.
+ghost use mathlib.Core.Path.{_≡_};
+ghost use mathlib.Core.List.{List, [], _∷_, _++_};
+ghost use Prim.Native.Nat.{ℕ, _+_, _*_, _≤_, _<_};
+ghost use lib.ListN.{length, take, getD};
+ghost use Rattle.model.specs.Block.{Rule};
+ghost use Rattle.model.specs.Image.{crispWord, nameWords, image, tab};
+ghost use Rattle.model.specs.Outcome.{into, lengthIn, bufferAfter};
+ghost use Rattle.model.specs.Refusals.{writtenOf};
+ghost use Rattle.lookup.specs.Names.{nameOf, Placed};
+ghost use Rattle.tables.specs.View.{wholeView, Holds, Headed};
+ghost use Rattle.tables.specs.Stored.{Stored};
+ghost use Rattle.image.specs.Over.{over, Wrote};
+ghost use Rattle.image.specs.Rows.{bit, given, inputSize, outputSize, inputWords, inputRows, outputWords, outputRows, slotsOf, listOf, Listed, held, heldIn, termWords, termRows, pointRow, pointsIn, pointRows, variableRows, variableWords, ruleRows, Few, headWords, rows, onward};
+ghost use lib.Seq.{slice};
+use model::Crisp;
+use model::Refusal;
+use model::Written;
+use tables::Heading;
+use tables::Input;
+use tables::Output;
+use tables::Point;
+use tables::Tables;
+use tables::Totals;
+
+// How many entries the tables of the image have.
+struct Counts {
+    pub inputs: u32,
+    pub outputs: u32,
+    pub terms: u32,
+    pub points: u32,
+    pub rules: u32,
+    pub words: u32,
+    pub conclusions: u32,
+}
+
+// The slots of the terms so far, in their order: slot 7v + j for term j of variable v.
+struct Slots {
+    pub at: [usize; 98],
+    pub count: usize,
+}
+
+// WORDS
+// The word at a place, little-endian.
+fn word(out: &mut [u8], at: usize, w: u32)
+    requires { ⌜ at * 4 + 4 ≤ length (now out) ⌝ }
+    ensures { λ _. ⌜ now (out .exit) ≡ over at (w ∷ []) (now (out .entry)) ⌝ }
+{
+    let k = at * 4;
+    out[k] = (w % 256) as u8;
+    out[k + 1] = (w / 256 % 256) as u8;
+    out[k + 2] = (w / 65536 % 256) as u8;
+    out[k + 3] = (w / 16777216) as u8;
+}
+
+// Words from a place on; the place after them.
+fn copy(ws: &[u32], out: &mut [u8], at: usize) -> usize
+    requires { ⌜ (at + length (now ws)) * 4 ≤ length (now out) ⌝ }
+    ensures { λ r. ⌜ Wrote at r (now (ws .entry)) (now (out .entry)) (now (out .exit)) ⌝ }
+{
+    let mut i: usize = 0;
+    while i < ws.len() {
+        word(out, at + i, ws[i]);
+        i += 1;
+    }
+    at + i
+}
+
+// The first n of some words.
+fn copy_front(ws: &[u32], n: usize, out: &mut [u8], at: usize) -> usize
+    requires { ⌜ (n ≤ length (now ws)) × ((at + n) * 4 ≤ length (now out)) ⌝ }
+    ensures { λ r. ⌜ Wrote at r (take n (now (ws .entry))) (now (out .entry)) (now (out .exit)) ⌝ }
+    ensures next { λ r. ⌜ r ≡ at + n ⌝ }
+{
+    copy(&ws[..n], out, at)
+}
+
+fn wide(w: u32) -> usize
+    ensures { λ r. ⌜ (r ≡ w) × (r ≤ 4294967295) ⌝ }
+{
+    w as usize
+}
+
+// A crisp value in two's complement.
+fn crisp_word(x: Crisp) -> u32
+    ensures { λ r. ⌜ r ≡ crispWord (x .0) ⌝ }
+{
+    let v = x.0;
+    if v < 0 {
+        return (v as i64 + 4294967296) as u32;
+    }
+    v as u32
+}
+
+fn bit_word(on: bool) -> u32
+    ensures { λ r. ⌜ r ≡ bit on ⌝ }
+{
+    if on {
+        return 1;
+    }
+    0
+}
+
+// 0 for what is not given.
+fn given_word(on: bool, x: Crisp) -> u32
+    ensures { λ r. ⌜ r ≡ given on (x .0) ⌝ }
+{
+    if on {
+        return crisp_word(x);
+    }
+    0
+}
+
+fn spelt(w: &[u8]) -> [u32; 4]
+    ensures { λ r. ⌜ r ≡ nameWords (now (w .entry)) ⌝ }
+{
+    [
+        words::word(w, 0) as u32,
+        words::word(w, 1) as u32,
+        words::word(w, 2) as u32,
+        words::word(w, 3) as u32,
+    ]
+}
+
+// The words of name k.
+fn name_words(s: &[u8], names: &[usize; 224], k: usize) -> [u32; 4]
+    requires { ⌜ (k < 112) × Placed (now s) (now names) ⌝ }
+    ensures { λ r. ⌜ r ≡ nameWords (nameOf (now (s .entry)) (now (names .entry)) k) ⌝ }
+{
+    let a = names[k];
+    let e = names[112 + k];
+    spelt(&s[a..e])
+}
+
+// VARIABLES
+fn input_row(s: &[u8], names: &[usize; 224], v: Input, first: usize, i: usize) -> [u32; 7]
+    requires { ⌜ (i < 8) × (first ≤ 56) × (v .terms ≤ 7) × Placed (now s) (now names) ⌝ }
+    ensures { λ r. ⌜ r ≡ inputWords (now (s .entry)) (now (names .entry)) v first i ⌝ }
+{
+    let n = name_words(s, names, i);
+    let int = bit_word(v.int);
+    [n[0], n[1], n[2], n[3], int, first as u32, v.terms as u32]
+}
+
+fn input_table(
+    s: &[u8],
+    names: &[usize; 224],
+    inputs: [Input; 8],
+    count: usize,
+    out: &mut [u8],
+    at: usize,
+) -> usize
+    requires { ⌜ (count ≤ 8) × Placed (now s) (now names) × ((i : ℕ) → inputSize inputs i ≤ 7) × ((at + count * 7) * 4 ≤ length (now out)) ⌝ }
+    ensures { λ r. ⌜ Wrote at r (inputRows (now (s .entry)) (now (names .entry)) inputs count) (now (out .entry)) (now (out .exit)) ⌝ }
+    ensures next { λ r. ⌜ r ≡ at + count * 7 ⌝ }
+{
+    let mut first: usize = 0;
+    let mut p = at;
+    let mut i: usize = 0;
+    while i < count {
+        let v = inputs[i];
+        let row = input_row(s, names, v, first, i);
+        p = copy(&row, out, p);
+        first += v.terms;
+        i += 1;
+    }
+    p
+}
+
+fn output_row(s: &[u8], names: &[usize; 224], v: Output, first: usize, o: usize) -> [u32; 11]
+    requires { ⌜ (o < 6) × (first ≤ 98) × (v .terms ≤ 7) × Placed (now s) (now names) ⌝ }
+    ensures { λ r. ⌜ r ≡ outputWords (now (s .entry)) (now (names .entry)) v first o ⌝ }
+{
+    let n = name_words(s, names, 8 + o);
+    let ranged = v.ranged;
+    let low = v.least;
+    let high = v.most;
+    let numbered = v.numbered;
+    let x = v.default;
+    let least = given_word(ranged, low);
+    let most = given_word(ranged, high);
+    let value = given_word(numbered, x);
+    let flag = bit_word(ranged);
+    let kind = bit_word(numbered);
+    let terms = v.terms as u32;
+    [
+        n[0],
+        n[1],
+        n[2],
+        n[3],
+        first as u32,
+        terms,
+        flag,
+        least,
+        most,
+        kind,
+        value,
+    ]
+}
+
+// first: the first term of the outputs.
+fn output_table(
+    s: &[u8],
+    names: &[usize; 224],
+    outputs: [Output; 6],
+    count: usize,
+    first: usize,
+    out: &mut [u8],
+    at: usize,
+) -> usize
+    requires { ⌜ (count ≤ 6) × (first ≤ 56) × Placed (now s) (now names) × ((o : ℕ) → outputSize outputs o ≤ 7) × ((at + count * 11) * 4 ≤ length (now out)) ⌝ }
+    ensures { λ r. ⌜ Wrote at r (outputRows (now (s .entry)) (now (names .entry)) outputs count first) (now (out .entry)) (now (out .exit)) ⌝ }
+    ensures next { λ r. ⌜ r ≡ at + count * 11 ⌝ }
+{
+    let mut n = first;
+    let mut p = at;
+    let mut o: usize = 0;
+    while o < count {
+        let v = outputs[o];
+        let row = output_row(s, names, v, n, o);
+        p = copy(&row, out, p);
+        n += v.terms;
+        o += 1;
+    }
+    p
+}
+
+// TERMS AND POINTS
+// The slots of the n terms of variable v, behind the others.
+fn with_slots(list: Slots, v: usize, n: usize) -> Slots
+    requires { ⌜ (v < 14) × (n ≤ 7) × (list .count + n ≤ 98) × Listed list ⌝ }
+    ensures { λ r. ⌜ Listed r × (r .count ≡ list .count + n) × (listOf r ≡ listOf list ++ tab (λ j. v * 7 + j) n 0) ⌝ }
+{
+    let mut r = list;
+    let mut j: usize = 0;
+    while j < n {
+        let k = r.count;
+        r.at[k] = v * 7 + j;
+        r.count = k + 1;
+        j += 1;
+    }
+    r
+}
+
+fn input_slots(inputs: [Input; 8], count: usize) -> Slots
+    requires { ⌜ (count ≤ 8) × ((i : ℕ) → inputSize inputs i ≤ 7) ⌝ }
+    ensures { λ r. ⌜ Listed r × (r .count ≤ count * 7) × (listOf r ≡ slotsOf (inputSize inputs) 0 count) ⌝ }
+{
+    let mut r = Slots {
+        at: [0; 98],
+        count: 0,
+    };
+    let mut i: usize = 0;
+    while i < count {
+        let v = inputs[i];
+        r = with_slots(r, i, v.terms);
+        i += 1;
+    }
+    r
+}
+
+fn output_slots(list: Slots, outputs: [Output; 6], count: usize) -> Slots
+    requires { ⌜ (count ≤ 6) × (list .count ≤ 56) × ((o : ℕ) → outputSize outputs o ≤ 7) × Listed list ⌝ }
+    ensures { λ r. ⌜ Listed r × (r .count ≤ list .count + count * 7) × (listOf r ≡ listOf list ++ slotsOf (outputSize outputs) 8 count) ⌝ }
+{
+    let mut r = list;
+    let mut o: usize = 0;
+    while o < count {
+        let v = outputs[o];
+        r = with_slots(r, 8 + o, v.terms);
+        o += 1;
+    }
+    r
+}
+
+// How many points the term in slot k has: an output's has one.
+fn points_in(counts: &[usize; 56], k: usize) -> usize
+    requires { ⌜ ((i : ℕ) → getD (now counts) i 0 ≤ 4) ⌝ }
+    ensures { λ r. ⌜ (r ≡ held (now (counts .entry)) k) × (r ≤ 4) ⌝ }
+{
+    if k < 56 {
+        return counts[k];
+    }
+    1
+}
+
+fn point_count(counts: &[usize; 56], slots: &[usize; 98], n: usize) -> usize
+    requires { ⌜ (n ≤ 98) × ((i : ℕ) → getD (now counts) i 0 ≤ 4) ⌝ }
+    ensures { λ r. ⌜ (r ≡ heldIn (now (counts .entry)) (now (slots .entry)) n) × (r ≤ n * 4) ⌝ }
+{
+    let mut r: usize = 0;
+    let mut i: usize = 0;
+    while i < n {
+        r += points_in(counts, slots[i]);
+        i += 1;
+    }
+    r
+}
+
+fn term_row(
+    s: &[u8],
+    names: &[usize; 224],
+    counts: &[usize; 56],
+    first: usize,
+    k: usize,
+) -> [u32; 6]
+    requires { ⌜ (k < 98) × (first ≤ 392) × ((i : ℕ) → getD (now counts) i 0 ≤ 4) × Placed (now s) (now names) ⌝ }
+    ensures { λ r. ⌜ r ≡ termWords (now (s .entry)) (now (names .entry)) (now (counts .entry)) first k ⌝ }
+{
+    let w = name_words(s, names, 14 + k);
+    let n = points_in(counts, k);
+    [w[0], w[1], w[2], w[3], first as u32, n as u32]
+}
+
+fn term_table(
+    s: &[u8],
+    names: &[usize; 224],
+    counts: &[usize; 56],
+    slots: &[usize; 98],
+    n: usize,
+    out: &mut [u8],
+    at: usize,
+) -> usize
+    requires { ⌜ (n ≤ 98) × ((i : ℕ) → getD (now slots) i 0 < 98) × ((i : ℕ) → getD (now counts) i 0 ≤ 4) × Placed (now s) (now names) × ((at + n * 6) * 4 ≤ length (now out)) ⌝ }
+    ensures { λ r. ⌜ Wrote at r (termRows (now (s .entry)) (now (names .entry)) (now (counts .entry)) (now (slots .entry)) n) (now (out .entry)) (now (out .exit)) ⌝ }
+    ensures next { λ r. ⌜ r ≡ at + n * 6 ⌝ }
+{
+    let mut first: usize = 0;
+    let mut p = at;
+    let mut i: usize = 0;
+    while i < n {
+        let k = slots[i];
+        let row = term_row(s, names, counts, first, k);
+        p = copy(&row, out, p);
+        first += points_in(counts, k);
+        i += 1;
+    }
+    p
+}
+
+// n points from place k on.
+fn some_points(points: [Point; 224], k: usize, n: usize, out: &mut [u8], at: usize) -> usize
+    requires { ⌜ (k + n ≤ 224) × ((at + n * 2) * 4 ≤ length (now out)) ⌝ }
+    ensures { λ r. ⌜ Wrote at r (rows (pointRow points k) onward n 0 tt) (now (out .entry)) (now (out .exit)) ⌝ }
+    ensures next { λ r. ⌜ r ≡ at + n * 2 ⌝ }
+{
+    let mut p = at;
+    let mut j: usize = 0;
+    while j < n {
+        let v = points[k + j];
+        let x = v.at;
+        let d = v.degree;
+        let row = [crisp_word(x), d.0];
+        p = copy(&row, out, p);
+        j += 1;
+    }
+    p
+}
+
+// The points of the term in slot k.
+fn slot_points(
+    points: [Point; 224],
+    singletons: [Crisp; 42],
+    counts: &[usize; 56],
+    k: usize,
+    out: &mut [u8],
+    at: usize,
+) -> usize
+    requires { ⌜ (k < 98) × ((i : ℕ) → getD (now counts) i 0 ≤ 4) × ((at + held (now counts) k * 2) * 4 ≤ length (now out)) ⌝ }
+    ensures { λ r. ⌜ Wrote at r (pointsIn points singletons (now (counts .entry)) k) (now (out .entry)) (now (out .exit)) ⌝ }
+    ensures next { λ r. ⌜ r ≡ at + held (now (counts .entry)) k * 2 ⌝ }
+{
+    if k < 56 {
+        let n = counts[k];
+        return some_points(points, k * 4, n, out, at);
+    }
+    let x = singletons[k - 56];
+    let row = [crisp_word(x), 1000000];
+    copy(&row, out, at)
+}
+
+fn point_table(
+    points: [Point; 224],
+    singletons: [Crisp; 42],
+    counts: &[usize; 56],
+    slots: &[usize; 98],
+    n: usize,
+    out: &mut [u8],
+    at: usize,
+) -> usize
+    requires { ⌜ (n ≤ 98) × ((i : ℕ) → getD (now slots) i 0 < 98) × ((i : ℕ) → getD (now counts) i 0 ≤ 4) × ((at + heldIn (now counts) (now slots) n * 2) * 4 ≤ length (now out)) ⌝ }
+    ensures { λ r. ⌜ Wrote at r (pointRows points singletons (now (counts .entry)) (now (slots .entry)) n) (now (out .entry)) (now (out .exit)) ⌝ }
+    ensures next { λ r. ⌜ r ≡ at + heldIn (now (counts .entry)) (now (slots .entry)) n * 2 ⌝ }
+{
+    let mut p = at;
+    let mut i: usize = 0;
+    while i < n {
+        let k = slots[i];
+        p = slot_points(points, singletons, counts, k, out, p);
+        i += 1;
+    }
+    p
+}
+
+// RULES
+// Firsts wrap, so that the table is safe to write from any words.
+fn rule_table(rules: &[u32], n: usize, out: &mut [u8], at: usize) -> usize
+    requires { ⌜ (n * 4 ≤ length (now rules)) × ((at + n * 6) * 4 ≤ length (now out)) ⌝ }
+    ensures { λ r. ⌜ Wrote at r (ruleRows (now (rules .entry)) n) (now (out .entry)) (now (out .exit)) ⌝ }
+    ensures next { λ r. ⌜ r ≡ at + n * 6 ⌝ }
+{
+    let mut word: u32 = 0;
+    let mut conclusion: u32 = 0;
+    let mut p = at;
+    let mut i: usize = 0;
+    while i < n {
+        let k = i * 4;
+        let a = rules[k + 1];
+        let b = rules[k + 2];
+        let row = [rules[k], word, a, conclusion, b, rules[k + 3]];
+        p = copy(&row, out, p);
+        word = std::num::wrapping_add_u32(word, a);
+        conclusion = std::num::wrapping_add_u32(conclusion, b);
+        i += 1;
+    }
+    p
+}
+
+// THE WHOLE
+// The header up to the names: layout, total, counts, offsets, algorithms.
+fn head_words(c: Counts, h: Heading) -> [u32; 20]
+    requires { ⌜ Few c ⌝ }
+    ensures { λ r. ⌜ r ≡ headWords c h ⌝ }
+{
+    let outputs = 28 + c.inputs * 7;
+    let terms = outputs + c.outputs * 11;
+    let points = terms + c.terms * 6;
+    let rules = points + c.points * 2;
+    let words = rules + c.rules * 6;
+    let conclusions = words + c.words;
+    let end = conclusions + c.conclusions * 2;
+    [
+        1,
+        end,
+        c.inputs,
+        c.outputs,
+        c.terms,
+        c.points,
+        c.rules,
+        c.words,
+        c.conclusions,
+        28,
+        outputs,
+        terms,
+        points,
+        rules,
+        words,
+        conclusions,
+        h.pair,
+        h.accu,
+        h.act,
+        0,
+    ]
+}
+
+// The whole header.
+fn header(s: &[u8], head: [u32; 20], start: usize, end: usize, h: Heading, out: &mut [u8]) -> usize
+    requires { ⌜ (start ≤ end) × (end ≤ length (now s)) × Headed (now s) h × (112 ≤ length (now out)) ⌝ }
+    ensures { λ r. ⌜ Wrote 0 r (head ++ (nameWords (slice start end (now (s .entry))) ++ nameWords (slice (h .start) (h .end) (now (s .entry))))) (now (out .entry)) (now (out .exit)) ⌝ }
+    ensures next { λ r. ⌜ r ≡ 28 ⌝ }
+{
+    let p = copy(&head, out, 0);
+    let n = spelt(&s[start..end]);
+    let q = copy(&n, out, p);
+    let a = h.start;
+    let e = h.end;
+    let m = spelt(&s[a..e]);
+    copy(&m, out, q)
+}
+
+// The tables of variables, terms and points. first: how many of the terms in the list are of inputs.
+fn variables(s: &[u8], t: Tables, first: usize, list: Slots, out: &mut [u8], at: usize) -> usize
+    requires { ⌜ Holds (now s) t × Listed list × (first ≤ 56) × (list .count ≤ 98) × ((at + variableWords t list) * 4 ≤ length (now out)) ⌝ }
+    ensures { λ r. ⌜ Wrote at r (variableRows (now (s .entry)) t first list) (now (out .entry)) (now (out .exit)) ⌝ }
+    ensures next { λ r. ⌜ r ≡ at + variableWords t list ⌝ }
+{
+    let names = t.names;
+    let counts = t.counts;
+    let inputs = t.inputs;
+    let outputs = t.outputs;
+    let points = t.points;
+    let singletons = t.singletons;
+    let slots = list.at;
+    let p = input_table(s, &names, inputs, t.input_count, out, at);
+    let q = output_table(s, &names, outputs, t.output_count, first, out, p);
+    let r = term_table(s, &names, &counts, &slots, list.count, out, q);
+    point_table(points, singletons, &counts, &slots, list.count, out, r)
+}
+
+// The image into the buffer: its length, or 10 with the length that is needed.
+pub fn store(
+    s: &[u8],
+    t: Tables,
+    h: Heading,
+    rules: &[u32; 256],
+    words: &[u32; 640],
+    conclusions: &[u32; 256],
+    n: Totals,
+    out: &mut [u8],
+) -> Written
+    requires { ⌜ Holds (now s) t × Headed (now s) h × (n .rules ≤ 64) × (n .words ≤ 640) × (n .conclusions ≤ 128) ⌝ }
+    ensures { λ r. ⌜ ((rs : List Rule) → Stored rs (now (rules .entry)) (now (words .entry)) (now (conclusions .entry)) (n .rules) (n .words) (n .conclusions)
+        → (writtenOf r ≡ lengthIn (into (length (now (out .entry))) (image (wholeView (now (s .entry)) t h rs))))
+        × (now (out .exit) ≡ bufferAfter (now (out .entry)) (into (length (now (out .entry))) (image (wholeView (now (s .entry)) t h rs))))) ⌝ }
+{
+    let rows: &[u32] = rules;
+    let ws: &[u32] = words;
+    let ks: &[u32] = conclusions;
+    let inputs = t.inputs;
+    let outputs = t.outputs;
+    let counts = t.counts;
+    let own = input_slots(inputs, t.input_count);
+    let list = output_slots(own, outputs, t.output_count);
+    let slots = list.at;
+    let points = point_count(&counts, &slots, list.count);
+    let c = Counts {
+        inputs: t.input_count as u32,
+        outputs: t.output_count as u32,
+        terms: list.count as u32,
+        points: points as u32,
+        rules: n.rules as u32,
+        words: n.words as u32,
+        conclusions: n.conclusions as u32,
+    };
+    let head = head_words(c, h);
+    let size = wide(head[1]) * 4;
+    if out.len() < size {
+        return Written::Refused(Refusal::BufferTooShort(size));
+    }
+    let p = header(s, head, t.start, t.end, h, out);
+    let q = variables(s, t, own.count, list, out, p);
+    let r = rule_table(rows, n.rules, out, q);
+    let k = n.words;
+    let m = n.conclusions * 2;
+    let e = copy_front(ws, k, out, r);
+    copy_front(ks, m, out, e);
+    Written::Bytes(size)
+}
