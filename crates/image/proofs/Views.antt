@@ -23,7 +23,6 @@ use Rattle.layout.proofs.TableLaws.{input-table, output-table, term-table, gath
 use Rattle.tables.specs.declared.Output.{Output}
 use Rattle.tables.specs.declared.Tables.{Tables}
 use Rattle.tables.specs.View.{zero-crisp, no-input, no-output, rangeView, defaultView, pointView, termView, inputView, singletonView, outputView, inputsView, outputsView, Holds}
-use Rattle.tables.specs.Stored as stored
 use Rattle.image.specs.declared.Slots.{Slots}
 use Rattle.image.specs.Rows.{rows, onward, bit, given, inputSize, outputSize, inputWords, outputWords, inputRows, outputRows, slotRow, slotsOf, listOf, Listed, held, heldIn, termWords, termRows, pointRow, pointsIn, pointRows}
 

@@ -16,6 +16,7 @@ use Rattle.tables.specs.declared.Output.{Output}
 use Rattle.tables.specs.declared.Point.{Point}
 use Rattle.tables.specs.declared.Tables.{Tables}
 use Rattle.tables.specs.declared.Heading.{Heading}
+use Rattle.tables.specs.declared.Totals.{Totals}
 use Rattle.layout.specs.Tables.{sums}
 use Rattle.tables.specs.View.{no-input, no-output, no-point, zero-crisp}
 use Rattle.image.specs.declared.Counts.{Counts}
@@ -123,6 +124,17 @@ ruleRows rules k = rows (ruleWords rules) (ruleNext rules) k 0 (0, 0)
 -- THE HEADER before the names
 abbrev pub countList : Counts → List ℕ
 countList c = c .inputs ∷ c .outputs ∷ c .terms ∷ c .points ∷ c .rules ∷ c .words ∷ c .conclusions ∷ []
+
+abbrev pub entriesOf : ℕ → ℕ → List ℕ → Slots → Totals → Counts
+entriesOf inputs outputs counts l n = record {
+  inputs = inputs;
+  outputs = outputs;
+  terms = l .count;
+  points = heldIn counts (l .at) (l .count);
+  rules = n .rules;
+  words = n .words;
+  conclusions = n .conclusions;
+}
 
 -- within the limits
 pub record Few (c : Counts) : Type 0 where

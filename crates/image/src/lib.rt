@@ -3,6 +3,7 @@ ghost use mathlib.Core.Path.{_≡_};
 ghost use mathlib.Core.List.{List, [], _∷_, _++_};
 ghost use Prim.Native.Nat.{ℕ, _+_, _*_, _≤_, _<_};
 ghost use lib.ListN.{length, take, getD};
+ghost use lib.Seq.{slice};
 ghost use Rattle.model.specs.Block.{Rule};
 ghost use Rattle.model.specs.Image.{crispWord, nameWords, image, tab};
 ghost use Rattle.model.specs.Outcome.{into, lengthIn, bufferAfter};
@@ -11,8 +12,7 @@ ghost use Rattle.lookup.specs.Names.{nameOf, Placed};
 ghost use Rattle.tables.specs.View.{wholeView, Holds, Headed};
 ghost use Rattle.tables.specs.Stored.{Stored};
 ghost use Rattle.image.specs.Over.{over, Wrote};
-ghost use Rattle.image.specs.Rows.{bit, given, inputSize, outputSize, inputWords, inputRows, outputWords, outputRows, slotsOf, listOf, Listed, held, heldIn, termWords, termRows, pointRow, pointsIn, pointRows, variableRows, variableWords, ruleRows, Few, headWords, rows, onward};
-ghost use lib.Seq.{slice};
+ghost use Rattle.image.specs.Rows.{bit, given, inputSize, outputSize, inputWords, inputRows, outputWords, outputRows, slotsOf, listOf, Listed, held, heldIn, termWords, termRows, pointRow, pointsIn, pointRows, variableRows, variableWords, ruleRows, entriesOf, Few, headWords, rows, onward};
 use model::Crisp;
 use model::Refusal;
 use model::Written;
@@ -111,6 +111,7 @@ fn given_word(on: bool, x: Crisp) -> u32
     0
 }
 
+// A name in four words, zero padded.
 fn spelt(w: &[u8]) -> [u32; 4]
     ensures { λ r. ⌜ r ≡ nameWords (now (w .entry)) ⌝ }
 {
@@ -427,6 +428,25 @@ fn rule_table(rules: &[u32], n: usize, out: &mut [u8], at: usize) -> usize
 }
 
 // THE WHOLE
+// The seven counts of the header.
+fn entries(inputs: usize, outputs: usize, counts: &[usize; 56], list: Slots, n: Totals) -> Counts
+    requires { ⌜ (inputs ≤ 8) × (outputs ≤ 6) × (list .count ≤ 98) × ((i : ℕ) → getD (now counts) i 0 ≤ 4) × (n .rules ≤ 64) × (n .words ≤ 640) × (n .conclusions ≤ 128) ⌝ }
+    ensures { λ r. ⌜ r ≡ entriesOf inputs outputs (now (counts .entry)) list n ⌝ }
+    ensures few { λ r. ⌜ Few r ⌝ }
+{
+    let slots = list.at;
+    let points = point_count(counts, &slots, list.count);
+    Counts {
+        inputs: inputs as u32,
+        outputs: outputs as u32,
+        terms: list.count as u32,
+        points: points as u32,
+        rules: n.rules as u32,
+        words: n.words as u32,
+        conclusions: n.conclusions as u32,
+    }
+}
+
 // The header up to the names: layout, total, counts, offsets, algorithms.
 fn head_words(c: Counts, h: Heading) -> [u32; 20]
     requires { ⌜ Few c ⌝ }
@@ -513,6 +533,7 @@ pub fn store(
         → (writtenOf r ≡ lengthIn (into (length (now (out .entry))) (image (wholeView (now (s .entry)) t h rs))))
         × (now (out .exit) ≡ bufferAfter (now (out .entry)) (into (length (now (out .entry))) (image (wholeView (now (s .entry)) t h rs))))) ⌝ }
 {
+    // As slices, whose lengths are then known.
     let rows: &[u32] = rules;
     let ws: &[u32] = words;
     let ks: &[u32] = conclusions;
@@ -521,17 +542,7 @@ pub fn store(
     let counts = t.counts;
     let own = input_slots(inputs, t.input_count);
     let list = output_slots(own, outputs, t.output_count);
-    let slots = list.at;
-    let points = point_count(&counts, &slots, list.count);
-    let c = Counts {
-        inputs: t.input_count as u32,
-        outputs: t.output_count as u32,
-        terms: list.count as u32,
-        points: points as u32,
-        rules: n.rules as u32,
-        words: n.words as u32,
-        conclusions: n.conclusions as u32,
-    };
+    let c = entries(t.input_count, t.output_count, &counts, list, n);
     let head = head_words(c, h);
     let size = wide(head[1]) * 4;
     if out.len() < size {

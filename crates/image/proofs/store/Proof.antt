@@ -10,7 +10,7 @@ use Rattle.model.specs.Image.{nameWords, words, image, endOf}
 use Rattle.tables.specs.View.{wholeView}
 use Rattle.tables.specs.Stored.{Stored}
 use Rattle.image.specs.declared.Counts.{Counts}
-use Rattle.image.specs.Rows.{headWords, variableWords, heldIn}
+use Rattle.image.specs.Rows.{headWords, variableWords, entriesOf}
 use Rattle.image.proofs.Over.{joined, retold, from-start}
 use Rattle.image.proofs.Views.{Ordered}
 use Rattle.image.proofs.Whole.{words-are, size-is, too-short, stored}
@@ -19,20 +19,20 @@ use Rattle.image.proofs.store.Tie as tie
 
 -- what is known once the counts are
 module _ (c : tie.After-wide) where
-  long-rules : length (c .before .before .before .before .before .before .before .before .before .before .before .before .before .before .before .before .before .before .before .before .before .before .args .rules .now) ≡ 256
-  long-rules = omega (arith, c .before .before .before .before .before .before .before .before .before .before .before .before .before .before .before .before .before .before .before .rows .given)
+  long-rules : length (c .before .before .before .before .before .before .before .before .before .before .before .before .before .before .args .rules .now) ≡ 256
+  long-rules = omega (arith, c .before .before .before .before .before .before .before .before .before .before .before .rows .given)
 
-  long-words : length (c .before .before .before .before .before .before .before .before .before .before .before .before .before .before .before .before .before .before .before .before .before .before .args .words .now) ≡ 640
-  long-words = omega (arith, c .before .before .before .before .before .before .before .before .before .before .before .before .before .before .before .before .before .before .ws .given)
+  long-words : length (c .before .before .before .before .before .before .before .before .before .before .before .before .before .before .args .words .now) ≡ 640
+  long-words = omega (arith, c .before .before .before .before .before .before .before .before .before .before .ws .given)
 
-  long-conclusions : length (c .before .before .before .before .before .before .before .before .before .before .before .before .before .before .before .before .before .before .before .before .before .before .args .conclusions .now) ≡ 256
-  long-conclusions = omega (arith, c .before .before .before .before .before .before .before .before .before .before .before .before .before .before .before .before .before .ks .given)
+  long-conclusions : length (c .before .before .before .before .before .before .before .before .before .before .before .before .before .before .args .conclusions .now) ≡ 256
+  long-conclusions = omega (arith, c .before .before .before .before .before .before .before .before .before .ks .given)
 
-  ordered : Ordered (c .before .before .before .before .before .before .before .before .before .before .before .before .before .before .before .before .before .before .before .before .before .before .args .t) (c .before .before .before .before .before .before .before .before .before .before .before .before .before .input-slots .result) (c .before .before .before .before .before .before .before .before .before .before .before .before .output-slots .result)
+  ordered : Ordered (c .before .before .before .before .before .before .before .before .before .before .before .before .before .before .args .t) (c .before .before .before .before .before .input-slots .result) (c .before .before .before .before .output-slots .result)
   ordered =
-      let s = c .before .before .before .before .before .before .before .before .before .before .before .before .before .before .before .before .before .before .before .before .before .before .pre .0 in
-      let own = c .before .before .before .before .before .before .before .before .before .before .before .before .before .input-slots .ensures in
-      let list = c .before .before .before .before .before .before .before .before .before .before .before .before .output-slots .ensures in
+      let s = c .before .before .before .before .before .before .before .before .before .before .before .before .before .before .pre .0 in
+      let own = c .before .before .before .before .before .input-slots .ensures in
+      let list = c .before .before .before .before .output-slots .ensures in
       record {
         own-few = omega (arith, own .1, s .inputCount);
         few = omega (arith, own .1, list .1, s .inputCount, s .outputCount);
@@ -42,29 +42,18 @@ module _ (c : tie.After-wide) where
         outputs = list .2;
       }
 
-  abbrev entries : ℕ → Counts
-  entries p = record {
-    inputs = c .before .before .before .before .before .before .before .before .before .before .before .before .before .before .before .before .before .before .before .before .before .before .args .t .«input_count»;
-    outputs = c .before .before .before .before .before .before .before .before .before .before .before .before .before .before .before .before .before .before .before .before .before .before .args .t .«output_count»;
-    terms = c .before .before .before .before .before .before .before .before .before .before .before .before .output-slots .result .count;
-    points = p;
-    rules = c .before .before .before .before .before .before .before .before .before .before .before .before .before .before .before .before .before .before .before .before .before .before .args .n .rules;
-    words = c .before .before .before .before .before .before .before .before .before .before .before .before .before .before .before .before .before .before .before .before .before .before .args .n .words;
-    conclusions = c .before .before .before .before .before .before .before .before .before .before .before .before .before .before .before .before .before .before .before .before .before .before .args .n .conclusions;
-  }
+  head-is : c .before .head-words .result ≡ headWords (entriesOf (c .before .before .before .before .before .before .before .before .before .before .before .before .before .before .args .t .«input_count») (c .before .before .before .before .before .before .before .before .before .before .before .before .before .before .args .t .«output_count») (c .before .before .before .before .before .before .before .before .before .before .before .before .before .before .args .t .counts) (c .before .before .before .before .output-slots .result) (c .before .before .before .before .before .before .before .before .before .before .before .before .before .before .args .n)) (c .before .before .before .before .before .before .before .before .before .before .before .before .before .before .args .h)
+  head-is = c .before .head-words .ensures ∙ ap (λ (x : Counts). headWords x (c .before .before .before .before .before .before .before .before .before .before .before .before .before .before .args .h)) (c .before .before .entries .ensures .0)
 
-  head-is : c .before .head-words .result ≡ headWords (entries (heldIn (c .before .before .before .before .before .before .before .before .before .before .before .before .before .before .before .before .before .before .before .before .before .before .args .t .counts) (c .before .before .before .before .before .before .before .before .before .before .before .before .output-slots .result .at) (c .before .before .before .before .before .before .before .before .before .before .before .before .output-slots .result .count))) (c .before .before .before .before .before .before .before .before .before .before .before .before .before .before .before .before .before .before .before .before .before .before .args .h)
-  head-is = c .before .head-words .ensures ∙ ap (λ (p : ℕ). headWords (entries p) (c .before .before .before .before .before .before .before .before .before .before .before .before .before .before .before .before .before .before .before .before .before .before .args .h)) (c .before .before .before .before .before .before .before .before .point-count .ensures .0)
-
-  extent : c .wide .result ≡ 28 + variableWords (c .before .before .before .before .before .before .before .before .before .before .before .before .before .before .before .before .before .before .before .before .before .before .args .t) (c .before .before .before .before .before .before .before .before .before .before .before .before .output-slots .result) + c .before .before .before .before .before .before .before .before .before .before .before .before .before .before .before .before .before .before .before .before .before .before .args .n .rules * 6 + c .before .before .before .before .before .before .before .before .before .before .before .before .before .before .before .before .before .before .before .before .before .before .args .n .words + c .before .before .before .before .before .before .before .before .before .before .before .before .before .before .before .before .before .before .before .before .before .before .args .n .conclusions * 2
+  extent : c .wide .result ≡ 28 + variableWords (c .before .before .before .before .before .before .before .before .before .before .before .before .before .before .args .t) (c .before .before .before .before .output-slots .result) + c .before .before .before .before .before .before .before .before .before .before .before .before .before .before .args .n .rules * 6 + c .before .before .before .before .before .before .before .before .before .before .before .before .before .before .args .n .words + c .before .before .before .before .before .before .before .before .before .before .before .before .before .before .args .n .conclusions * 2
   unfolding endOf headWords
   extent = c .wide .ensures .0 ∙ ap (λ (l : List ℕ). getD l 1 0) head-is ∙ omega arith
 
-  length-is : (rs : List Rule) → Stored rs (c .before .before .before .before .before .before .before .before .before .before .before .before .before .before .before .before .before .before .before .before .before .before .args .rules .now) (c .before .before .before .before .before .before .before .before .before .before .before .before .before .before .before .before .before .before .before .before .before .before .args .words .now) (c .before .before .before .before .before .before .before .before .before .before .before .before .before .before .before .before .before .before .before .before .before .before .args .conclusions .now) (c .before .before .before .before .before .before .before .before .before .before .before .before .before .before .before .before .before .before .before .before .before .before .args .n .rules) (c .before .before .before .before .before .before .before .before .before .before .before .before .before .before .before .before .before .before .before .before .before .before .args .n .words) (c .before .before .before .before .before .before .before .before .before .before .before .before .before .before .before .before .before .before .before .before .before .before .args .n .conclusions)
-      → length (image (wholeView (c .before .before .before .before .before .before .before .before .before .before .before .before .before .before .before .before .before .before .before .before .before .before .args .s .now) (c .before .before .before .before .before .before .before .before .before .before .before .before .before .before .before .before .before .before .before .before .before .before .args .t) (c .before .before .before .before .before .before .before .before .before .before .before .before .before .before .before .before .before .before .before .before .before .before .args .h) rs)) ≡ c .wide .result * 4
+  length-is : (rs : List Rule) → Stored rs (c .before .before .before .before .before .before .before .before .before .before .before .before .before .before .args .rules .now) (c .before .before .before .before .before .before .before .before .before .before .before .before .before .before .args .words .now) (c .before .before .before .before .before .before .before .before .before .before .before .before .before .before .args .conclusions .now) (c .before .before .before .before .before .before .before .before .before .before .before .before .before .before .args .n .rules) (c .before .before .before .before .before .before .before .before .before .before .before .before .before .before .args .n .words) (c .before .before .before .before .before .before .before .before .before .before .before .before .before .before .args .n .conclusions)
+      → length (image (wholeView (c .before .before .before .before .before .before .before .before .before .before .before .before .before .before .args .s .now) (c .before .before .before .before .before .before .before .before .before .before .before .before .before .before .args .t) (c .before .before .before .before .before .before .before .before .before .before .before .before .before .before .args .h) rs)) ≡ c .wide .result * 4
   unfolding endOf
   length-is rs st =
-      let s = c .before .before .before .before .before .before .before .before .before .before .before .before .before .before .before .before .before .before .before .before .before .before in
+      let s = c .before .before .before .before .before .before .before .before .before .before .before .before .before .before in
       let a = s .args in
       size-is (a .s .now) (a .t) (a .h) rs (s .pre .0) (s .pre .1) _ _ ordered (a .rules .now) (a .words .now) (a .conclusions .now) _ _ _ st long-rules long-words long-conclusions
       ∙ omega (arith, extent)
@@ -75,45 +64,11 @@ input-slots-requires c κs = search needs
 output-slots-requires : tie.Need-output-slots-requires
 output-slots-requires c κs = search needs
 
-point-count-requires : tie.Need-point-count-requires
-point-count-requires c κs = search needs
-
-cast-wide : tie.Need-cast-wide
-cast-wide c = search needs
-
-cast-t34 : tie.Need-cast-t34
-cast-t34 c = search needs
-
-cast-t35 : tie.Need-cast-t35
-cast-t35 c = omega (arith, c .before .before .before .before .before .before .before .before .input-slots .ensures .1, c .before .before .before .before .before .before .before .output-slots .ensures .1, c .before .before .before .before .before .before .before .before .before .before .before .before .before .before .before .before .before .pre .0 .inputCount, c .before .before .before .before .before .before .before .before .before .before .before .before .before .before .before .before .before .pre .0 .outputCount)
-
-cast-t36 : tie.Need-cast-t36
-cast-t36 c = omega (arith, c .before .before .before .point-count .ensures .1, c .before .before .before .before .before .before .before .before .input-slots .ensures .1, c .before .before .before .before .before .before .before .output-slots .ensures .1, c .before .before .before .before .before .before .before .before .before .before .before .before .before .before .before .before .before .pre .0 .inputCount, c .before .before .before .before .before .before .before .before .before .before .before .before .before .before .before .before .before .pre .0 .outputCount)
-
-cast-t37 : tie.Need-cast-t37
-cast-t37 c = omega (arith, c .before .before .before .before .before .before .before .before .before .before .before .before .before .before .before .before .before .before .pre .2)
-
-cast-t38 : tie.Need-cast-t38
-cast-t38 c = omega (arith, c .before .before .before .before .before .before .before .before .before .before .before .before .before .before .before .before .before .before .before .pre .3)
-
-cast-t39 : tie.Need-cast-t39
-cast-t39 c = omega (arith, c .before .before .before .before .before .before .before .before .before .before .before .before .before .before .before .before .before .before .before .before .pre .4)
+entries-requires : tie.Need-entries-requires
+entries-requires c κs = search needs
 
 head-words-requires : tie.Need-head-words-requires
-head-words-requires c κs =
-    let s = c .before .before .before .before .before .before .before .before .before .before .before .before .before .before .before .before .before .before .before .before in
-    let own = c .before .before .before .before .before .before .before .before .before .before .before .input-slots .ensures in
-    let list = c .before .before .before .before .before .before .before .before .before .before .output-slots .ensures in
-    let p = c .before .before .before .before .before .before .point-count .ensures in
-    record {
-      inputs = s .pre .0 .inputCount;
-      outputs = s .pre .0 .outputCount;
-      terms = omega (arith, own .1, list .1, s .pre .0 .inputCount, s .pre .0 .outputCount);
-      points = omega (arith, own .1, list .1, p .1, s .pre .0 .inputCount, s .pre .0 .outputCount);
-      rules = s .pre .2;
-      words = s .pre .3;
-      conclusions = s .pre .4;
-    }
+head-words-requires c κs = search needs
 
 array-read-wide : tie.Need-array-read-wide
 array-read-wide c = search needs
@@ -127,33 +82,33 @@ mul-size c = search needs
 returns : tie.Need-returns
 returns c =
     λ rs st.
-    let a = c .before .before .before .before .before .before .before .before .before .before .before .before .before .before .before .before .before .before .before .before .before .before .before .args in
+    let a = c .before .before .before .before .before .before .before .before .before .before .before .before .before .before .before .args in
     too-short (image (wholeView (a .s .now) (a .t) (a .h) rs)) (a .out .now) (c .before .wide .result * 4) (length-is (c .before) rs st) (c .if1 .taken)
 
 header-requires : tie.Need-header-requires
-header-requires c κs = let s = c .before .before .before .before .before .before .before .before .before .before .before .before .before .before .before .before .before .before .before .before .before .before .before .before in (s .pre .0 .order, s .pre .0 .inside, s .pre .1, omega (arith, extent (c .before .before), c .before .if1 .left))
+header-requires c κs = let s = c .before .before .before .before .before .before .before .before .before .before .before .before .before .before .before .before in (s .pre .0 .order, s .pre .0 .inside, s .pre .1, omega (arith, extent (c .before .before), c .before .if1 .left))
 
 variables-requires : tie.Need-variables-requires
 variables-requires c κs =
-    let s = c .before .before .before .before .before .before .before .before .before .before .before .before .before .before .before .before .before .before .before .before .before .before .before .before .before .before .before .before in
+    let s = c .before .before .before .before .before .before .before .before .before .before .before .before .before .before .before .before .before .before .before .before in
     let f = ordered (c .before .before .before .before .before .before) in
-    let own = c .before .before .before .before .before .before .before .before .before .before .before .before .before .before .before .before .before .before .before .input-slots .ensures in
+    let own = c .before .before .before .before .before .before .before .before .before .before .before .input-slots .ensures in
     let p = c .before .before .before .header in
     (s .pre .0, f .listed, omega (arith, own .1, s .pre .0 .inputCount), f .few, omega (arith, extent (c .before .before .before .before .before .before), c .before .before .before .before .before .if1 .left, p .ensures .1, p .kept))
 
 rule-table-requires : tie.Need-rule-table-requires
 rule-table-requires c κs =
-    let s = c .before .before .before .before .before .before .before .before .before .before .before .before .before .before .before .before .before .before .before .before .before .before .before .before .before .before .before .before .before .before .before .before in
+    let s = c .before .before .before .before .before .before .before .before .before .before .before .before .before .before .before .before .before .before .before .before .before .before .before .before in
     let p = c .before .before .before .before .before .before .before .header in
     let q = c .before .before .before .variables in
     (omega (arith, s .pre .2, long-rules (c .before .before .before .before .before .before .before .before .before .before)), omega (arith, extent (c .before .before .before .before .before .before .before .before .before .before), c .before .before .before .before .before .before .before .before .before .if1 .left, p .ensures .1, p .kept, q .ensures .1, q .kept))
 
 mul-m : tie.Need-mul-m
-mul-m c = omega (arith, c .before .before .before .before .before .before .before .before .before .before .before .before .before .before .before .before .before .before .before .before .before .before .before .before .before .before .before .before .before .before .before .before .before .before .before .before .pre)
+mul-m c = omega (arith, c .before .before .before .before .before .before .before .before .before .before .before .before .before .before .before .before .before .before .before .before .before .before .before .before .before .before .before .before .pre)
 
 copy-front-requires : tie.Need-copy-front-requires
 copy-front-requires c κs =
-    let s = c .before .before .before .before .before .before .before .before .before .before .before .before .before .before .before .before .before .before .before .before .before .before .before .before .before .before .before .before .before .before .before .before .before .before .before .before .before in
+    let s = c .before .before .before .before .before .before .before .before .before .before .before .before .before .before .before .before .before .before .before .before .before .before .before .before .before .before .before .before .before in
     let p = c .before .before .before .before .before .before .before .before .before .before .before .before .header in
     let q = c .before .before .before .before .before .before .before .before .variables in
     let r = c .before .before .before .before .rule-table in
@@ -161,7 +116,7 @@ copy-front-requires c κs =
 
 copy-front-requires-2 : tie.Need-copy-front-requires-2
 copy-front-requires-2 c κs =
-    let s = c .before .before .before .before .before .before .before .before .before .before .before .before .before .before .before .before .before .before .before .before .before .before .before .before .before .before .before .before .before .before .before .before .before .before .before .before .before .before .before .before .before in
+    let s = c .before .before .before .before .before .before .before .before .before .before .before .before .before .before .before .before .before .before .before .before .before .before .before .before .before .before .before .before .before .before .before .before .before in
     let p = c .before .before .before .before .before .before .before .before .before .before .before .before .before .before .before .before .header in
     let q = c .before .before .before .before .before .before .before .before .before .before .before .before .variables in
     let r = c .before .before .before .before .before .before .before .before .rule-table in
@@ -175,7 +130,7 @@ returns-2 : tie.Need-returns-2
 unfolding image
 returns-2 c =
     λ rs st.
-    let s = c .before .before .before .before .before .before .before .before .before .before .before .before .before .before .before .before .before .before .before .before .before .before .before .before .before .before .before .before .before .before .before .before .before .before .before .before .before .before .before .before .before .before .before .before in
+    let s = c .before .before .before .before .before .before .before .before .before .before .before .before .before .before .before .before .before .before .before .before .before .before .before .before .before .before .before .before .before .before .before .before .before .before .before .before in
     let a = s .args in
     let w = (c .before .before .before .before .before .before .before .before .before .before .before .before .before .before .before .before .before .before .before .before .before .before) in
     let p = c .before .before .before .before .before .before .before .before .before .before .before .before .before .before .before .before .before .before .before .header in
@@ -203,14 +158,7 @@ store-spec =
     (tie.spec
     input-slots-requires
     output-slots-requires
-    point-count-requires
-    cast-wide
-    cast-t34
-    cast-t35
-    cast-t36
-    cast-t37
-    cast-t38
-    cast-t39
+    entries-requires
     head-words-requires
     array-read-wide
     wide-requires

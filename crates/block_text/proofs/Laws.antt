@@ -1,0 +1,174 @@
+-- The empty tables, the parts that are there, and the end.
+use mathlib.Core.Path.{_≡_, refl, sym, ap, _∙_}
+use mathlib.Core.Bool.{Bool, true, false, _&&_, not}
+use mathlib.Core.List.{List, [], _∷_, map}
+use Prim.Native.Nat.{ℕ, zero, suc, _+_, _-_, _≤_, _<_}
+use native.Mathlib.Omega.{arith}
+use borrow.Author.Tests.{eq-eqb, ne-eqb, lt-ltb, le-ltb, ltb-true, ltb-false}
+use lib.Dec.{ltb}
+use lib.ListN.{length, getD, replicate}
+use Rattle.model.specs.Basic.{if_then_else_, all, isEmpty}
+use Rattle.model.specs.Block as block
+use Rattle.model.specs.Block.{Block, termsOf, singletonsOf}
+use Rattle.model.specs.Image.{tab}
+use Rattle.model.specs.Keywords.{END, END-FUNCTION-BLOCK, END-RULEBLOCK}
+use Rattle.model.specs.Parse.{Parse, Checks, kind, is, refuse, advance, judged, expect, emptyBlock}
+use Rattle.model.specs.Tokens.{tokens}
+use Rattle.model.specs.Reader.{start, partsThere, endOfBlock}
+use Rattle.words.proofs.Places.{all-start}
+use Rattle.tables.specs.declared.Tables.{Tables}
+use Rattle.tables.specs.View.{zero-crisp, no-input, no-output, no-point, blockView, Holds}
+use Rattle.cursor.specs.declared.Cursor.{Cursor}
+use Rattle.cursor.specs.View.{seen, Fits, Step, fault}
+use Rattle.cursor.proofs.Laws.{kind-seen, block-seen, lost-kind, judged-bad, judged-good, numbered}
+use Rattle.reading.specs.Reads.{view}
+use Rattle.declared.specs.Book.{Describes, first, termCount, inputCount, outputCount}
+use Rattle.block_text.specs.Block.{backText, haveTerms, Ends}
+
+-- THE EMPTY TABLES
+abbrev pub empty : Tables
+empty = record {
+  start = 0;
+  end = 0;
+  «input_count» = 0;
+  «output_count» = 0;
+  names = replicate 224 0;
+  inputs = replicate 8 no-input;
+  outputs = replicate 6 no-output;
+  counts = replicate 56 0;
+  points = replicate 224 no-point;
+  singletons = replicate 42 zero-crisp;
+}
+
+pub empty-view : (s : List ℕ) → blockView s empty ≡ emptyBlock
+unfolding blockView tab
+empty-view s = refl
+
+alike : {A : Type 0} (d : A) (n k : ℕ) → getD (replicate n d) k d ≡ d
+alike d zero k = refl
+alike d (suc n) zero = refl
+alike d (suc n) (suc k) = alike d n k
+
+zeros : (n k : ℕ) → _≡_ {A = ℕ} (getD (replicate n 0) k 0) 0
+zeros n k = alike {A = ℕ} 0 n k
+
+pub empty-holds : (s : List ℕ) → Holds s empty
+empty-holds s = record {
+  order = omega arith;
+  inside = omega arith;
+  placed = record { order = λ k h. rw (zeros 224 k, zeros 224 (112 + k)) (omega arith); inside = λ k. rw (zeros 224 k) (omega arith) };
+  inputCount = omega arith;
+  outputCount = omega arith;
+  inputTerms = λ i. rw (alike no-input 8 i) (omega arith);
+  outputTerms = λ o. rw (alike no-output 6 o) (omega arith);
+  pointCounts = λ k. rw (zeros 56 k) (omega arith);
+  names-size = refl;
+  inputs-size = refl;
+  outputs-size = refl;
+  counts-size = refl;
+  points-size = refl;
+  singletons-size = refl;
+}
+
+pub begun : (s : List ℕ) (c : Cursor) (t : Tables) → ((b : Block) (n : ℕ) → seen s c b n ≡ record { rest = tokens s; why = 0; place = 0; block = b; words = n })
+    → blockView s t ≡ emptyBlock → view s (record { cursor = c; tables = t }) ≡ start s
+unfolding view
+begun s c t e h = e (blockView s t) 0 ∙ ap (λ (b : Block). record { rest = tokens s; why = 0; place = 0; block = b; words = 0 }) h
+
+-- EVERY VARIABLE HAS ITS PART
+filled : {A : Type 0} (l : List A) → not (isEmpty l) ≡ ltb 0 (length l)
+filled [] = sym (le-ltb 0 0 (omega arith))
+filled (x ∷ l) = sym (lt-ltb 0 (suc (length l)) (omega arith))
+
+parts-by : {A B : Type 0} (f : A → List B) (h : ℕ → Bool) (l : List A) (p : ℕ) → ((i : ℕ) → i < length l → h (p + i) ≡ ltb 0 (length (getD (map f l) i [])))
+    → all (λ v. not (isEmpty (f v))) l ≡ all h (tab (λ k. k) (length l) p)
+unfolding all tab
+parts-by f h [] p e = refl
+parts-by f h (x ∷ l) p e =
+    let z : p + 0 ≡ p = omega arith in
+    let q = filled (f x) ∙ sym (e 0 (omega arith)) ∙ ap h z in
+    let r = parts-by f h l (suc p) (λ i b. ap h (omega arith) ∙ e (suc i) (omega arith)) in
+    λ j. q j && r j
+
+above : (x y : ℕ) → ltb x y ≡ ltb 0 (y - x)
+above x y = by (ltb x y) refl
+  where
+    by : (t : Bool) → ltb x y ≡ t → ltb x y ≡ ltb 0 (y - x)
+    by true q = let w = ltb-true x y q in q ∙ sym (lt-ltb 0 (y - x) (omega arith))
+    by false q = let w = ltb-false x y q in q ∙ sym (le-ltb 0 (y - x) (omega arith))
+
+pub have-start : (book : List ℕ) (v n : ℕ) → all (λ j. ltb (first book j) (first book (j + 1))) (tab (λ j. j) (v + n - v) v) ≡ haveTerms book v n
+unfolding haveTerms
+have-start book v n = all-start (λ j. ltb (first book j) (first book (j + 1))) (λ j. j) v n
+
+module _ (s names book : List ℕ) (b : Block) (d : Describes s names book b) where
+  inputs-there : all (λ v. not (isEmpty (v .terms))) (b .inputs) ≡ haveTerms book 0 (inputCount book)
+  unfolding haveTerms termsOf
+  inputs-there =
+      parts-by (λ (v : block.Input). v .terms) (λ k. ltb (first book k) (first book (k + 1))) (b .inputs) 0
+      (λ i h. let z : 0 + i ≡ i = omega arith in ap (λ (k : ℕ). ltb (first book k) (first book (k + 1))) z ∙ above (first book i) (first book (i + 1)) ∙ ap (ltb 0) (sym (d .terms i (omega (arith, d .inputs)))))
+      ∙ ap (λ (n : ℕ). all (λ k. ltb (first book k) (first book (k + 1))) (tab (λ k. k) n 0)) (d .inputs)
+
+  outputs-there : all (λ v. not (isEmpty (v .terms))) (b .outputs) ≡ haveTerms book 8 (outputCount book)
+  unfolding haveTerms singletonsOf
+  outputs-there =
+      parts-by (λ (v : block.Output). v .terms) (λ k. ltb (first book k) (first book (k + 1))) (b .outputs) 8
+      (λ o h. above (first book (8 + o)) (first book (8 + o + 1)) ∙ ap (ltb 0) (sym (d .singletons o (omega (arith, d .outputs)))))
+      ∙ ap (λ (n : ℕ). all (λ k. ltb (first book k) (first book (k + 1))) (tab (λ k. k) n 8)) (d .outputs)
+
+  pub parts-there : partsThere b ≡ haveTerms book 0 (inputCount book) && haveTerms book 8 (outputCount book)
+  unfolding partsThere
+  parts-there = λ j. inputs-there j && outputs-there j
+
+-- THE END
+-- advancing changes no outcome
+passed : (q : Parse) → Ends q (advance q)
+unfolding advance
+passed q = record { why = refl; place = refl; block = refl }
+
+ends-as : {q u v : Parse} → Ends q u → u ≡ v → Ends q v
+ends-as {q} {u} {v} x e = record { why = x .why ∙ ap (λ (z : Parse). z .why) e; place = x .place ∙ ap (λ (z : Parse). z .place) e; block = x .block ∙ ap (λ (z : Parse). z .block) e }
+
+module _ (s : List ℕ) (r : Cursor) (b : Block) (n : ℕ) where
+  at-end : r .kind ≡ 0 → Ends (seen s r b n) (expect END (seen s r b n))
+  unfolding expect
+  at-end h = ends-as (passed (seen s r b n)) (sym (simp (kind-seen s r b n, eq-eqb _ _ h) refl))
+
+module _ (s : List ℕ) (c d : Cursor) (x : Step (expect END-RULEBLOCK) s c d) (b : Block) (n : ℕ) where
+  abbrev q : Parse
+  q = seen s d b n
+
+  abbrev checks : Checks
+  checks = (is END-FUNCTION-BLOCK q, 2) ∷ (partsThere (q .block), 9) ∷ []
+
+  back-is : (u : Parse) → endOfBlock q ≡ u → expect END u ≡ backText (seen s c b n)
+  unfolding backText
+  back-is u e = ap (expect END) (sym e) ∙ ap (λ (z : Parse). expect END (endOfBlock z)) (x .reads b n)
+
+  -- refused at the end of the block
+  pub back-refused : (w : ℕ) (r : Cursor) → fault checks ≡ w → (w ≡ 0 → ⊥) → (r .why ≡ 0 → ⊥) → Step (refuse w) s d r → Ends (seen s r b n) (backText (seen s c b n))
+  unfolding endOfBlock
+  back-refused w r f h l y =
+      let e : endOfBlock q ≡ seen s r b n = judged-bad q (advance q) w checks [] f h ∙ sym (y .reads b n) in
+      ends-as (at-end s r b n (lost-kind s r (y .fits) l)) (back-is (seen s r b n) e)
+
+  pub not-end : (d .kind ≡ 140 → ⊥) → fault checks ≡ 2
+  unfolding fault
+  not-end h = simp (kind-seen s d b n, ne-eqb _ _ h) refl
+
+  pub not-all : d .kind ≡ 140 → partsThere b ≡ false → fault checks ≡ 9
+  unfolding fault
+  not-all h p = simp (kind-seen s d b n, block-seen s d b n, eq-eqb _ _ h, p) refl
+
+  module _ (h : d .kind ≡ 140) (p : partsThere b ≡ true) (e : Cursor) (y : Step advance s d e) where
+    ended : endOfBlock q ≡ seen s e b n
+    unfolding endOfBlock judged
+    ended = simp (kind-seen s d b n, block-seen s d b n, eq-eqb _ _ h, p) (sym (y .reads b n))
+
+    pub back-ends : e .kind ≡ 0 → Ends (seen s e b n) (backText (seen s c b n))
+    back-ends k = ends-as (at-end s e b n k) (back-is (seen s e b n) ended)
+
+    pub back-more : (e .kind ≡ 0 → ⊥) → (r : Cursor) → Step (refuse 2) s e r → Ends (seen s r b n) (backText (seen s c b n))
+    unfolding expect
+    back-more k r z =
+        ends-as (record { why = refl; place = refl; block = refl }) (z .reads b n ∙ sym (simp (kind-seen s e b n, ne-eqb _ _ k) refl) ∙ back-is (seen s e b n) ended)

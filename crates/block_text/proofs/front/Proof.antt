@@ -1,0 +1,58 @@
+use mathlib.Core.Path.{_≡_, refl, sym, ap, _∙_}
+use native.Mathlib.Omega.{arith}
+use borrow.Author.Needs.{needs}
+use Rattle.block_text.proofs.Laws as laws
+use Rattle.reading.proofs.Laws as reading
+use Rattle.block_text.specs.Block.{frontText}
+use Rattle.block_text.proofs.front.Statement.{statement}
+use Rattle.block_text.proofs.front.Tie as tie
+use Rattle.block_text.proofs.front.Reads as reads
+use Rattle.block_text.proofs.front.Lts as lts
+use Rattle.block_text.proofs.empty_tables.Reads as empty-tables-reads
+use Rattle.block_text.proofs.variables.Reads as variables-reads
+use Rattle.cursor.proofs.begin.Reads as begin-reads
+use Rattle.cursor.proofs.expect.Reads as expect-reads
+use Rattle.declarations.proofs.block_name.Reads as block-name-reads
+use Rattle.defuzzify_text.proofs.defuzzify_parts.Reads as defuzzify-parts-reads
+use Rattle.fuzzify_text.proofs.fuzzify_parts.Reads as fuzzify-parts-reads
+
+begin-requires : tie.Need-begin-requires
+begin-requires c κs = search needs
+
+expect-requires : tie.Need-expect-requires
+expect-requires c κs = search needs
+
+empty-tables-requires : tie.Need-empty-tables-requires
+empty-tables-requires c κs = search needs
+
+block-name-requires : tie.Need-block-name-requires
+block-name-requires c κs = record { fits = c .before .expect .ensures .0 .fits; holds = c .empty-tables .ensures .1 _ }
+
+variables-requires : tie.Need-variables-requires
+variables-requires c κs = c .block-name .ensures .good
+
+fuzzify-parts-requires : tie.Need-fuzzify-parts-requires
+fuzzify-parts-requires c κs = c .variables .ensures .good
+
+defuzzify-parts-requires : tie.Need-defuzzify-parts-requires
+defuzzify-parts-requires c κs = c .fuzzify-parts .ensures .good
+
+returns : tie.Need-returns
+unfolding frontText
+returns c = let s = c .before .before .before .before .before .before .before .before .args .s .now in
+    let t = c .before .before .before .before .empty-tables .result in
+    let x = reading.next (reading.next (reading.next (reading.next (reading.step t (c .before .before .before .before .empty-tables .ensures .1 s) (c .before .before .before .before .before .expect .ensures .0)) (c .before .before .before .block-name .ensures)) (c .before .before .variables .ensures)) (c .before .fuzzify-parts .ensures)) (c .defuzzify-parts .ensures) in
+    (x .reads ∙ ap frontText (laws.begun s (c .before .before .before .before .before .before .begin .result) t (c .before .before .before .before .before .before .begin .ensures .0) (c .before .before .before .before .empty-tables .ensures .0 s)), x .good)
+
+pub front-spec : {M : Type 1} → statement M
+front-spec =
+    tie.close
+    (tie.spec
+    begin-requires
+    expect-requires
+    empty-tables-requires
+    block-name-requires
+    variables-requires
+    fuzzify-parts-requires
+    defuzzify-parts-requires
+    returns)

@@ -1,0 +1,77 @@
+use mathlib.Core.Path.{_≡_, refl, sym, ap, _∙_}
+use native.Mathlib.Omega.{arith}
+use borrow.Author.Needs.{needs}
+use Rattle.block_text.proofs.Laws as laws
+use Prim.Native.Nat.{ℕ, _+_, _-_, _≤_, _<_}
+use borrow.Author.Tests.{lt-ltb, le-ltb}
+use lib.Dec.{ltb}
+use Rattle.model.specs.Basic.{all}
+use Rattle.model.specs.Image.{tab}
+use Rattle.words.proofs.Places.{all-more, all-stop, all-end}
+use Rattle.declared.specs.Book.{first}
+use Rattle.block_text.specs.Block.{haveTerms}
+use Rattle.block_text.proofs.have_terms.Statement.{statement}
+use Rattle.block_text.proofs.have_terms.Tie as tie
+use Rattle.block_text.proofs.have_terms.Reads as reads
+use Rattle.block_text.proofs.have_terms.Lts as lts
+
+abbrev Inv-loop : tie.InvT-loop
+Inv-loop book v n e k₀ k = (e ≡ v + n) × (e ≤ 14) × (all (λ j. ltb (first book j) (first book (j + 1))) (tab (λ j. j) (e - k) k) ≡ haveTerms book v n)
+
+abbrev μ-loop : tie.MeasureT-loop
+μ-loop book v n e k₀ k = e - k
+
+add-e : tie.Need-add-e Inv-loop μ-loop
+add-e c = search needs
+
+loop-holds : tie.Need-loop-holds Inv-loop μ-loop
+loop-holds c = (refl, c .pre, laws.have-start (c .args .book .now) (c .args .v) (c .args .n))
+
+add-if1 : tie.Need-add-if1 Inv-loop μ-loop
+add-if1 c = search needs
+
+mul-if1 : tie.Need-mul-if1 Inv-loop μ-loop
+mul-if1 c = search needs
+
+element-copy-out-if1 : tie.Need-element-copy-out-if1 Inv-loop μ-loop
+element-copy-out-if1 c = search needs
+
+mul-if1-2 : tie.Need-mul-if1-2 Inv-loop μ-loop
+mul-if1-2 c = search needs
+
+element-copy-out-if1-2 : tie.Need-element-copy-out-if1-2 Inv-loop μ-loop
+element-copy-out-if1-2 c = search needs
+
+returns : tie.Need-returns Inv-loop μ-loop
+returns c = sym (all-stop (λ j. ltb (first (c .before .before .before .before .before .args .book .now) j) (first (c .before .before .before .before .before .args .book .now) (j + 1))) (λ j. j) (c .before .before .before .before .before .args .v + c .before .before .before .before .before .args .n) (c .before .before .before .before .loop .k) (c .before .before .before .loop-test .taken) (le-ltb _ _ (c .if1 .taken))) ∙ c .before .before .before .before .loop .inv .2
+
+add-k : tie.Need-add-k Inv-loop μ-loop
+add-k c = search needs
+
+loop-less : tie.Need-loop-less Inv-loop μ-loop
+loop-less c = search needs
+
+loop-again : tie.Need-loop-again Inv-loop μ-loop
+loop-again c = (c .before .before .before .before .loop .inv .0, c .before .before .before .before .loop .inv .1, sym (all-more (λ j. ltb (first (c .before .before .before .before .before .args .book .now) j) (first (c .before .before .before .before .before .args .book .now) (j + 1))) (λ j. j) (c .before .before .before .before .before .args .v + c .before .before .before .before .before .args .n) (c .before .before .before .before .loop .k) (c .before .before .before .loop-test .taken) (lt-ltb _ _ (c .if1 .left))) ∙ c .before .before .before .before .loop .inv .2)
+
+returns-2 : tie.Need-returns-2 Inv-loop μ-loop
+returns-2 c = sym (all-end (λ j. ltb (first (c .before .before .args .book .now) j) (first (c .before .before .args .book .now) (j + 1))) (λ j. j) (c .before .before .args .v + c .before .before .args .n) (c .before .loop .k) (c .loop-test .left)) ∙ c .before .loop .inv .2
+
+pub have-terms-spec : {M : Type 1} → statement M
+have-terms-spec =
+    tie.close
+    (tie.spec
+    Inv-loop
+    μ-loop
+    add-e
+    loop-holds
+    add-if1
+    mul-if1
+    element-copy-out-if1
+    mul-if1-2
+    element-copy-out-if1-2
+    returns
+    add-k
+    loop-less
+    loop-again
+    returns-2)

@@ -1,0 +1,38 @@
+use mathlib.Core.Path.{_≡_, refl, sym, ap, _∙_}
+use native.Mathlib.Omega.{arith}
+use borrow.Author.Needs.{needs}
+use Rattle.block_text.proofs.Laws as laws
+use Rattle.block_text.proofs.is_complete.Statement.{statement}
+use Rattle.block_text.proofs.is_complete.Tie as tie
+use Rattle.block_text.proofs.is_complete.Reads as reads
+use Rattle.block_text.proofs.is_complete.Lts as lts
+use Rattle.block_text.proofs.have_terms.Reads as have-terms-reads
+
+element-copy-out-have-terms : tie.Need-element-copy-out-have-terms
+element-copy-out-have-terms c = search needs
+
+have-terms-requires : tie.Need-have-terms-requires
+have-terms-requires c κs = search needs
+
+element-copy-out-have-terms-2 : tie.Need-element-copy-out-have-terms-2
+element-copy-out-have-terms-2 c = search needs
+
+have-terms-requires-2 : tie.Need-have-terms-requires-2
+have-terms-requires-2 c κs = search needs
+
+returns : tie.Need-returns
+returns c = λ s names b d. c .have-terms2 .ensures ∙ sym (laws.parts-there s names _ b d ∙ simp (sym (c .before .before .before .have-terms .ensures) ∙ c .before .before .if1 .taken) refl)
+
+returns-2 : tie.Need-returns-2
+returns-2 c = λ s names b d. sym (laws.parts-there s names _ b d ∙ simp (sym (c .before .have-terms .ensures) ∙ c .if1 .left) refl)
+
+pub is-complete-spec : {M : Type 1} → statement M
+is-complete-spec =
+    tie.close
+    (tie.spec
+    element-copy-out-have-terms
+    have-terms-requires
+    element-copy-out-have-terms-2
+    have-terms-requires-2
+    returns
+    returns-2)

@@ -1,0 +1,50 @@
+use mathlib.Core.Path.{_≡_, refl, sym, ap, _∙_}
+use native.Mathlib.Omega.{arith}
+use borrow.Author.Needs.{needs}
+use Rattle.block_text.proofs.Laws as laws
+use Rattle.cursor.proofs.Laws.{steps}
+use Rattle.reading.proofs.Laws as reading
+use Rattle.block_text.specs.Block.{variablesText}
+use Rattle.block_text.proofs.variables.Statement.{statement}
+use Rattle.block_text.proofs.variables.Tie as tie
+use Rattle.block_text.proofs.variables.Reads as reads
+use Rattle.block_text.proofs.variables.Lts as lts
+use Rattle.cursor.proofs.expect.Reads as expect-reads
+use Rattle.declarations.proofs.input_declarations.Reads as input-declarations-reads
+use Rattle.declarations.proofs.output_declarations.Reads as output-declarations-reads
+
+expect-requires : tie.Need-expect-requires
+expect-requires c κs = (c .before .before .pre .fits, omega arith)
+
+input-declarations-requires : tie.Need-input-declarations-requires
+input-declarations-requires c κs = record { fits = c .expect .ensures .0 .fits; holds = c .before .before .before .pre .holds }
+
+expect-requires-2 : tie.Need-expect-requires-2
+expect-requires-2 c κs = (c .before .input-declarations .ensures .good .fits, omega arith)
+
+expect-requires-3 : tie.Need-expect-requires-3
+expect-requires-3 c κs = (c .expect2 .ensures .0 .fits, omega arith)
+
+output-declarations-requires : tie.Need-output-declarations-requires
+output-declarations-requires c κs = record { fits = c .expect3 .ensures .0 .fits; holds = c .before .before .before .input-declarations .ensures .good .holds }
+
+expect-requires-4 : tie.Need-expect-requires-4
+expect-requires-4 c κs = (c .before .output-declarations .ensures .good .fits, omega arith)
+
+returns : tie.Need-returns
+unfolding variablesText
+returns c = let x = c .before .before .before .before .before .before .input-declarations .ensures in
+    let y = c .before .before .output-declarations .ensures in
+    reading.next (reading.next (reading.next (reading.next (reading.step _ (c .before .before .before .before .before .before .before .before .before .before .pre .holds) (c .before .before .before .before .before .before .before .expect .ensures .0)) x) (reading.step _ (x .good .holds) (steps (c .before .before .before .before .expect2 .ensures .0) (c .before .before .before .expect3 .ensures .0)))) y) (reading.step _ (y .good .holds) (c .expect4 .ensures .0))
+
+pub variables-spec : {M : Type 1} → statement M
+variables-spec =
+    tie.close
+    (tie.spec
+    expect-requires
+    input-declarations-requires
+    expect-requires-2
+    expect-requires-3
+    output-declarations-requires
+    expect-requires-4
+    returns)

@@ -1,0 +1,153 @@
+// A function block's text around its rule block: name, variables, FUZZIFY and DEFUZZIFY before it, the end behind it.
+ghost use mathlib.Core.Path.{_≡_};
+ghost use mathlib.Core.List.{List};
+ghost use Prim.Native.Nat.{ℕ, _+_, _≤_};
+ghost use Rattle.model.specs.Block.{Block};
+ghost use Rattle.model.specs.Parse.{emptyBlock};
+ghost use Rattle.model.specs.Reader.{start, partsThere};
+ghost use Rattle.tables.specs.View.{blockView, Holds};
+ghost use Rattle.cursor.specs.View.{seen, Fits};
+ghost use Rattle.reading.specs.Reads.{view, Good, Reads};
+ghost use Rattle.declared.specs.Book.{Describes, inputCount, outputCount};
+ghost use Rattle.block_text.specs.Block.{variablesText, frontText, backText, haveTerms, Ends};
+use cursor::Cursor;
+use model::Crisp;
+use model::Degree;
+use reading::Reading;
+use tables::Input;
+use tables::Output;
+use tables::Point;
+use tables::Tables;
+
+const END_FUNCTION_BLOCK: u8 = 140;
+
+const END_RULEBLOCK: u8 = 143;
+
+const END_VAR: u8 = 144;
+
+const FUNCTION_BLOCK: u8 = 145;
+
+const VAR_INPUT: u8 = 166;
+
+const VAR_OUTPUT: u8 = 167;
+
+fn empty_tables() -> Tables
+    ensures { λ r. ⌜ ((s : List ℕ) → blockView s r ≡ emptyBlock) ⌝ }
+    ensures holds { λ r. ⌜ ((s : List ℕ) → Holds s r) ⌝ }
+{
+    let z = Crisp(0);
+    let i = Input {
+        int: false,
+        terms: 0,
+    };
+    let o = Output {
+        terms: 0,
+        ranged: false,
+        least: z,
+        most: z,
+        numbered: false,
+        default: z,
+    };
+    let p = Point {
+        at: z,
+        degree: Degree(0),
+    };
+    Tables {
+        start: 0,
+        end: 0,
+        input_count: 0,
+        output_count: 0,
+        names: [0; 224],
+        inputs: [i; 8],
+        outputs: [o; 6],
+        counts: [0; 56],
+        points: [p; 224],
+        singletons: [z; 42],
+    }
+}
+
+fn variables(s: &[u8], p: Reading) -> Reading
+    requires { ⌜ Good (now s) p ⌝ }
+    ensures { λ r. ⌜ Reads variablesText (now (s .entry)) p r ⌝ }
+{
+    let c = p.cursor;
+    let d = cursor::expect(s, c, VAR_INPUT);
+    let mut q = p;
+    q.cursor = d;
+    let mut r = declarations::input_declarations(s, q);
+    let e = r.cursor;
+    let f = cursor::expect(s, e, END_VAR);
+    let g = cursor::expect(s, f, VAR_OUTPUT);
+    r.cursor = g;
+    let mut u = declarations::output_declarations(s, r);
+    let h = u.cursor;
+    let i = cursor::expect(s, h, END_VAR);
+    u.cursor = i;
+    u
+}
+
+// From the first token up to the rule block.
+pub fn front(s: &[u8]) -> Reading
+    ensures { λ r. ⌜ view (now (s .entry)) r ≡ frontText (start (now (s .entry))) ⌝ }
+    ensures good { λ r. ⌜ Good (now (s .entry)) r ⌝ }
+{
+    let c = cursor::begin(s);
+    let d = cursor::expect(s, c, FUNCTION_BLOCK);
+    let t = empty_tables();
+    let a = declarations::block_name(
+        s,
+        Reading {
+            cursor: d,
+            tables: t,
+        },
+    );
+    let b = variables(s, a);
+    let f = fuzzify_text::fuzzify_parts(s, b);
+    defuzzify_text::defuzzify_parts(s, f)
+}
+
+// Whether each of n variables from v on has a term.
+fn have_terms(book: &[usize; 17], v: usize, n: usize) -> bool
+    requires { ⌜ v + n ≤ 14 ⌝ }
+    ensures { λ r. ⌜ r ≡ haveTerms (now (book .entry)) v n ⌝ }
+{
+    let e = v + n;
+    let mut k = v;
+    while k < e {
+        if book[k + 1] <= book[k] {
+            return false;
+        }
+        k += 1;
+    }
+    true
+}
+
+// Whether every variable has its part.
+pub fn is_complete(book: &[usize; 17]) -> bool
+    requires { ⌜ (inputCount (now book) ≤ 8) × (outputCount (now book) ≤ 6) ⌝ }
+    ensures { λ r. ⌜ ((s names : List ℕ) (b : Block) → Describes s names (now (book .entry)) b → r ≡ partsThere b) ⌝ }
+{
+    if have_terms(book, 0, book[15]) {
+        return have_terms(book, 8, book[16]);
+    }
+    false
+}
+
+// From behind the last rule to the end of the text, where every variable has its part or not.
+pub fn back(s: &[u8], c: Cursor, complete: bool) -> Cursor
+    requires { ⌜ Fits (now s) c ⌝ }
+    ensures { λ r. ⌜ ((b : Block) (n : ℕ) → partsThere b ≡ complete → Ends (seen (now (s .entry)) r b n) (backText (seen (now (s .entry)) c b n))) ⌝ }
+{
+    let d = cursor::expect(s, c, END_RULEBLOCK);
+    if d.kind != END_FUNCTION_BLOCK {
+        return cursor::refuse(d, 2);
+    }
+    if !complete {
+        return cursor::refuse(d, 9);
+    }
+    let e = cursor::advance(s, d);
+    if e.kind != 0 {
+        return cursor::refuse(e, 2);
+    }
+    e
+}
