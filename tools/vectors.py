@@ -1,5 +1,5 @@
 #!/usr/bin/env python3
-"""vectors.py FOLDER: from images.json and calls.json of FOLDER, writes what the programs image_vectors and call_vectors read and must write."""
+"""vectors.py FOLDER: from the vectors of FOLDER, writes what the programs text_vectors, image_vectors and call_vectors read and must write."""
 import json
 import os
 import sys
@@ -12,9 +12,8 @@ def word(n):
     return (n % 2**32).to_bytes(4, "little")
 
 
-def with_length(text):
-    image = bytes.fromhex(text)
-    return word(len(image)) + image
+def with_length(data):
+    return word(len(data)) + data
 
 
 def write(crate, data, lines):
@@ -52,16 +51,29 @@ def outcome(call):
     return f"{number} {'-' if place is None else place}, {shown}{figures(after)}"
 
 
+data, lines = [], []
+for case in json.load(open(os.path.join(source, "texts.json"))):
+    data.append(with_length(case["text"].encode("latin-1")))
+    if "refused" in case:
+        lines.append("%d %d" % tuple(case["refused"]))
+    else:
+        # then the same text with one byte too little room
+        lines += [case["image"], f"10 {len(case['image']) // 2}"]
+# the longest text and one byte more, by document 01: no token in it, and too long
+data += [with_length(b" " * 65536), with_length(b" " * 65537)]
+lines += ["2 65536", "1 0"]
+write("text_vectors", b"".join(data), lines)
+
 cases = json.load(open(os.path.join(source, "images.json")))
 write(
     "image_vectors",
-    b"".join(with_length(c["image"]) for c in cases),
+    b"".join(with_length(bytes.fromhex(c["image"])) for c in cases),
     ["accepted" if c["accepted"] else "11" for c in cases],
 )
 
 data, lines = [], []
 for block in json.load(open(os.path.join(source, "calls.json"))):
-    data += [with_length(block["image"]), word(len(block["calls"]))]
+    data += [with_length(bytes.fromhex(block["image"])), word(len(block["calls"]))]
     lines.append("0 -, " + figures(block["fresh"]))
     for call in block["calls"]:
         readings = call["readings"]

@@ -1,0 +1,30 @@
+use mathlib.Core.Path.{_≡_, refl, sym, ap, _∙_}
+use native.Mathlib.Omega.{arith}
+use borrow.Author.Needs.{needs}
+use Rattle.reader.proofs.Laws as laws
+use lib.ListN.{length}
+use Rattle.model.specs.Outcome.{lengthIn, bufferAfter}
+use Rattle.reader.proofs.read.Statement.{statement}
+use Rattle.reader.proofs.read.Tie as tie
+use Rattle.reader.proofs.read.Reads as reads
+use Rattle.reader.proofs.read.Lts as lts
+use Rattle.block_text.proofs.front.Reads as front-reads
+use Rattle.reader.proofs.read_on.Reads as read-on-reads
+
+returns : tie.Need-returns
+returns c = let e = laws.long (length (c .before .before .before .args .out .now)) (c .before .before .before .args .s .now) (c .if1 .taken) in (ap lengthIn (sym e), ap (bufferAfter (c .before .before .before .args .out .now)) (sym e))
+
+front-requires : tie.Need-front-requires
+front-requires c κs = search needs
+
+read-on-requires : tie.Need-read-on-requires
+read-on-requires c κs = (c .before .front .ensures .1, c .before .front .ensures .0, c .before .before .if1 .left)
+
+same-length : tie.Need-same-length
+same-length c = search needs
+
+returns-2 : tie.Need-returns-2
+returns-2 c = search needs
+
+pub read-spec : {M : Type 1} → statement M
+read-spec = tie.close (tie.spec returns front-requires read-on-requires same-length returns-2)

@@ -1,0 +1,69 @@
+// The reader: an FCL text to its stored image, or the refusal by number and place.
+ghost use mathlib.Core.Path.{_≡_};
+ghost use lib.ListN.{length};
+ghost use Rattle.model.specs.Outcome.{lengthIn, bufferAfter};
+ghost use Rattle.model.specs.Refusals.{writtenOf};
+ghost use Rattle.model.specs.Reader.{start};
+ghost use Rattle.model.specs.Entries.{readsInto};
+ghost use Rattle.reading.specs.Reads.{view, Good};
+ghost use Rattle.block_text.specs.Block.{frontText};
+ghost use Prim.Native.Nat.{_≤_};
+use model::Refusal;
+use model::Written;
+use reading::Reading;
+use rule_text::Progress;
+use tables::Totals;
+
+// From the rule block on: p is what stands before it.
+fn read_on(s: &[u8], p: Reading, out: &mut [u8]) -> Written
+    requires { ⌜ Good (now s) p × (view (now s) p ≡ frontText (start (now s))) × (length (now s) ≤ 65536) ⌝ }
+    ensures { λ r. ⌜ writtenOf r ≡ lengthIn (readsInto (length (now (out .entry))) (now (s .entry))) ⌝ }
+    ensures buffer { λ r. ⌜ now (out .exit) ≡ bufferAfter (now (out .entry)) (readsInto (length (now (out .entry))) (now (s .entry))) ⌝ }
+{
+    let t = p.tables;
+    let book = book::book_of(t);
+    let c = p.cursor;
+    let o = rule_heading::rule_heading(s, c);
+    let d = o.cursor;
+    let mut rules = [0u32; 256];
+    let mut words = [0u32; 640];
+    let mut conclusions = [0u32; 256];
+    let none = Totals {
+        rules: 0,
+        words: 0,
+        conclusions: 0,
+    };
+    let q = rule_text::rules(
+        s,
+        &t.names,
+        &book,
+        &mut rules,
+        &mut words,
+        &mut conclusions,
+        Progress {
+            cursor: d,
+            totals: none,
+        },
+    );
+    let e = q.cursor;
+    let f = block_text::back(s, e, block_text::is_complete(&book));
+    if f.why != 0 {
+        let r = refusals::refusal_of(f.why, f.place);
+        return Written::Refused(r);
+    }
+    let h = o.heading;
+    let n = q.totals;
+    image::store(s, t, h, &rules, &words, &conclusions, n, out)
+}
+
+// The image of the text into the buffer: its length, or the refusal, which leaves the buffer as it came.
+pub fn read(s: &[u8], out: &mut [u8]) -> Written
+    ensures { λ r. ⌜ writtenOf r ≡ lengthIn (readsInto (length (now (out .entry))) (now (s .entry))) ⌝ }
+    ensures buffer { λ r. ⌜ now (out .exit) ≡ bufferAfter (now (out .entry)) (readsInto (length (now (out .entry))) (now (s .entry))) ⌝ }
+{
+    if 65536 < s.len() {
+        return Written::Refused(Refusal::TextTooLong);
+    }
+    let p = block_text::front(s);
+    read_on(s, p, out)
+}
