@@ -19,18 +19,6 @@ use tables::Output;
 use tables::Point;
 use tables::Tables;
 
-const END_FUNCTION_BLOCK: u8 = 140;
-
-const END_RULEBLOCK: u8 = 143;
-
-const END_VAR: u8 = 144;
-
-const FUNCTION_BLOCK: u8 = 145;
-
-const VAR_INPUT: u8 = 166;
-
-const VAR_OUTPUT: u8 = 167;
-
 fn empty_tables() -> Tables
     ensures { λ r. ⌜ ((s : List ℕ) → blockView s r ≡ emptyBlock) ⌝ }
     ensures holds { λ r. ⌜ ((s : List ℕ) → Holds s r) ⌝ }
@@ -71,17 +59,17 @@ fn variables(s: &[u8], p: Reading) -> Reading
     ensures { λ r. ⌜ Reads variablesText (now (s .entry)) p r ⌝ }
 {
     let c = p.cursor;
-    let d = cursor::expect(s, c, VAR_INPUT);
+    let d = cursor::expect(s, c, kinds::VAR_INPUT);
     let mut q = p;
     q.cursor = d;
     let mut r = declarations::input_declarations(s, q);
     let e = r.cursor;
-    let f = cursor::expect(s, e, END_VAR);
-    let g = cursor::expect(s, f, VAR_OUTPUT);
+    let f = cursor::expect(s, e, kinds::END_VAR);
+    let g = cursor::expect(s, f, kinds::VAR_OUTPUT);
     r.cursor = g;
     let mut u = declarations::output_declarations(s, r);
     let h = u.cursor;
-    let i = cursor::expect(s, h, END_VAR);
+    let i = cursor::expect(s, h, kinds::END_VAR);
     u.cursor = i;
     u
 }
@@ -92,7 +80,7 @@ pub fn front(s: &[u8]) -> Reading
     ensures good { λ r. ⌜ Good (now (s .entry)) r ⌝ }
 {
     let c = cursor::begin(s);
-    let d = cursor::expect(s, c, FUNCTION_BLOCK);
+    let d = cursor::expect(s, c, kinds::FUNCTION_BLOCK);
     let t = empty_tables();
     let a = declarations::block_name(
         s,
@@ -139,15 +127,15 @@ pub fn back(s: &[u8], c: Cursor, complete: bool) -> Cursor
     ensures { λ r. ⌜ ((b : Block) (n : ℕ) → partsThere b ≡ complete → Ends (seen (now (s .entry)) r b n) (backText (seen (now (s .entry)) c b n))) ⌝ }
     ensures sticky { λ r. ⌜ (r .why ≡ 0 → c .why ≡ 0) ⌝ }
 {
-    let d = cursor::expect(s, c, END_RULEBLOCK);
-    if d.kind != END_FUNCTION_BLOCK {
+    let d = cursor::expect(s, c, kinds::END_RULEBLOCK);
+    if d.kind != kinds::END_FUNCTION_BLOCK {
         return cursor::refuse(d, 2);
     }
     if !complete {
         return cursor::refuse(d, 9);
     }
     let e = cursor::advance(s, d);
-    if e.kind != 0 {
+    if e.kind != kinds::END {
         return cursor::refuse(e, 2);
     }
     e

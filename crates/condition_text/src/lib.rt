@@ -12,18 +12,6 @@ ghost use Rattle.declared.specs.Book.{Book, Describes, inputCount};
 ghost use Rattle.condition_text.specs.Pending.{Room, Reads, Within, Stops, Counts, Puts};
 use cursor::Cursor;
 
-const OPEN: u8 = 40;
-
-const CLOSE: u8 = 41;
-
-const AND: u8 = 130;
-
-const IS: u8 = 148;
-
-const NOT: u8 = 154;
-
-const OR: u8 = 157;
-
 // A reading in the midst of a condition: the words that are counted, and how many of them are put.
 pub struct Pending {
     pub cursor: Cursor,
@@ -131,7 +119,7 @@ fn term_here(
     ensures within { λ r. ⌜ Within (now (s .entry)) 1 p r (now (words .entry)) (now (words .exit)) ⌝ }
 {
     let c = p.cursor;
-    if c.kind != NOT {
+    if c.kind != kinds::NOT {
         return term_named(s, names, book, words, p, i);
     }
     let q = count(s, p);
@@ -163,7 +151,7 @@ fn subcondition(
     }
     let q = count(s, p);
     let d = q.cursor;
-    let e = cursor::expect(s, d, IS);
+    let e = cursor::expect(s, d, kinds::IS);
     term_here(
         s,
         names,
@@ -193,7 +181,7 @@ fn plain(
     ensures within { λ r. ⌜ Within (now (s .entry)) 0 p r (now (words .entry)) (now (words .exit)) ⌝ }
 {
     let c = p.cursor;
-    if c.kind != OPEN {
+    if c.kind != kinds::OPEN {
         return subcondition(s, names, book, words, p);
     }
     if depth == 0 {
@@ -213,7 +201,7 @@ fn plain(
         depth - 1,
     );
     let e = q.cursor;
-    let f = cursor::expect(s, e, CLOSE);
+    let f = cursor::expect(s, e, kinds::CLOSE);
     Pending {
         cursor: f,
         words: q.words,
@@ -235,7 +223,7 @@ fn operand(
     ensures within { λ r. ⌜ Within (now (s .entry)) 0 p r (now (words .entry)) (now (words .exit)) ⌝ }
 {
     let c = p.cursor;
-    if c.kind != NOT {
+    if c.kind != kinds::NOT {
         return plain(s, names, book, words, p, depth);
     }
     let q = count(s, p);
@@ -258,7 +246,7 @@ fn conjunction(
     ensures within { λ r. ⌜ Within (now (s .entry)) 0 p r (now (words .entry)) (now (words .exit)) ⌝ }
 {
     let mut q = operand(s, names, book, words, p, depth);
-    while q.cursor.kind == AND {
+    while q.cursor.kind == kinds::AND {
         let n = count(s, q);
         let m = operand(s, names, book, words, n, depth);
         q = put(words, m, 1);
@@ -281,7 +269,7 @@ pub fn condition(
     ensures within { λ r. ⌜ Within (now (s .entry)) 0 p r (now (words .entry)) (now (words .exit)) ⌝ }
 {
     let mut q = conjunction(s, names, book, words, p, depth);
-    while q.cursor.kind == OR {
+    while q.cursor.kind == kinds::OR {
         let n = count(s, q);
         let m = conjunction(s, names, book, words, n, depth);
         q = put(words, m, 2);

@@ -14,18 +14,6 @@ ghost use Rattle.declarations.specs.Declares.{Declares, newChecks};
 use cursor::Cursor;
 use reading::Reading;
 
-const COMMA: u8 = 44;
-
-const COLON: u8 = 58;
-
-const SEMICOLON: u8 = 59;
-
-const NAME: u8 = 2;
-
-const REAL: u8 = 169;
-
-const INT: u8 = 170;
-
 // The block's name.
 pub fn block_name(s: &[u8], p: Reading) -> Reading
     requires { ⌜ Good (now s) p ⌝ }
@@ -133,7 +121,7 @@ fn inputs(s: &[u8], p: Reading) -> Reading
     ensures moves { λ r. ⌜ Moves (now (s .entry)) (p .cursor) (r .cursor) ⌝ }
 {
     let mut q = input(s, p);
-    while q.cursor.kind == COMMA {
+    while q.cursor.kind == kinds::COMMA {
         let c = q.cursor;
         let d = cursor::advance(s, c);
         q.cursor = d;
@@ -148,7 +136,7 @@ fn outputs(s: &[u8], p: Reading) -> Reading
     ensures moves { λ r. ⌜ Moves (now (s .entry)) (p .cursor) (r .cursor) ⌝ }
 {
     let mut q = output(s, p);
-    while q.cursor.kind == COMMA {
+    while q.cursor.kind == kinds::COMMA {
         let c = q.cursor;
         let d = cursor::advance(s, c);
         q.cursor = d;
@@ -163,7 +151,7 @@ fn input_type(s: &[u8], p: Reading, n: usize) -> Reading
     ensures { λ r. ⌜ Reads (inputType n) (now (s .entry)) p r ⌝ }
 {
     let c = p.cursor;
-    if c.kind == INT {
+    if c.kind == kinds::INT {
         let t = p.tables;
         let u = entries::set_int(t, n);
         let d = cursor::advance(s, c);
@@ -172,7 +160,7 @@ fn input_type(s: &[u8], p: Reading, n: usize) -> Reading
             tables: u,
         };
     }
-    let d = cursor::expect(s, c, REAL);
+    let d = cursor::expect(s, c, kinds::REAL);
     let mut r = p;
     r.cursor = d;
     r
@@ -186,11 +174,11 @@ fn input_declaration(s: &[u8], p: Reading) -> Reading
     let n = p.tables.input_count;
     let mut q = inputs(s, p);
     let c = q.cursor;
-    let d = cursor::expect(s, c, COLON);
+    let d = cursor::expect(s, c, kinds::COLON);
     q.cursor = d;
     let mut r = input_type(s, q, n);
     let e = r.cursor;
-    let f = cursor::expect(s, e, SEMICOLON);
+    let f = cursor::expect(s, e, kinds::SEMICOLON);
     r.cursor = f;
     r
 }
@@ -202,9 +190,9 @@ fn output_declaration(s: &[u8], p: Reading) -> Reading
 {
     let mut q = outputs(s, p);
     let c = q.cursor;
-    let d = cursor::expect(s, c, COLON);
-    let e = cursor::expect(s, d, REAL);
-    let f = cursor::expect(s, e, SEMICOLON);
+    let d = cursor::expect(s, c, kinds::COLON);
+    let e = cursor::expect(s, d, kinds::REAL);
+    let f = cursor::expect(s, e, kinds::SEMICOLON);
     q.cursor = f;
     q
 }
@@ -214,7 +202,7 @@ pub fn input_declarations(s: &[u8], p: Reading) -> Reading
     ensures { λ r. ⌜ Reads (λ q. repeated NAME inputDeclaration (inputDeclaration q)) (now (s .entry)) p r ⌝ }
 {
     let mut q = input_declaration(s, p);
-    while q.cursor.kind == NAME {
+    while q.cursor.kind == kinds::NAME {
         q = input_declaration(s, q);
     }
     q
@@ -225,7 +213,7 @@ pub fn output_declarations(s: &[u8], p: Reading) -> Reading
     ensures { λ r. ⌜ Reads (λ q. repeated NAME outputDeclaration (outputDeclaration q)) (now (s .entry)) p r ⌝ }
 {
     let mut q = output_declaration(s, p);
-    while q.cursor.kind == NAME {
+    while q.cursor.kind == kinds::NAME {
         q = output_declaration(s, q);
     }
     q

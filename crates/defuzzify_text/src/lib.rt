@@ -19,34 +19,6 @@ use reading::Reading;
 use tables::Output;
 use values::CrispHere;
 
-const DOTS: u8 = 5;
-
-const OPEN: u8 = 40;
-
-const CLOSE: u8 = 41;
-
-const ASSIGN: u8 = 4;
-
-const COLON: u8 = 58;
-
-const SEMICOLON: u8 = 59;
-
-const COGS: u8 = 136;
-
-const DEFAULT: u8 = 137;
-
-const DEFUZZIFY: u8 = 138;
-
-const END_DEFUZZIFY: u8 = 139;
-
-const METHOD: u8 = 151;
-
-const NC: u8 = 153;
-
-const RANGE: u8 = 159;
-
-const TERM: u8 = 163;
-
 // The upper end of the RANGE of output o, above its lower end x.
 fn upper_end(s: &[u8], p: Reading, o: usize, x: Crisp) -> Reading
     requires { ⌜ Good (now s) p × (o < p .tables .«output_count») ⌝ }
@@ -95,12 +67,12 @@ fn range_from(s: &[u8], p: Reading, o: usize) -> Reading
     }
     let x = v.value;
     let d = cursor::advance(s, c);
-    let e = cursor::expect(s, d, DOTS);
+    let e = cursor::expect(s, d, kinds::DOTS);
     q.cursor = e;
     let mut r = upper_end(s, q, o, x);
     let f = r.cursor;
-    let g = cursor::expect(s, f, CLOSE);
-    let h = cursor::expect(s, g, SEMICOLON);
+    let g = cursor::expect(s, f, kinds::CLOSE);
+    let h = cursor::expect(s, g, kinds::SEMICOLON);
     r.cursor = h;
     r
 }
@@ -110,11 +82,11 @@ fn optional_range(s: &[u8], p: Reading, o: usize) -> Reading
     ensures { λ r. ⌜ ReadsFor (range o) (now (s .entry)) p r ⌝ }
 {
     let c = p.cursor;
-    if c.kind != RANGE {
+    if c.kind != kinds::RANGE {
         return p;
     }
     let d = cursor::advance(s, c);
-    let e = cursor::expect(s, d, OPEN);
+    let e = cursor::expect(s, d, kinds::OPEN);
     let mut q = p;
     q.cursor = e;
     range_from(s, q, o)
@@ -237,7 +209,7 @@ fn singleton_named(s: &[u8], p: Reading, o: usize) -> Reading
         };
     }
     let d = cursor::advance(s, c);
-    let e = cursor::expect(s, d, ASSIGN);
+    let e = cursor::expect(s, d, kinds::ASSIGN);
     let mut q = singleton_at(
         s,
         Reading {
@@ -249,7 +221,7 @@ fn singleton_named(s: &[u8], p: Reading, o: usize) -> Reading
         c.end,
     );
     let f = q.cursor;
-    let g = cursor::expect(s, f, SEMICOLON);
+    let g = cursor::expect(s, f, kinds::SEMICOLON);
     q.cursor = g;
     q
 }
@@ -261,7 +233,7 @@ fn output_term(s: &[u8], p: Reading, o: usize) -> Reading
 {
     let c = p.cursor;
     let t = p.tables;
-    if c.kind != TERM {
+    if c.kind != kinds::TERM {
         let d = cursor::refuse(c, 2);
         return Reading {
             cursor: d,
@@ -292,7 +264,7 @@ fn output_terms(s: &[u8], p: Reading, o: usize) -> Reading
     ensures { λ r. ⌜ ReadsFor (λ q. repeated TERM (outputTerm o) (outputTerm o q)) (now (s .entry)) p r ⌝ }
 {
     let mut q = output_term(s, p, o);
-    while q.cursor.kind == TERM {
+    while q.cursor.kind == kinds::TERM {
         q = output_term(s, q, o);
     }
     q
@@ -303,12 +275,12 @@ fn method(s: &[u8], c: Cursor) -> Cursor
     requires { ⌜ Fits (now s) c ⌝ }
     ensures { λ r. ⌜ Step methodText (now (s .entry)) c r ⌝ }
 {
-    let a = cursor::expect(s, c, METHOD);
-    let b = cursor::expect(s, a, COLON);
-    let d = cursor::expect(s, b, COGS);
-    let e = cursor::expect(s, d, SEMICOLON);
-    let f = cursor::expect(s, e, DEFAULT);
-    cursor::expect(s, f, ASSIGN)
+    let a = cursor::expect(s, c, kinds::METHOD);
+    let b = cursor::expect(s, a, kinds::COLON);
+    let d = cursor::expect(s, b, kinds::COGS);
+    let e = cursor::expect(s, d, kinds::SEMICOLON);
+    let f = cursor::expect(s, e, kinds::DEFAULT);
+    cursor::expect(s, f, kinds::ASSIGN)
 }
 
 // A number or NC for output o.
@@ -317,7 +289,7 @@ fn default_value(s: &[u8], p: Reading, o: usize) -> Reading
     ensures { λ r. ⌜ ReadsFor (defaultValue o) (now (s .entry)) p r ⌝ }
 {
     let c = p.cursor;
-    if c.kind != NC {
+    if c.kind != kinds::NC {
         return default_number(s, p, o);
     }
     let d = cursor::advance(s, c);
@@ -338,8 +310,8 @@ fn output_part(s: &[u8], p: Reading, o: usize) -> Reading
     b.cursor = d;
     let mut e = default_value(s, b, o);
     let f = e.cursor;
-    let g = cursor::expect(s, f, SEMICOLON);
-    let h = cursor::expect(s, g, END_DEFUZZIFY);
+    let g = cursor::expect(s, f, kinds::SEMICOLON);
+    let h = cursor::expect(s, g, kinds::END_DEFUZZIFY);
     e.cursor = h;
     e
 }
@@ -391,7 +363,7 @@ fn defuzzify_part(s: &[u8], p: Reading) -> Reading
     ensures moves { λ r. ⌜ Moves (now (s .entry)) (p .cursor) (r .cursor) ⌝ }
 {
     let c = p.cursor;
-    let d = cursor::expect(s, c, DEFUZZIFY);
+    let d = cursor::expect(s, c, kinds::DEFUZZIFY);
     let mut q = p;
     q.cursor = d;
     defuzzify_named(s, q)
@@ -403,7 +375,7 @@ pub fn defuzzify_parts(s: &[u8], p: Reading) -> Reading
     ensures { λ r. ⌜ Reads (λ q. repeated DEFUZZIFY defuzzify (defuzzify q)) (now (s .entry)) p r ⌝ }
 {
     let mut q = defuzzify_part(s, p);
-    while q.cursor.kind == DEFUZZIFY {
+    while q.cursor.kind == kinds::DEFUZZIFY {
         q = defuzzify_part(s, q);
     }
     q

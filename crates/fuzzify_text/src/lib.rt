@@ -15,22 +15,6 @@ use model::Crisp;
 use reading::Reading;
 use tables::Point;
 
-const ASSIGN: u8 = 4;
-
-const OPEN: u8 = 40;
-
-const CLOSE: u8 = 41;
-
-const COMMA: u8 = 44;
-
-const SEMICOLON: u8 = 59;
-
-const END_FUZZIFY: u8 = 141;
-
-const FUZZIFY: u8 = 146;
-
-const TERM: u8 = 163;
-
 // The cursor behind a position, and its value where it is not refused.
 struct At {
     cursor: Cursor,
@@ -118,12 +102,12 @@ fn point_from(s: &[u8], p: Reading, i: usize, n: usize, last: Crisp) -> Reading
     if d.why != 0 {
         return q;
     }
-    let e = cursor::expect(s, d, COMMA);
+    let e = cursor::expect(s, d, kinds::COMMA);
     q.cursor = e;
     let x = a.value;
     let mut r = degree(s, q, i, x);
     let f = r.cursor;
-    let g = cursor::expect(s, f, CLOSE);
+    let g = cursor::expect(s, f, kinds::CLOSE);
     r.cursor = g;
     r
 }
@@ -140,7 +124,7 @@ fn point(s: &[u8], p: Reading, i: usize) -> Reading
     let k = i * 7 + v.terms - 1;
     let n = t.counts[k];
     let mut q = p;
-    if c.kind != OPEN {
+    if c.kind != kinds::OPEN {
         let d = cursor::refuse(c, 2);
         q.cursor = d;
         return q;
@@ -166,7 +150,7 @@ fn points(s: &[u8], p: Reading, i: usize) -> Reading
     ensures open { λ r. ⌜ Open (r .tables) i ⌝ }
 {
     let mut q = point(s, p, i);
-    while q.cursor.kind == COMMA {
+    while q.cursor.kind == kinds::COMMA {
         let c = q.cursor;
         let d = cursor::advance(s, c);
         q.cursor = d;
@@ -180,7 +164,7 @@ fn end_of_points(s: &[u8], c: Cursor, n: usize) -> Cursor
     requires { ⌜ Fits (now s) c ⌝ }
     ensures { λ r. ⌜ Step (endAfter n) (now (s .entry)) c r ⌝ }
 {
-    if c.kind != SEMICOLON {
+    if c.kind != kinds::SEMICOLON {
         return cursor::refuse(c, 2);
     }
     if n < 2 {
@@ -196,7 +180,7 @@ fn term_points(s: &[u8], p: Reading, i: usize) -> Reading
     ensures open { λ r. ⌜ Open (r .tables) i ⌝ }
 {
     let c = p.cursor;
-    let d = cursor::expect(s, c, ASSIGN);
+    let d = cursor::expect(s, c, kinds::ASSIGN);
     let mut q = p;
     q.cursor = d;
     let mut r = points(s, q, i);
@@ -253,7 +237,7 @@ fn input_term(s: &[u8], p: Reading, i: usize) -> Reading
     let t = p.tables;
     let v = t.inputs[i];
     let mut q = p;
-    if c.kind != TERM {
+    if c.kind != kinds::TERM {
         let d = cursor::refuse(c, 2);
         q.cursor = d;
         return q;
@@ -277,7 +261,7 @@ fn input_terms(s: &[u8], p: Reading, i: usize) -> Reading
     ensures { λ r. ⌜ Reads (λ q. repeated TERM (inputTerm i) (inputTerm i q)) (now (s .entry)) p r ⌝ }
 {
     let mut q = input_term(s, p, i);
-    while q.cursor.kind == TERM {
+    while q.cursor.kind == kinds::TERM {
         q = input_term(s, q, i);
     }
     q
@@ -314,7 +298,7 @@ fn fuzzify_named(s: &[u8], p: Reading) -> Reading
     q.cursor = d;
     let mut r = input_terms(s, q, i);
     let e = r.cursor;
-    let f = cursor::expect(s, e, END_FUZZIFY);
+    let f = cursor::expect(s, e, kinds::END_FUZZIFY);
     r.cursor = f;
     r
 }
@@ -325,7 +309,7 @@ fn fuzzify(s: &[u8], p: Reading) -> Reading
     ensures moves { λ r. ⌜ Moves (now (s .entry)) (p .cursor) (r .cursor) ⌝ }
 {
     let c = p.cursor;
-    let d = cursor::expect(s, c, FUZZIFY);
+    let d = cursor::expect(s, c, kinds::FUZZIFY);
     let mut q = p;
     q.cursor = d;
     fuzzify_named(s, q)
@@ -337,7 +321,7 @@ pub fn fuzzify_parts(s: &[u8], p: Reading) -> Reading
     ensures { λ r. ⌜ Reads (λ q. repeated FUZZIFY aFuzzify (aFuzzify q)) (now (s .entry)) p r ⌝ }
 {
     let mut q = fuzzify(s, p);
-    while q.cursor.kind == FUZZIFY {
+    while q.cursor.kind == kinds::FUZZIFY {
         q = fuzzify(s, q);
     }
     q

@@ -13,32 +13,6 @@ ghost use Rattle.rule_heading.specs.Opening.{opening, headed, Bare, Open
 use cursor::Cursor;
 use tables::Heading;
 
-const COLON: u8 = 58;
-
-const SEMICOLON: u8 = 59;
-
-const ACCU: u8 = 128;
-
-const ACT: u8 = 129;
-
-const AND: u8 = 130;
-
-const ASUM: u8 = 131;
-
-const BDIF: u8 = 132;
-
-const BSUM: u8 = 133;
-
-const MAX: u8 = 150;
-
-const MIN: u8 = 152;
-
-const OR: u8 = 157;
-
-const PROD: u8 = 158;
-
-const RULEBLOCK: u8 = 162;
-
 // A reading in a heading, beside what it says so far.
 pub struct Opened {
     pub cursor: Cursor,
@@ -96,13 +70,13 @@ fn and_pair(w: u8) -> u32
     ensures { λ r. ⌜ andPair w ≡ pairAt r ⌝ }
     ensures within { λ r. ⌜ (r ≤ 3) × (r < 3 → w ≡ 0 → ⊥) ⌝ }
 {
-    if w == MIN {
+    if w == kinds::MIN {
         return 0;
     }
-    if w == PROD {
+    if w == kinds::PROD {
         return 1;
     }
-    if w == BDIF {
+    if w == kinds::BDIF {
         return 2;
     }
     3
@@ -113,13 +87,13 @@ fn or_pair(w: u8) -> u32
     ensures { λ r. ⌜ orPair w ≡ pairAt r ⌝ }
     ensures within { λ r. ⌜ (r ≤ 3) × (r < 3 → w ≡ 0 → ⊥) ⌝ }
 {
-    if w == MAX {
+    if w == kinds::MAX {
         return 0;
     }
-    if w == ASUM {
+    if w == kinds::ASUM {
         return 1;
     }
-    if w == BSUM {
+    if w == kinds::BSUM {
         return 2;
     }
     3
@@ -129,7 +103,7 @@ fn pair_at(k: u8, w: u8) -> u32
     ensures { λ r. ⌜ pairs k w ≡ pairAt r ⌝ }
     ensures within { λ r. ⌜ (r ≤ 3) × (r < 3 → w ≡ 0 → ⊥) ⌝ }
 {
-    if k == AND {
+    if k == kinds::AND {
         return and_pair(w);
     }
     or_pair(w)
@@ -164,11 +138,11 @@ fn algorithm_line(s: &[u8], p: Opened, second: bool, k: u8) -> Opened
     ensures { λ r. ⌜ Opens (algorithmLine second k (pairs k)) (now (s .entry)) p r ⌝ }
 {
     let a = expected(s, p, k);
-    let b = expected(s, a, COLON);
+    let b = expected(s, a, kinds::COLON);
     let c = b.cursor;
     let w = pair_at(k, c.kind);
     let d = algorithm(s, b, second, w);
-    expected(s, d, SEMICOLON)
+    expected(s, d, kinds::SEMICOLON)
 }
 
 // Each optional, in either order.
@@ -176,17 +150,17 @@ fn algorithms(s: &[u8], p: Opened) -> Opened
     requires { ⌜ Fits (now s) (p .cursor) × Headed (now s) (p .heading) ⌝ }
     ensures { λ r. ⌜ Opens algorithmsOf (now (s .entry)) p r ⌝ }
 {
-    if p.cursor.kind == AND {
-        let q = algorithm_line(s, p, false, AND);
-        if q.cursor.kind == OR {
-            return algorithm_line(s, q, true, OR);
+    if p.cursor.kind == kinds::AND {
+        let q = algorithm_line(s, p, false, kinds::AND);
+        if q.cursor.kind == kinds::OR {
+            return algorithm_line(s, q, true, kinds::OR);
         }
         return q;
     }
-    if p.cursor.kind == OR {
-        let q = algorithm_line(s, p, false, OR);
-        if q.cursor.kind == AND {
-            return algorithm_line(s, q, true, AND);
+    if p.cursor.kind == kinds::OR {
+        let q = algorithm_line(s, p, false, kinds::OR);
+        if q.cursor.kind == kinds::AND {
+            return algorithm_line(s, q, true, kinds::AND);
         }
         return q;
     }
@@ -199,7 +173,7 @@ fn activation(s: &[u8], p: Opened) -> Opened
 {
     let c = p.cursor;
     let mut h = p.heading;
-    if c.kind == MIN {
+    if c.kind == kinds::MIN {
         h.act = 0;
         let d = cursor::advance(s, c);
         return Opened {
@@ -207,7 +181,7 @@ fn activation(s: &[u8], p: Opened) -> Opened
             heading: h,
         };
     }
-    if c.kind == PROD {
+    if c.kind == kinds::PROD {
         h.act = 1;
         let d = cursor::advance(s, c);
         return Opened {
@@ -223,13 +197,13 @@ fn activation_line(s: &[u8], p: Opened) -> Opened
     requires { ⌜ Fits (now s) (p .cursor) × Headed (now s) (p .heading) ⌝ }
     ensures { λ r. ⌜ Opens activationLine (now (s .entry)) p r ⌝ }
 {
-    if p.cursor.kind != ACT {
+    if p.cursor.kind != kinds::ACT {
         return p;
     }
-    let a = expected(s, p, ACT);
-    let b = expected(s, a, COLON);
+    let a = expected(s, p, kinds::ACT);
+    let b = expected(s, a, kinds::COLON);
     let d = activation(s, b);
-    expected(s, d, SEMICOLON)
+    expected(s, d, kinds::SEMICOLON)
 }
 
 fn accumulation(s: &[u8], p: Opened) -> Opened
@@ -238,7 +212,7 @@ fn accumulation(s: &[u8], p: Opened) -> Opened
 {
     let c = p.cursor;
     let mut h = p.heading;
-    if c.kind == MAX {
+    if c.kind == kinds::MAX {
         h.accu = 0;
         let d = cursor::advance(s, c);
         return Opened {
@@ -246,7 +220,7 @@ fn accumulation(s: &[u8], p: Opened) -> Opened
             heading: h,
         };
     }
-    if c.kind == BSUM {
+    if c.kind == kinds::BSUM {
         h.accu = 1;
         let d = cursor::advance(s, c);
         return Opened {
@@ -262,10 +236,10 @@ fn accumulation_line(s: &[u8], p: Opened) -> Opened
     requires { ⌜ Fits (now s) (p .cursor) × Headed (now s) (p .heading) ⌝ }
     ensures { λ r. ⌜ Opens (λ y. y ▸ expect ACCU ▸ expect COLON ▸ accumulationOf ▸ expect SEMICOLON) (now (s .entry)) p r ⌝ }
 {
-    let a = expected(s, p, ACCU);
-    let b = expected(s, a, COLON);
+    let a = expected(s, p, kinds::ACCU);
+    let b = expected(s, a, kinds::COLON);
     let d = accumulation(s, b);
-    expected(s, d, SEMICOLON)
+    expected(s, d, kinds::SEMICOLON)
 }
 
 pub fn rule_heading(s: &[u8], c: Cursor) -> Opened
@@ -286,7 +260,7 @@ pub fn rule_heading(s: &[u8], c: Cursor) -> Opened
             cursor: c,
             heading: h,
         },
-        RULEBLOCK,
+        kinds::RULEBLOCK,
     );
     let b = block_name(s, a);
     let d = algorithms(s, b);

@@ -21,22 +21,6 @@ use cursor::Cursor;
 use model::Degree;
 use tables::Totals;
 
-const COMMA: u8 = 44;
-
-const COLON: u8 = 58;
-
-const SEMICOLON: u8 = 59;
-
-const IF: u8 = 147;
-
-const IS: u8 = 148;
-
-const RULE: u8 = 161;
-
-const THEN: u8 = 164;
-
-const WITH: u8 = 168;
-
 // A reading among rules, beside how many are kept.
 pub struct Progress {
     pub cursor: Cursor,
@@ -172,7 +156,7 @@ fn conclusion(
         return not_concluded(p, 6);
     }
     let d = cursor::advance(s, c);
-    let e = cursor::expect(s, d, IS);
+    let e = cursor::expect(s, d, kinds::IS);
     let q = Concluded {
         cursor: e,
         count: p.count,
@@ -195,7 +179,7 @@ fn conclusion_list(
     ensures onward { λ r. ⌜ Onward (now (s .entry)) p r ⌝ }
 {
     let mut q = conclusion(s, names, book, conclusions, p);
-    while q.cursor.kind == COMMA {
+    while q.cursor.kind == kinds::COMMA {
         let c = q.cursor;
         let d = cursor::advance(s, c);
         let n = Concluded {
@@ -214,7 +198,7 @@ fn weighted(s: &[u8], c: Cursor) -> Weighed
         → seen (now (s .entry)) (r .cursor) (midst b rs (withWeight (r .weight .0) q)) m ≡ weightedOf (seen (now (s .entry)) c (midst b rs q) m)) ⌝ }
     ensures within { λ r. ⌜ (left (now (s .entry)) (r .cursor) ≤ left (now (s .entry)) c) × Fits (now (s .entry)) (r .cursor) ⌝ }
 {
-    if c.kind != WITH {
+    if c.kind != kinds::WITH {
         return Weighed {
             cursor: c,
             weight: Degree(1000000),
@@ -266,7 +250,7 @@ fn rule_given(
 {
     let c = p.cursor;
     let t = p.totals;
-    let d = cursor::expect(s, c, THEN);
+    let d = cursor::expect(s, c, kinds::THEN);
     let a = Concluded {
         cursor: d,
         count: t.conclusions,
@@ -275,7 +259,7 @@ fn rule_given(
     let e = q.cursor;
     let x = weighted(s, e);
     let f = x.cursor;
-    let g = cursor::expect(s, f, SEMICOLON);
+    let g = cursor::expect(s, f, kinds::SEMICOLON);
     let w = x.weight;
     let k = (q.count - t.conclusions) as u32;
     put_row(rules, t.rules, number, words, k, w.0);
@@ -310,8 +294,8 @@ fn rule_from(
     let t = p.totals;
     let n = rule_number(s, rules, t.rules, c);
     let d = n.cursor;
-    let e = cursor::expect(s, d, COLON);
-    let f = cursor::expect(s, e, IF);
+    let e = cursor::expect(s, d, kinds::COLON);
+    let f = cursor::expect(s, e, kinds::IF);
     let a = Pending {
         cursor: f,
         words: t.words,
@@ -367,7 +351,7 @@ fn rule(
 {
     let c = p.cursor;
     let t = p.totals;
-    if c.kind != RULE {
+    if c.kind != kinds::RULE {
         return refused(p, 2);
     }
     if 64 <= t.rules {
@@ -398,7 +382,7 @@ pub fn rules(
     ensures within { λ r. ⌜ Within (now (s .entry)) p r ⌝ }
 {
     let mut q = rule(s, names, book, rules, words, conclusions, p);
-    while q.cursor.kind == RULE {
+    while q.cursor.kind == kinds::RULE {
         q = rule(s, names, book, rules, words, conclusions, q);
     }
     q

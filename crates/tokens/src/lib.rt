@@ -255,13 +255,13 @@ fn word_kind(w: &[u8]) -> u8
     ensures within { λ r. ⌜ 0 < r ⌝ }
 {
     if !is_tidy(w) {
-        return 1;
+        return kinds::WRONG;
     }
     let k = keyword_at(w);
     if k < 43 {
-        return 128 + k as u8;
+        return kinds::ACCU + k as u8;
     }
-    2
+    kinds::NAME
 }
 
 fn word_piece(rest: &[u8]) -> Piece
@@ -294,14 +294,14 @@ fn comment_piece(rest: &[u8]) -> Piece
     while i < rest.len() {
         if is_pair(rest, i, 42, 41) {
             return Piece {
-                kind: 6,
+                kind: kinds::BLANK,
                 more: i + 1,
             };
         }
         i += 1;
     }
     Piece {
-        kind: 1,
+        kind: kinds::WRONG,
         more: rest.len() - 1,
     }
 }
@@ -316,7 +316,7 @@ fn mark_piece(rest: &[u8]) -> Piece
     let c = rest[0];
     if is_signed(rest) {
         return Piece {
-            kind: 3,
+            kind: kinds::NUMBER,
             more: number_part(rest, 1),
         };
     }
@@ -324,15 +324,24 @@ fn mark_piece(rest: &[u8]) -> Piece
         return comment_piece(rest);
     }
     if is_pair(rest, 0, 58, 61) {
-        return Piece { kind: 4, more: 1 };
+        return Piece {
+            kind: kinds::ASSIGN,
+            more: 1,
+        };
     }
     if is_pair(rest, 0, 46, 46) {
-        return Piece { kind: 5, more: 1 };
+        return Piece {
+            kind: kinds::DOTS,
+            more: 1,
+        };
     }
     if is_mark(c) {
         return Piece { kind: c, more: 0 };
     }
-    Piece { kind: 1, more: 0 }
+    Piece {
+        kind: kinds::WRONG,
+        more: 0,
+    }
 }
 
 // The piece at the start of what is left of the text.
@@ -343,14 +352,17 @@ fn first_piece(rest: &[u8]) -> Piece
 {
     let c = rest[0];
     if is_blank(c) {
-        return Piece { kind: 6, more: 0 };
+        return Piece {
+            kind: kinds::BLANK,
+            more: 0,
+        };
     }
     if starts_name(c) {
         return word_piece(rest);
     }
     if is_digit(c) {
         return Piece {
-            kind: 3,
+            kind: kinds::NUMBER,
             more: number_part(rest, 1),
         };
     }
@@ -367,7 +379,7 @@ pub fn next(s: &[u8], at: usize) -> Token
     while i < s.len() {
         let p = first_piece(&s[i..]);
         let e = i + 1 + p.more;
-        if p.kind != 6 {
+        if p.kind != kinds::BLANK {
             return Token {
                 kind: p.kind,
                 start: i,
@@ -377,7 +389,7 @@ pub fn next(s: &[u8], at: usize) -> Token
         i = e;
     }
     Token {
-        kind: 0,
+        kind: kinds::END,
         start: i,
         end: i,
     }

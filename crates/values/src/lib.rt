@@ -36,7 +36,7 @@ pub fn crisp_here(s: &[u8], c: Cursor) -> CrispHere
     ensures value { λ r. ⌜ r .value .0 ≡ (if eqb (r .fault) 0 then valueOf (textOf (now (s .entry)) c) else pos 0) ⌝ }
     ensures kind { λ r. ⌜ (r .fault ≡ 0 → c .kind ≡ 3) ⌝ }
 {
-    if c.kind != 3 {
+    if c.kind != kinds::NUMBER {
         return CrispHere {
             fault: 2,
             value: Crisp(0),
@@ -58,7 +58,7 @@ pub fn unit_here(s: &[u8], c: Cursor) -> UnitHere
     ensures value { λ r. ⌜ r .value .0 ≡ (if eqb (r .fault) 0 then unitOf (textOf (now (s .entry)) c) else 0) ⌝ }
     ensures kind { λ r. ⌜ (r .fault ≡ 0 → c .kind ≡ 3) ⌝ }
 {
-    if c.kind != 3 {
+    if c.kind != kinds::NUMBER {
         return UnitHere {
             fault: 2,
             value: Degree(0),
@@ -81,7 +81,7 @@ pub fn number_here(s: &[u8], c: Cursor) -> NumberHere
     ensures value { λ r. ⌜ r .value ≡ (if eqb (r .fault) 0 then decimal (textOf (now (s .entry)) c) else 0) ⌝ }
     ensures kind { λ r. ⌜ (r .fault ≡ 0 → c .kind ≡ 3) ⌝ }
 {
-    if c.kind != 3 {
+    if c.kind != kinds::NUMBER {
         return NumberHere { fault: 2, value: 0 };
     }
     let a = c.start;
