@@ -4,7 +4,7 @@ ghost use mathlib.Core.Path.{_≡_};
 ghost use mathlib.Core.List.{List, []};
 ghost use Prim.Native.Nat.{ℕ, _≤_, _<_};
 ghost use Rattle.model.specs.Block.{Block};
-ghost use Rattle.model.specs.Parse.{Parse, refuse as refused, advance as advanced, expect as expected, aName};
+ghost use Rattle.model.specs.Parse.{refuse as refused, advance as advanced, expect as expected, aName};
 ghost use Rattle.model.specs.Tokens.{tokens};
 ghost use Rattle.cursor.specs.View.{seen, Fits, left, Step, Moves, fault};
 

@@ -1,11 +1,10 @@
 -- Lists of values by place: one more, one changed, the last one changed.
 use mathlib.Core.Path.{_≡_, refl, sym, ap, _∙_}
-use mathlib.Core.Bool.{Bool, true, false}
 use mathlib.Core.List.{List, [], _∷_, _++_, map}
-use Prim.Native.Nat.{ℕ, zero, suc, _+_, _-_, _≤_, _<_}
+use Prim.Native.Nat.{ℕ, zero, suc, _+_, _≤_, _<_}
 use native.Mathlib.Omega.{arith}
-use lib.ListN.{length, take, drop, getD, set}
-use Rattle.model.specs.Basic.{if_then_else_, update, updateLast}
+use lib.ListN.{take, drop, getD, set}
+use Rattle.model.specs.Basic.{update, updateLast}
 use Rattle.model.specs.Image.{tab}
 use Rattle.words.proofs.Places.{tab-last, tab-ext}
 

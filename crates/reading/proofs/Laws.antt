@@ -1,12 +1,11 @@
 -- How parts that are read make up a longer part: one after the other, and again and again.
 use mathlib.Core.Path.{_≡_, refl, sym, ap, _∙_}
 use mathlib.Core.Bool.{true, false}
-use mathlib.Core.List.{List, [], _∷_, _++_, append-nil}
-use Prim.Native.Nat.{ℕ, zero, suc, _+_, _-_, _≤_, _<_}
+use mathlib.Core.List.{List, [], _++_, append-nil}
+use Prim.Native.Nat.{ℕ, suc, _-_, _≤_, _<_}
 use native.Mathlib.Omega.{arith}
 use borrow.Author.Tests.{eq-eqb, ne-eqb}
 use lib.ListN.{length}
-use Rattle.model.specs.Basic.{if_then_else_, _▸_}
 use Rattle.model.specs.Block.{Block}
 use Rattle.model.specs.Keywords.{COMMA}
 use Rattle.model.specs.Parse.{Parse, Part, Checks, kind, text, is, refuse, change, advance, judged, expect, repeatOn, repeated, listed}

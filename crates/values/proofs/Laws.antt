@@ -16,7 +16,7 @@ use Rattle.model.specs.Parse.{is, text, aCrisp, aUnit}
 use Rattle.model.specs.Tokens.{isCrisp, isUnit, isRuleNumber, isDigit, valueOf, unitOf, decimal}
 use Rattle.numerals.specs.Written.{crispWritten, unitWritten, ruleNumberWritten}
 use Rattle.cursor.specs.declared.Cursor.{Cursor}
-use Rattle.cursor.specs.View.{seen, textOf, Fits, fault}
+use Rattle.cursor.specs.View.{seen, textOf, fault}
 use Rattle.cursor.proofs.Laws.{kind-seen, text-seen, clash}
 
 nothing : (n : ℕ) → take n (drop {A = ℕ} 0 []) ≡ []
