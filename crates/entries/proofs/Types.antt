@@ -7,6 +7,7 @@ use native.Mathlib.Nat.{zero-add}
 use native.Mathlib.Omega.{arith}
 use borrow.Author.Tests.{eqb-true, eqb-false, ltb-true, ltb-false}
 use lib.Dec.{ltb, eqb}
+use lib.Arith.{lt-of-le-ne}
 use lib.ListN.{length, getD, set, length-set}
 use lib.Seq.{slice, getD-set-same, getD-set-other}
 use Rattle.model.specs.Basic.{if_then_else_}
@@ -27,13 +28,6 @@ use Rattle.entries.proofs.Views.{term-same, input-same}
 pub typed-none : (old : List Input) (from : ℕ) → length old ≡ 8 → Typed old from from old
 typed-none old from l = record { before = λ i h. refl; within = λ i h k. absurd (omega arith); behind = λ i h k. refl; size = l }
 
-below : (j i : ℕ) → j < i + 1 → (j ≡ i → ⊥) → j < i
-below j i h z = by (ltb j i) refl
-  where
-    by : (t : Bool) → ltb j i ≡ t → j < i
-    by true q = ltb-true j i q
-    by false q = let w = ltb-false j i q in absurd (z (omega arith))
-
 -- one row more
 abbrev pub int-row : Input → Input
 int-row v = record { int = true; terms = v .terms }
@@ -51,7 +45,7 @@ typed-more old new from i d h l = record {
         ap (λ (k : ℕ). getD (set new i (int-row (getD new i no-input))) k no-input) (eqb-true j i q)
         ∙ getD-set-same new i _ no-input (omega (arith, d .size)) ∙ ap int-row (d .behind i h (omega arith))
         ∙ ap (λ (k : ℕ). int-row (getD old k no-input)) (sym (eqb-true j i q))
-    within j a b false q = let z = eqb-false j i q in getD-set-other new i j _ no-input z ∙ d .within j a (below j i b z)
+    within j a b false q = let z = eqb-false j i q in getD-set-other new i j _ no-input z ∙ d .within j a (lt-of-le-ne (omega arith) z)
 
 pub typed-end : (old new : List Input) (from i to : ℕ) → Typed old from i new → (from < i → i ≤ to) → from ≤ i → to ≤ i → Typed old from to new
 typed-end old new from i to d k h l = record {
