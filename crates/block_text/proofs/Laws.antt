@@ -2,27 +2,28 @@
 use mathlib.Core.Path.{_≡_, refl, sym, ap, _∙_}
 use mathlib.Core.Bool.{Bool, true, false, _&&_, not}
 use mathlib.Core.List.{List, [], _∷_, map}
-use Prim.Native.Nat.{ℕ, zero, suc, _+_, _-_, _≤_, _<_}
+use Prim.Native.Nat.{ℕ, suc, _+_, _-_, _<_}
 use native.Mathlib.Omega.{arith}
 use borrow.Author.Tests.{eq-eqb, ne-eqb, lt-ltb, le-ltb, ltb-true, ltb-false}
 use lib.Dec.{ltb}
 use lib.ListN.{length, getD, replicate}
-use Rattle.model.specs.Basic.{if_then_else_, all, isEmpty}
+use Rattle.model.specs.Basic.{all, isEmpty}
 use Rattle.model.specs.Block as block
 use Rattle.model.specs.Block.{Block, termsOf, singletonsOf}
 use Rattle.model.specs.Image.{tab}
 use Rattle.model.specs.Keywords.{END, END-FUNCTION-BLOCK, END-RULEBLOCK}
-use Rattle.model.specs.Parse.{Parse, Checks, kind, is, refuse, advance, judged, expect, emptyBlock}
+use Rattle.model.specs.Parse.{Parse, Checks, is, refuse, advance, judged, expect, emptyBlock}
 use Rattle.model.specs.Tokens.{tokens}
 use Rattle.model.specs.Reader.{start, partsThere, endOfBlock}
 use Rattle.words.proofs.Places.{all-start}
 use Rattle.tables.specs.declared.Tables.{Tables}
 use Rattle.tables.specs.View.{zero-crisp, no-input, no-output, no-point, blockView, Holds}
+use Rattle.tables.proofs.Lists.{alike}
 use Rattle.cursor.specs.declared.Cursor.{Cursor}
-use Rattle.cursor.specs.View.{seen, Fits, Step, fault}
-use Rattle.cursor.proofs.Laws.{kind-seen, block-seen, lost-kind, judged-bad, judged-good, numbered}
+use Rattle.cursor.specs.View.{seen, Step, fault}
+use Rattle.cursor.proofs.Laws.{kind-seen, block-seen, lost-kind, judged-bad}
 use Rattle.reading.specs.Reads.{view}
-use Rattle.declared.specs.Book.{Describes, first, termCount, inputCount, outputCount}
+use Rattle.declared.specs.Book.{Describes, first, inputCount, outputCount}
 use Rattle.block_text.specs.Block.{backText, haveTerms, Ends}
 
 -- THE EMPTY TABLES
@@ -44,24 +45,16 @@ pub empty-view : (s : List ℕ) → blockView s empty ≡ emptyBlock
 unfolding blockView tab
 empty-view s = refl
 
-alike : {A : Type 0} (d : A) (n k : ℕ) → getD (replicate n d) k d ≡ d
-alike d zero k = refl
-alike d (suc n) zero = refl
-alike d (suc n) (suc k) = alike d n k
-
-zeros : (n k : ℕ) → _≡_ {A = ℕ} (getD (replicate n 0) k 0) 0
-zeros n k = alike {A = ℕ} 0 n k
-
 pub empty-holds : (s : List ℕ) → Holds s empty
 empty-holds s = record {
   order = omega arith;
   inside = omega arith;
-  placed = record { order = λ k h. rw (zeros 224 k, zeros 224 (112 + k)) (omega arith); inside = λ k. rw (zeros 224 k) (omega arith) };
+  placed = record { order = λ k h. rw (alike {A = ℕ} 0 224 k, alike {A = ℕ} 0 224 (112 + k)) (omega arith); inside = λ k. rw (alike {A = ℕ} 0 224 k) (omega arith) };
   inputCount = omega arith;
   outputCount = omega arith;
   inputTerms = λ i. rw (alike no-input 8 i) (omega arith);
   outputTerms = λ o. rw (alike no-output 6 o) (omega arith);
-  pointCounts = λ k. rw (zeros 56 k) (omega arith);
+  pointCounts = λ k. rw (alike {A = ℕ} 0 56 k) (omega arith);
   names-size = refl;
   inputs-size = refl;
   outputs-size = refl;

@@ -1,8 +1,8 @@
 -- What the book says of the tables.
 use mathlib.Core.Path.{_≡_, refl, sym, ap, _∙_}
 use mathlib.Core.Bool.{Bool, true, false}
-use mathlib.Core.List.{List, [], _∷_}
-use Prim.Native.Nat.{ℕ, zero, suc, _+_, _*_, _-_, _≤_, _<_}
+use mathlib.Core.List.{List}
+use Prim.Native.Nat.{ℕ, _+_, _*_, _-_, _≤_, _<_}
 use native.Mathlib.Omega.{arith}
 use borrow.Author.Tests.{lt-ltb, le-ltb}
 use lib.Dec.{ltb}
@@ -10,7 +10,7 @@ use lib.ListN.{length, take, getD, set, length-set}
 use lib.Seq.{getD-set-same, getD-set-other}
 use Rattle.model.specs.Basic.{if_then_else_, total, gather}
 use Rattle.model.specs.Block as block
-use Rattle.model.specs.Block.{Block, inputFirst, outputFirst, termsOf, singletonsOf}
+use Rattle.model.specs.Block.{Block, inputFirst, outputFirst}
 use Rattle.model.specs.Image.{tab}
 use Rattle.words.proofs.Places.{length-tab}
 use Rattle.tables.specs.declared.Tables.{Tables}

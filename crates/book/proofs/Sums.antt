@@ -2,11 +2,12 @@
 use mathlib.Core.Path.{_≡_, refl, sym, ap, _∙_}
 use mathlib.Core.Bool.{Bool, true, false}
 use mathlib.Core.List.{List, [], _∷_, _++_}
-use Prim.Native.Nat.{ℕ, zero, suc, _+_, _*_, _-_, _≤_, _<_}
+use Prim.Native.Nat.{ℕ, zero, suc, _+_, _*_, _≤_, _<_}
 use native.Mathlib.Nat.{suc-mul}
 use native.Mathlib.Omega.{arith}
-use borrow.Author.Tests.{eqb-true, eqb-false, leb-true, leb-false}
-use lib.Dec.{leb, eqb}
+use borrow.Author.Tests.{eqb-true, eqb-false}
+use lib.Dec.{eqb}
+use lib.Arith.{lt-of-le-ne}
 use lib.ListN.{length, take, getD, set, length-append}
 use lib.Seq.{getD-set-same, getD-set-other}
 use Rattle.model.specs.Basic.{total, gather}
@@ -41,13 +42,6 @@ unfolding sums
 sums-most c m zero h = omega arith
 sums-most c m (suc n) h = let e = sums-most c m n h in let b = h n in let z : suc n * m ≡ n * m + m = suc-mul n m in omega arith
 
-below : (v i : ℕ) → v ≤ i + 1 → (v ≡ i + 1 → ⊥) → v ≤ i
-below v i b z = by (leb v i) refl
-  where
-    by : (t : Bool) → leb v i ≡ t → v ≤ i
-    by true q = leb-true v i q
-    by false q = let w = leb-false v i q in absurd (z (omega arith))
-
 -- one place more
 module _ (r : List ℕ) (i k : ℕ) (l : length r ≡ 17) (h : i < 16) where
   pub last-is : getD (set r (i + 1) (getD r i 0 + k)) (i + 1) 0 ≡ getD r i 0 + k
@@ -60,7 +54,7 @@ module _ (r : List ℕ) (i k : ℕ) (l : length r ≡ 17) (h : i < 16) where
       by v b true q =
           let z = eqb-true v (i + 1) q in
           ap (λ (w : ℕ). getD (set r (i + 1) (getD r i 0 + k)) w 0) z ∙ last-is ∙ (λ j. f .first i (omega arith) j + e j) ∙ sym (sums-more c i) ∙ ap (sums c) (sym z)
-      by v b false q = let z = eqb-false v (i + 1) q in getD-set-other r (i + 1) v (getD r i 0 + k) 0 z ∙ f .first v (below v i b z)
+      by v b false q = let z = eqb-false v (i + 1) q in getD-set-other r (i + 1) v (getD r i 0 + k) 0 z ∙ f .first v (omega (arith, lt-of-le-ne b z))
 
 -- LISTS
 pub total-append : {A : Type 0} (f : A → ℕ) (xs ys : List A) → total f (xs ++ ys) ≡ total f xs + total f ys

@@ -6,20 +6,19 @@ use Prim.Native.Nat.{ℕ, zero, suc, _+_, _-_, _*_, _≤_, _<_}
 use native.Mathlib.Omega.{arith}
 use native.Mathlib.Nat.{add-zero}
 use native.Mathlib.Numerals.{sub-one}
-use borrow.Author.Tests.{eq-eqb, ne-eqb, lt-ltb, le-ltb, eqb-true, eqb-false}
-use lib.Dec.{eqb}
+use borrow.Author.Tests.{eq-eqb, ne-eqb, lt-ltb, le-ltb}
 use lib.ListN.{length, take, drop, set, length-append}
 use lib.Seq.{take-take, take-at, length-take-le, sets, sets-eq}
 use Rattle.model.specs.Basic.{if_then_else_}
-use Rattle.model.specs.Block.{Block, Op, Condition, size, inputFirst, term, neg, two}
+use Rattle.model.specs.Block.{Block, Op, Condition, term, two}
 use Rattle.model.specs.Image.{postfix, opWord}
 use Rattle.model.specs.Keywords.{CLOSE, IS}
-use Rattle.model.specs.Parse.{Parse, Part, kind, text, is, refuse, advance, judged, expect, aName, emptyBlock}
+use Rattle.model.specs.Parse.{Parse, Part, kind, text, refuse, advance, judged, expect, aName, emptyBlock}
 use Rattle.model.specs.Declarations.{inputOf, termOf, isInput, isTerm}
 use Rattle.model.specs.Rules.{Got, got, word, termNamed, termHere, subcondition, negated, closed, chainOn, chain, conditionWith, parenthesis}
 use Rattle.cursor.specs.declared.Cursor.{Cursor}
 use Rattle.cursor.specs.View.{seen, textOf, Fits, left, Step, fault}
-use Rattle.cursor.proofs.Laws.{enough, kind-seen, text-seen, block-seen, words-seen, why-seen, judged-bad, judged-good, numbered}
+use Rattle.cursor.proofs.Laws.{enough, kind-seen, text-seen, block-seen, words-seen, lost-kind, lost-refuse, lost-expect, judged-bad, judged-good, numbered}
 use Rattle.declared.specs.Book.{Describes, inputCount, termCount, first, among}
 use Rattle.condition_text.specs.declared.Pending.{Pending}
 use Rattle.condition_text.specs.Pending.{Room, Adds, Reads, Within, Stops, Counts, Puts}
@@ -29,28 +28,13 @@ at p d = record { cursor = d; words = p .words; put = p .put }
 
 -- A REFUSED READING
 module _ (s : List ℕ) (d : Cursor) (g : Fits s d) (h : d .why ≡ 0 → ⊥) where
-  pub halted-kind : d .kind ≡ 0
-  halted-kind = go (eqb (d .kind) 0) refl
-    where
-      go : (x : Bool) → eqb (d .kind) 0 ≡ x → d .kind ≡ 0
-      go true e = eqb-true (d .kind) 0 e
-      go false e = absurd (h (g .halted (eqb-false (d .kind) 0 e)))
-
   module _ (b : Block) (n : ℕ) where
-    refuse-stays : (w : ℕ) → refuse w (seen s d b n) ≡ seen s d b n
-    unfolding refuse
-    refuse-stays w = simp (why-seen, ne-eqb _ _ h)
-
-    expect-stays : expect IS (seen s d b n) ≡ seen s d b n
-    unfolding expect
-    expect-stays = simp (kind-seen, halted-kind) (refuse-stays 2)
-
     term-stays : (i : ℕ) → termHere i (seen s d b n) .parse ≡ seen s d b n
     unfolding termHere termNamed judged
-    term-stays i = simp (kind-seen, halted-kind) (refuse-stays 2)
+    term-stays i = simp (kind-seen, lost-kind s d g h) (lost-refuse s d g h b n 2)
 
     pub here-stays : (i : ℕ) → termHere i (expect IS (seen s d b n)) .parse ≡ seen s d b n
-    here-stays i = ap (λ (r : Parse). termHere i r .parse) expect-stays ∙ term-stays i
+    here-stays i = ap (λ (r : Parse). termHere i r .parse) (lost-expect s d g h b n IS (λ z. omega arith)) ∙ term-stays i
 
 -- no token follows a refusal
 pub refused-left : (s : List ℕ) (w : ℕ) (c d : Cursor) → c .why ≡ 0 → Step (refuse w) s c d → left s d ≡ 0

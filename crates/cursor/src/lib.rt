@@ -1,10 +1,10 @@
-// Where reading stands: the current token, or the refusal that ended it. A refused reading stands at an end, so that no later step finds what it
-// asks for, and only the first refusal is kept.
+// Where reading stands: the current token, or the refusal that ended it. A refused reading stands at an end, so that no
+// later step finds what it asks for, and only the first refusal is kept.
 ghost use mathlib.Core.Path.{_≡_};
 ghost use mathlib.Core.List.{List, []};
 ghost use Prim.Native.Nat.{ℕ, _≤_, _<_};
 ghost use Rattle.model.specs.Block.{Block};
-ghost use Rattle.model.specs.Parse.{Parse, refuse as refused, advance as advanced, expect as expected, aName};
+ghost use Rattle.model.specs.Parse.{refuse as refused, advance as advanced, expect as expected, aName};
 ghost use Rattle.model.specs.Tokens.{tokens};
 ghost use Rattle.cursor.specs.View.{seen, Fits, left, Step, Moves, fault};
 
@@ -18,7 +18,9 @@ pub struct Cursor {
 
 // At the first token.
 pub fn begin(s: &[u8]) -> Cursor
-    ensures { λ r. ⌜ ((b : Block) (n : ℕ) → seen (now (s .entry)) r b n ≡ record { rest = tokens (now (s .entry)); why = 0; place = 0; block = b; words = n }) ⌝ }
+    ensures { λ r. ⌜ ((b : Block) (n : ℕ)
+        → seen (now (s .entry)) r b n
+        ≡ record { rest = tokens (now (s .entry)); why = 0; place = 0; block = b; words = n }) ⌝ }
     ensures fits { λ r. ⌜ Fits (now (s .entry)) r ⌝ }
 {
     let t = tokens::next(s, 0);

@@ -1,27 +1,26 @@
 -- What a new variable is judged by, and what it changes.
 use mathlib.Core.Path.{_≡_, refl, sym, ap, _∙_}
-use mathlib.Core.Bool.{Bool, true, false, _||_, not}
+use mathlib.Core.Bool.{Bool, _||_, not}
 use mathlib.Core.List.{List, [], _∷_}
-use Prim.Native.Nat.{ℕ, zero, suc, _≤_, _<_}
+use Prim.Native.Nat.{ℕ, _≤_, _<_}
 use native.Mathlib.Omega.{arith}
 use borrow.Author.Tests.{eq-eqb, ne-eqb, lt-ltb, le-ltb}
 use lib.Dec.{ltb}
-use lib.ListN.{length}
 use Rattle.model.specs.Basic.{if_then_else_}
 use Rattle.model.specs.Block.{Block}
 use Rattle.model.specs.Bounds.{inputLimit}
-use Rattle.model.specs.Keywords.{COLON, SEMICOLON, INT, REAL}
-use Rattle.model.specs.Parse.{Parse, Part, Checks, kind, text, is, refuse, advance, change, judged, expect, repeated, listed, aName, named, withName}
-use Rattle.model.specs.Declarations.{inputOf, outputOf, isInput, isOutput, addInput, addOutput, intFrom, variable, inputType, inputCount, inputDeclaration}
+use Rattle.model.specs.Keywords.{COLON, SEMICOLON, REAL}
+use Rattle.model.specs.Parse.{Checks, text, refuse, advance, change, expect, listed, aName, named, withName}
+use Rattle.model.specs.Declarations.{inputOf, outputOf, isInput, isOutput, addInput, intFrom, variable, inputType, inputCount, inputDeclaration}
 use Rattle.cursor.specs.declared.Cursor.{Cursor}
-use Rattle.cursor.specs.View.{seen, textOf, Fits, left, Step, fault}
-use Rattle.cursor.proofs.Laws.{text-seen, block-seen, fault-bad, fault-good, judged-bad, judged-good, numbered}
+use Rattle.cursor.specs.View.{seen, textOf, Fits, Step, fault}
+use Rattle.cursor.proofs.Laws.{text-seen, block-seen, fault-bad, fault-good, numbered}
 use Rattle.tables.specs.declared.Tables.{Tables}
 use Rattle.tables.specs.View.{blockView, Holds}
 use Rattle.entries.specs.Changes.{Changes}
 use Rattle.entries.proofs.Lookups as lookups
 use Rattle.reading.specs.declared.Reading.{Reading}
-use Rattle.reading.specs.Reads.{view, Good, Reads}
+use Rattle.reading.specs.Reads.{view, Reads}
 use Rattle.reading.proofs.Laws as reading
 use Rattle.declarations.specs.Declares.{Declares, newChecks}
 
@@ -76,29 +75,27 @@ module _ (add : List ℕ → Block → Block) (count : Block → ℕ) (limit : �
   module _ (d : Cursor) (w : ℕ) (f : w ≡ fault (newChecks (seen s c (blockView s t) 0) (ltb m limit))) where
     pub variable-bad : Holds s t → (w ≡ 0 → ⊥) → Step (refuse w) s c d → Reads (variable add count limit) s (reading.at c t) (reading.at d t)
     unfolding variable
-    variable-bad g h q =
-        reading.also (reading.step t g q)
-        (sym (judged-bad (view s (reading.at c t)) _ w (newChecks (view s (reading.at c t)) (ltb (count (view s (reading.at c t) .block)) limit)) [] (ap fault same-checks ∙ sym f) h))
+    variable-bad g h q = reading.refuses (newChecks (view s (reading.at c t)) (ltb (count (view s (reading.at c t) .block)) limit)) _ refl w (ap fault same-checks ∙ sym f) h g q
 
     pub variable-good : (u : Tables) → Fits s c → (c .kind ≡ 0 → ⊥) → w ≡ 0 → Changes s t u (add (textOf s c)) → Step advance s c d → Reads (variable add count limit) s (reading.at c t) (reading.at d u)
-    unfolding variable judged numbered
+    unfolding variable numbered
     variable-good u g k h x q =
-        reading.also (reading.next (reading.changes s c t u (add (textOf s c)) g k x) (reading.step u (x .holds) q))
-        (sym (judged-good (view s (reading.at c t)) _ (newChecks (view s (reading.at c t)) (ltb (count (view s (reading.at c t) .block)) limit)) [] refl (ap fault same-checks ∙ sym f ∙ h)
-        ∙ ap (λ (v : List ℕ). advance (change (add v) (view s (reading.at c t)))) (reading.text-view s (reading.at c t))))
+        reading.passes (newChecks (view s (reading.at c t)) (ltb (count (view s (reading.at c t) .block)) limit)) _ refl refl (ap fault same-checks ∙ sym f ∙ h)
+        (reading.next (reading.changes s c t u (add (textOf s c)) g k x) (reading.step u (x .holds) q))
+        (ap (λ (v : List ℕ). advance (change (add v) (view s (reading.at c t)))) (sym (reading.text-view s (reading.at c t))))
 
 -- THE NAME, THE TYPE
 module _ (s : List ℕ) (c : Cursor) (t : Tables) (d : Cursor) where
   pub name-bad : (w : ℕ) → w ≡ fault (aName (seen s c (blockView s t) 0) []) → Holds s t → (w ≡ 0 → ⊥) → Step (refuse w) s c d → Reads (named withName) s (reading.at c t) (reading.at d t)
   unfolding named view
-  name-bad w f g h q = reading.also (reading.step t g q) (sym (judged-bad (view s (reading.at c t)) _ w (aName (view s (reading.at c t)) []) [] (sym f) h))
+  name-bad w f g h q = reading.refuses (aName (view s (reading.at c t)) []) _ refl w (sym f) h g q
 
   pub name-good : (u : Tables) → 0 ≡ fault (aName (seen s c (blockView s t) 0) []) → Fits s c → (c .kind ≡ 0 → ⊥) → Changes s t u (withName (textOf s c)) → Step advance s c d → Reads (named withName) s (reading.at c t) (reading.at d u)
-  unfolding named judged view numbered
+  unfolding named view numbered
   name-good u f g k x q =
-      reading.also (reading.next (reading.changes s c t u (withName (textOf s c)) g k x) (reading.step u (x .holds) q))
-      (sym (judged-good (view s (reading.at c t)) _ (aName (view s (reading.at c t)) []) [] refl (sym f)
-      ∙ ap (λ (v : List ℕ). advance (change (withName v) (view s (reading.at c t)))) (reading.text-view s (reading.at c t))))
+      reading.passes (aName (view s (reading.at c t)) []) _ refl refl (sym f)
+      (reading.next (reading.changes s c t u (withName (textOf s c)) g k x) (reading.step u (x .holds) q))
+      (ap (λ (v : List ℕ). advance (change (withName v) (view s (reading.at c t)))) (sym (reading.text-view s (reading.at c t))))
 
   pub type-int : (n : ℕ) (u : Tables) → Fits s c → c .kind ≡ 170 → Changes s t u (intFrom n) → Step advance s c d → Reads (inputType n) s (reading.at c t) (reading.at d u)
   unfolding inputType

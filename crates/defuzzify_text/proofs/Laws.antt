@@ -2,24 +2,24 @@
 use mathlib.Core.Path.{_≡_, refl, sym, ap, _∙_}
 use mathlib.Core.Bool.{Bool, true, false, _&&_, not}
 use mathlib.Core.List.{List, [], _∷_}
-use mathlib.Core.Option.{some, none}
+use mathlib.Core.Option.{none}
 use Prim.Native.Nat.{ℕ, zero, suc, _+_, _*_, _≤_, _<_}
 use native.Mathlib.Omega.{arith}
 use borrow.Author.Tests.{eq-eqb, ne-eqb, lt-ltb, le-ltb}
 use lib.Dec.{ltb, eqb}
-use lib.IntN.{ℤ, pos}
+use lib.IntN.{ℤ}
 use lib.ListN.{length}
 use lib.Signed.{leZ, ltZ}
 use Rattle.model.specs.Basic.{if_then_else_, isEmpty, indexOf}
 use Rattle.model.specs.Image.{tab}
 use Rattle.model.specs.Block.{Block, Output, inRange, singletonsOf, rangeOf}
-use Rattle.model.specs.Keywords.{NUMBER, ASSIGN, DOTS, OPEN, CLOSE, SEMICOLON, NC, RANGE, TERM}
+use Rattle.model.specs.Keywords.{NUMBER, ASSIGN, DOTS, OPEN, CLOSE, SEMICOLON, TERM}
 use Rattle.model.specs.Tokens.{valueOf, sameName}
-use Rattle.model.specs.Parse.{Parse, Part, Checks, kind, text, is, refuse, advance, change, judged, expect, aName, aCrisp, valueHere}
+use Rattle.model.specs.Parse.{Parse, Checks, text, is, refuse, advance, change, expect, aName, aCrisp, valueHere}
 use Rattle.model.specs.Declarations.{singletonOf, isSingleton, isOutput, outputOf, crisp, upperEnd, rangeFrom, range, figure, singletonNamed, outputTerm, defaultValue, defuzzifyOf, defuzzifyNamed, changeOutput, withRange, withSingleton, withDefault}
 use Rattle.cursor.specs.declared.Cursor.{Cursor}
-use Rattle.cursor.specs.View.{seen, textOf, Fits, left, Step, fault}
-use Rattle.cursor.proofs.Laws.{kind-seen, text-seen, block-seen, fault-bad, fault-good, numbered, lost-expect, lost-judged, lost-is, steps}
+use Rattle.cursor.specs.View.{seen, textOf, Fits, Step, fault}
+use Rattle.cursor.proofs.Laws.{text-seen, block-seen, fault-bad, fault-good, numbered, lost-expect, lost-judged}
 use Rattle.lookup.specs.Names.{nameOf}
 use Rattle.tables.specs.declared.Tables.{Tables}
 use Rattle.tables.specs.declared.Output.{Output as Row}
@@ -49,10 +49,6 @@ module _ (r : Parse) (t : Bool) where
   pub crisp-good : 0 ≡ fault (aCrisp r []) → fault (aCrisp r ((t, 7) ∷ [])) ≡ (if t then 0 else 7)
   unfolding numbered fault
   crisp-good e = fault-good (aCrisp r []) ((t, 7) ∷ []) refl (sym e)
-
--- the value of a number that passes
-pub value-is : (w : ℕ) → w ≡ 0 → (x y : ℤ) → y ≡ (if eqb w 0 then x else pos 0) → y ≡ x
-value-is w h x y e = e ∙ simp (eq-eqb _ _ h) refl
 
 -- RANGE
 pub in-range : (v : Row) (x : ℤ) → v .ranged ≡ true → inRange (rangeView v) x ≡ leZ (v .least .0) x && leZ x (v .most .0)

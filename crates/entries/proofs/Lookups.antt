@@ -1,13 +1,13 @@
 -- What a block says of the names in the tables, of any block with these inputs and outputs.
-use mathlib.Core.Path.{_≡_, refl, sym, ap, _∙_}
+use mathlib.Core.Path.{_≡_, refl, ap, _∙_}
 use mathlib.Core.List.{List, [], _∷_, _++_, map}
-use mathlib.Core.Option.{Option, none}
+use mathlib.Core.Option.{none}
 use Prim.Native.Nat.{ℕ, zero, suc, _+_, _*_, _-_, _≤_, _<_}
 use native.Mathlib.Omega.{arith}
 use lib.ListN.{length, getD, length-map, List·getD-eq-default}
 use Rattle.model.specs.Basic.{indexOf}
 use Rattle.model.specs.Block as block
-use Rattle.model.specs.Block.{Block, Range, termsOf, singletonsOf, rangeOf}
+use Rattle.model.specs.Block.{Block, termsOf, singletonsOf, rangeOf}
 use Rattle.model.specs.Image.{tab}
 use Rattle.model.specs.Tokens.{sameName}
 use Rattle.model.specs.Declarations.{inputOf, outputOf, termOf, singletonOf, lastPoints, pointsOf}

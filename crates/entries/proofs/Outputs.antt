@@ -1,31 +1,23 @@
 -- An output more.
-use mathlib.Core.Path.{_≡_, refl, sym, ap, _∙_}
-use mathlib.Core.Bool.{true, false}
-use mathlib.Core.List.{List, [], _∷_, _++_}
-use mathlib.Core.Option.{none, some}
-use Prim.Native.Nat.{ℕ, zero, suc, _+_, _*_, _-_, _≤_, _<_}
-use native.Mathlib.Nat.{zero-add}
+use mathlib.Core.Path.{_≡_, refl}
+use mathlib.Core.List.{List, []}
+use mathlib.Core.Option.{none}
+use Prim.Native.Nat.{ℕ, _+_, _*_, _≤_, _<_}
 use native.Mathlib.Omega.{arith}
-use lib.ListN.{length, getD, set, length-set}
+use lib.ListN.{length, set, length-set}
 use lib.Seq.{slice, getD-set-same, getD-set-other}
-use Rattle.model.specs.Basic.{if_then_else_}
-use Rattle.model.specs.Block as block
-use Rattle.model.specs.Block.{Block}
 use Rattle.model.specs.Image.{tab}
-use Rattle.model.specs.Parse.{withName}
-use Rattle.model.specs.Declarations.{addInput, addOutput, addTerm, withTerms}
-use Rattle.model.specs.declared.InputType.the-variants.{Real as real, Int as int}
+use Rattle.model.specs.Declarations.{addOutput}
 use Rattle.model.specs.declared.Pair.the-variants.{MinMax as min-max}
 use Rattle.model.specs.declared.Activation.the-variants.{Min as by-min}
 use Rattle.model.specs.declared.Accumulation.the-variants.{Max as by-max}
-use Rattle.lookup.specs.Names.{nameOf, Placed}
+use Rattle.lookup.specs.Names.{nameOf}
 use Rattle.lookup.proofs.Names.{name-same, name-other, placed-set}
-use Rattle.tables.specs.declared.Input.{Input}
 use Rattle.tables.specs.declared.Output.{Output}
 use Rattle.tables.specs.declared.Tables.{Tables}
-use Rattle.tables.specs.View.{zero-crisp, no-input, no-output, inputRow, outputRow, pointView, termView, inputView, singletonView, rangeView, defaultView, outputView, inputsView, outputsView, blockView, Holds}
+use Rattle.tables.specs.View.{no-output, pointView, inputView, singletonView, rangeView, defaultView, outputView, blockView, Holds}
 use Rattle.entries.specs.Changes.{Changes}
-use Rattle.entries.proofs.Tabs.{tab-more, tab-same, tab-update, tab-updateLast, kept}
+use Rattle.entries.proofs.Tabs.{tab-more, tab-same, kept}
 use Rattle.entries.proofs.Views.{term-same, input-same, singleton-same, output-same}
 
 abbrev pub withOutput : Tables → ℕ → ℕ → Tables

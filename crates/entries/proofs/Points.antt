@@ -1,34 +1,27 @@
 -- A point more for the last term of an input.
 use mathlib.Core.Path.{_≡_, refl, sym, ap, _∙_}
-use mathlib.Core.Bool.{true, false}
 use mathlib.Core.List.{List, [], _∷_, _++_}
-use mathlib.Core.Option.{none, some}
-use Prim.Native.Nat.{ℕ, zero, suc, _+_, _*_, _-_, _≤_, _<_}
+use Prim.Native.Nat.{ℕ, suc, _+_, _*_, _-_, _<_}
 use native.Mathlib.Nat.{zero-add}
 use native.Mathlib.Numerals.{add-one}
 use native.Mathlib.Omega.{arith}
-use lib.ListN.{length, getD, set, length-set}
+use lib.ListN.{getD, set, length-set}
 use lib.Seq.{slice, getD-set-same, getD-set-other}
 use Rattle.model.specs.Basic.{if_then_else_, updateLast}
-use Rattle.model.specs.Block as block
-use Rattle.model.specs.Block.{Block}
 use Rattle.model.specs.Image.{tab}
-use Rattle.model.specs.Parse.{withName}
 use Rattle.model.specs.Declarations.{addPoint, withTerms, withPoint as longerTerm}
 use Rattle.model.specs.declared.InputType.the-variants.{Real as real, Int as int}
 use Rattle.model.specs.declared.Pair.the-variants.{MinMax as min-max}
 use Rattle.model.specs.declared.Activation.the-variants.{Min as by-min}
 use Rattle.model.specs.declared.Accumulation.the-variants.{Max as by-max}
 use Rattle.words.proofs.Places.{tab-last, tab-ext}
-use Rattle.lookup.specs.Names.{nameOf, Placed}
-use Rattle.lookup.proofs.Names.{name-same, name-other, placed-set}
-use Rattle.tables.specs.declared.Input.{Input}
+use Rattle.lookup.specs.Names.{nameOf}
 use Rattle.tables.specs.declared.Point.{Point}
 use Rattle.tables.specs.declared.Tables.{Tables}
-use Rattle.tables.specs.View.{zero-crisp, no-input, no-point, inputRow, outputRow, pointView, termView, inputView, singletonView, rangeView, defaultView, outputView, inputsView, outputsView, blockView, Holds}
+use Rattle.tables.specs.View.{no-point, inputRow, pointView, termView, inputView, singletonView, outputView, outputsView, blockView, Holds}
 use Rattle.entries.specs.Changes.{Changes, LastTerm}
-use Rattle.entries.proofs.Tabs.{tab-more, tab-same, tab-update, tab-updateLast, kept}
-use Rattle.entries.proofs.Views.{term-same, input-same, singleton-same, output-same}
+use Rattle.entries.proofs.Tabs.{tab-update, tab-updateLast, kept}
+use Rattle.entries.proofs.Views.{term-same, input-same}
 
 -- the point p for the term at k
 abbrev pub withPoint : Tables → ℕ → Point → Tables

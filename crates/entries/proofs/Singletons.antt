@@ -1,31 +1,24 @@
 -- A singleton more for an output.
 use mathlib.Core.Path.{_≡_, refl, sym, ap, _∙_}
-use mathlib.Core.Bool.{true, false}
-use mathlib.Core.List.{List, [], _∷_, _++_}
-use mathlib.Core.Option.{none, some}
-use Prim.Native.Nat.{ℕ, zero, suc, _+_, _*_, _-_, _≤_, _<_}
+use mathlib.Core.List.{List, []}
+use Prim.Native.Nat.{ℕ, _+_, _*_, _≤_, _<_}
 use native.Mathlib.Nat.{zero-add}
 use native.Mathlib.Omega.{arith}
 use lib.ListN.{length, getD, set, length-set}
 use lib.Seq.{slice, getD-set-same, getD-set-other}
-use Rattle.model.specs.Basic.{if_then_else_}
-use Rattle.model.specs.Block as block
-use Rattle.model.specs.Block.{Block}
 use Rattle.model.specs.Image.{tab}
-use Rattle.model.specs.Parse.{withName}
 use Rattle.model.specs.Declarations.{changeOutput, withSingleton}
-use Rattle.model.specs.declared.InputType.the-variants.{Real as real, Int as int}
 use Rattle.model.specs.declared.Pair.the-variants.{MinMax as min-max}
 use Rattle.model.specs.declared.Activation.the-variants.{Min as by-min}
 use Rattle.model.specs.declared.Accumulation.the-variants.{Max as by-max}
-use Rattle.lookup.specs.Names.{nameOf, Placed}
+use Rattle.lookup.specs.Names.{nameOf}
 use Rattle.lookup.proofs.Names.{name-same, name-other, placed-set}
 use Rattle.model.specs.declared.Crisp.{Crisp}
 use Rattle.tables.specs.declared.Output.{Output}
 use Rattle.tables.specs.declared.Tables.{Tables}
-use Rattle.tables.specs.View.{zero-crisp, no-input, no-output, inputRow, outputRow, pointView, termView, inputView, singletonView, rangeView, defaultView, outputView, inputsView, outputsView, blockView, Holds}
+use Rattle.tables.specs.View.{zero-crisp, no-output, outputRow, pointView, inputView, singletonView, rangeView, defaultView, outputView, blockView, Holds}
 use Rattle.entries.specs.Changes.{Changes}
-use Rattle.entries.proofs.Tabs.{tab-more, tab-same, tab-update, tab-updateLast, kept}
+use Rattle.entries.proofs.Tabs.{tab-more, tab-same, tab-update, kept}
 use Rattle.entries.proofs.Views.{term-same, input-same, singleton-same, output-same}
 
 -- the singleton x with a name for output o

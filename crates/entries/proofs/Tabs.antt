@@ -1,13 +1,13 @@
 -- Lists of values by place: one more, one changed, the last one changed.
 use mathlib.Core.Path.{_≡_, refl, sym, ap, _∙_}
-use mathlib.Core.Bool.{Bool, true, false}
 use mathlib.Core.List.{List, [], _∷_, _++_, map}
-use Prim.Native.Nat.{ℕ, zero, suc, _+_, _-_, _≤_, _<_}
+use Prim.Native.Nat.{ℕ, zero, suc, _+_, _≤_, _<_}
 use native.Mathlib.Omega.{arith}
-use lib.ListN.{length, take, drop, getD, set}
-use Rattle.model.specs.Basic.{if_then_else_, update, updateLast}
+use lib.ListN.{take, drop, getD, set}
+use Rattle.model.specs.Basic.{update, updateLast}
 use Rattle.model.specs.Image.{tab}
 use Rattle.words.proofs.Places.{tab-last, tab-ext}
+use Rattle.tables.proofs.Lists.{updateLast-snoc}
 
 pub tab-same : {A : Type 0} (f g : ℕ → A) (n : ℕ) → ((k : ℕ) → k < n → g k ≡ f k) → tab g n 0 ≡ tab f n 0
 tab-same f g n e = tab-ext g f n 0 0 (λ k h. ap g (omega arith) ∙ e k h ∙ ap f (omega arith))
@@ -33,12 +33,6 @@ tab-update {A} h f g (suc n) p (suc i) e o l =
     let r = tab-update h f g n (suc p) i (ap g (sym c) ∙ e ∙ ap (λ (k : ℕ). h (f k)) c)
     (λ k m q. ap g (omega arith) ∙ o (suc k) (omega arith) (λ w. q (omega arith)) ∙ ap f (omega arith)) (omega arith) in
     λ j. (ap g (sym z) ∙ o 0 (omega arith) (λ q. omega arith) ∙ ap f z) j ∷ r j
-
-pub updateLast-snoc : {A : Type 0} (h : A → A) (xs : List A) (x : A) → updateLast h (xs ++ (x ∷ [])) ≡ xs ++ (h x ∷ [])
-unfolding updateLast
-updateLast-snoc h [] x = refl
-updateLast-snoc h (y ∷ []) x = refl
-updateLast-snoc {A} h (y ∷ z ∷ xs) x = ap (λ (l : List A). y ∷ l) (updateLast-snoc h (z ∷ xs) x)
 
 -- the last of n + 1 changed
 pub tab-updateLast : {A : Type 0} (h : A → A) (f g : ℕ → A) (n : ℕ) → g n ≡ h (f n) → ((k : ℕ) → k < n → g k ≡ f k) → tab g (suc n) 0 ≡ updateLast h (tab f (suc n) 0)

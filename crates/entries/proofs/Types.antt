@@ -1,43 +1,32 @@
 -- INT for the inputs from some on.
 use mathlib.Core.Path.{_≡_, refl, sym, ap, _∙_}
 use mathlib.Core.Bool.{Bool, true, false}
-use mathlib.Core.List.{List, [], _∷_, _++_}
-use mathlib.Core.Option.{none, some}
-use Prim.Native.Nat.{ℕ, zero, suc, _+_, _*_, _-_, _≤_, _<_}
+use mathlib.Core.List.{List, []}
+use Prim.Native.Nat.{ℕ, _+_, _≤_, _<_}
 use native.Mathlib.Nat.{zero-add}
 use native.Mathlib.Omega.{arith}
 use borrow.Author.Tests.{eqb-true, eqb-false, ltb-true, ltb-false}
 use lib.Dec.{ltb, eqb}
+use lib.Arith.{lt-of-le-ne}
 use lib.ListN.{length, getD, set, length-set}
 use lib.Seq.{slice, getD-set-same, getD-set-other}
 use Rattle.model.specs.Basic.{if_then_else_}
-use Rattle.model.specs.Block as block
-use Rattle.model.specs.Block.{Block}
 use Rattle.model.specs.Image.{tab}
-use Rattle.model.specs.Parse.{withName}
 use Rattle.model.specs.Declarations.{asInt, intFrom}
 use Rattle.model.specs.declared.InputType.the-variants.{Real as real, Int as int}
 use Rattle.model.specs.declared.Pair.the-variants.{MinMax as min-max}
 use Rattle.model.specs.declared.Activation.the-variants.{Min as by-min}
 use Rattle.model.specs.declared.Accumulation.the-variants.{Max as by-max}
-use Rattle.lookup.specs.Names.{nameOf, Placed}
-use Rattle.lookup.proofs.Names.{name-same, name-other, placed-set}
+use Rattle.lookup.specs.Names.{nameOf}
 use Rattle.tables.specs.declared.Input.{Input}
 use Rattle.tables.specs.declared.Tables.{Tables}
-use Rattle.tables.specs.View.{zero-crisp, no-input, no-output, inputRow, outputRow, pointView, termView, inputView, singletonView, rangeView, defaultView, outputView, inputsView, outputsView, blockView, Holds}
+use Rattle.tables.specs.View.{no-input, pointView, termView, inputView, singletonView, outputView, outputsView, blockView, Holds}
 use Rattle.entries.specs.Changes.{Changes, Typed}
 use Rattle.entries.proofs.Tabs.{tab-from}
-use Rattle.entries.proofs.Views.{term-same, input-same, singleton-same, output-same}
+use Rattle.entries.proofs.Views.{term-same, input-same}
 
 pub typed-none : (old : List Input) (from : ℕ) → length old ≡ 8 → Typed old from from old
 typed-none old from l = record { before = λ i h. refl; within = λ i h k. absurd (omega arith); behind = λ i h k. refl; size = l }
-
-below : (j i : ℕ) → j < i + 1 → (j ≡ i → ⊥) → j < i
-below j i h z = by (ltb j i) refl
-  where
-    by : (t : Bool) → ltb j i ≡ t → j < i
-    by true q = ltb-true j i q
-    by false q = let w = ltb-false j i q in absurd (z (omega arith))
 
 -- one row more
 abbrev pub int-row : Input → Input
@@ -56,7 +45,7 @@ typed-more old new from i d h l = record {
         ap (λ (k : ℕ). getD (set new i (int-row (getD new i no-input))) k no-input) (eqb-true j i q)
         ∙ getD-set-same new i _ no-input (omega (arith, d .size)) ∙ ap int-row (d .behind i h (omega arith))
         ∙ ap (λ (k : ℕ). int-row (getD old k no-input)) (sym (eqb-true j i q))
-    within j a b false q = let z = eqb-false j i q in getD-set-other new i j _ no-input z ∙ d .within j a (below j i b z)
+    within j a b false q = let z = eqb-false j i q in getD-set-other new i j _ no-input z ∙ d .within j a (lt-of-le-ne (omega arith) z)
 
 pub typed-end : (old new : List Input) (from i to : ℕ) → Typed old from i new → (from < i → i ≤ to) → from ≤ i → to ≤ i → Typed old from to new
 typed-end old new from i to d k h l = record {

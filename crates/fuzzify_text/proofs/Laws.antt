@@ -5,7 +5,7 @@ use mathlib.Core.List.{List, [], _∷_, map}
 use Prim.Native.Nat.{ℕ, zero, suc, _+_, _*_, _-_, _≤_, _<_}
 use native.Mathlib.Omega.{arith}
 use borrow.Author.Tests.{eq-eqb, ne-eqb, lt-ltb, le-ltb, lt-leb, le-leb}
-use lib.Dec.{eqb, ltb}
+use lib.Dec.{ltb}
 use lib.IntN.{ℤ}
 use lib.ListN.{length, getD}
 use lib.Signed.{ltZ}
@@ -45,9 +45,6 @@ module _ (t : Tables) (i : ℕ) where
   small s g o = let a = o .input in let b = g .inputCount in let d = g .inputTerms i in let e = o .some in omega arith
 
 -- A POSITION, THE END OF THE POINTS
-pub value-here : {A : Type 0} (w : ℕ) (x v z : A) → x ≡ (if eqb w 0 then v else z) → w ≡ 0 → x ≡ v
-value-here w x v z e h = e ∙ simp (eq-eqb _ _ h)
-
 module _ (s : List ℕ) (c d : Cursor) where
   restep : {f g : Part} → Step f s c d → ((b : Block) (m : ℕ) → f (seen s c b m) ≡ g (seen s c b m)) → Step g s c d
   restep q e = record { reads = λ b m. q .reads b m ∙ e b m; fewer = q .fewer; fits = q .fits; sticky = q .sticky }
@@ -117,15 +114,15 @@ module _ (s : List ℕ) (c : Cursor) (t : Tables) (d : Cursor) (i : ℕ) where
   module _ (x : ℤ) where
     pub degree-bad : (w : ℕ) → w ≡ fault (aUnit (seen s c (blockView s t) 0)) → Holds s t → (w ≡ 0 → ⊥) → Step (refuse w) s c d → Reads (degree i x) s (at c t) (at d t)
     unfolding degree view
-    degree-bad w f g h q = reading.also (reading.step t g q) (sym (judged-bad (view s (at c t)) _ w (aUnit (view s (at c t))) [] (sym f) h))
+    degree-bad w f g h q = reading.refuses (aUnit (view s (at c t))) _ refl w (sym f) h g q
 
     pub degree-good : (u : Tables) (y : ℕ) → 0 ≡ fault (aUnit (seen s c (blockView s t) 0)) → y ≡ unitOf (textOf s c) → Fits s c → (c .kind ≡ 0 → ⊥)
         → Changes s t u (addPoint i (record { at = x; degree = y })) → Step advance s c d → Reads (degree i x) s (at c t) (at d u)
-    unfolding degree judged view numbered
+    unfolding degree view numbered
     degree-good u y f e g k z q =
-        reading.also (reading.next (reading.changes s c t u _ g k z) (reading.step u (z .holds) q))
-        (sym (judged-good (view s (at c t)) _ (aUnit (view s (at c t))) [] refl (sym f)
-        ∙ ap (λ (v : ℕ). advance (change (addPoint i (record { at = x; degree = v })) (view s (at c t)))) (ap unitOf (text-view s (at c t)) ∙ sym e)))
+        reading.passes (aUnit (view s (at c t))) _ refl refl (sym f)
+        (reading.next (reading.changes s c t u _ g k z) (reading.step u (z .holds) q))
+        (ap (λ (v : ℕ). advance (change (addPoint i (record { at = x; degree = v })) (view s (at c t)))) (e ∙ sym (ap unitOf (text-view s (at c t)))))
 
   pub point-none : Holds s t → (c .kind ≡ 40 → ⊥) → Step (refuse 2) s c d → Reads (point i) s (at c t) (at d t)
   unfolding point judged

@@ -18,7 +18,8 @@ pub fn find(
     end: usize,
 ) -> usize
     requires { ⌜ (start ≤ end) × (end ≤ length (now s)) × (from + count ≤ 112) × Placed (now s) (now names) ⌝ }
-    ensures { λ r. ⌜ r ≡ indexOf (sameName (slice start end (now (s .entry)))) (tab (nameOf (now (s .entry)) (now (names .entry))) count from) ⌝ }
+    ensures { λ r. ⌜ r ≡ indexOf (sameName (slice start end (now (s .entry))))
+        (tab (nameOf (now (s .entry)) (now (names .entry))) count from) ⌝ }
     ensures within { λ r. ⌜ r ≤ count ⌝ }
 {
     let n = end - start;

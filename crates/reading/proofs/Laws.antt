@@ -1,12 +1,11 @@
 -- How parts that are read make up a longer part: one after the other, and again and again.
 use mathlib.Core.Path.{_≡_, refl, sym, ap, _∙_}
 use mathlib.Core.Bool.{true, false}
-use mathlib.Core.List.{List, [], _∷_, _++_, append-nil}
-use Prim.Native.Nat.{ℕ, zero, suc, _+_, _-_, _≤_, _<_}
+use mathlib.Core.List.{List, [], _++_, append-nil}
+use Prim.Native.Nat.{ℕ, suc, _-_, _≤_, _<_}
 use native.Mathlib.Omega.{arith}
 use borrow.Author.Tests.{eq-eqb, ne-eqb}
 use lib.ListN.{length}
-use Rattle.model.specs.Basic.{if_then_else_, _▸_}
 use Rattle.model.specs.Block.{Block}
 use Rattle.model.specs.Keywords.{COMMA}
 use Rattle.model.specs.Parse.{Parse, Part, Checks, kind, text, is, refuse, change, advance, judged, expect, repeatOn, repeated, listed}
@@ -62,20 +61,17 @@ changes s c t u f g h q = record {
 }
 
 -- JUDGED: refused by the first check that fails, or what follows
+same-end : (cs : Checks) (r nxt : Parse) → judged cs r nxt ≡ judged (cs ++ []) r nxt
+same-end cs r nxt = ap (λ (l : Checks). judged l r nxt) (sym (append-nil cs))
+
 module _ {part : Part} {s : List ℕ} {c : Cursor} {t : Tables} (cs : Checks) (nxt : Parse) (e : part (view s (at c t)) ≡ judged cs (view s (at c t)) nxt) where
   pub refuses : {d : Cursor} (w : ℕ) → fault cs ≡ w → (w ≡ 0 → ⊥) → Holds s t → Step (refuse w) s c d → Reads part s (at c t) (at d t)
   unfolding judged
-  refuses {d} w f h g q = also (step t g q) (sym (e ∙ same-end ∙ cursor.judged-bad (view s (at c t)) nxt w cs [] f h))
-    where
-      same-end : judged cs (view s (at c t)) nxt ≡ judged (cs ++ []) (view s (at c t)) nxt
-      same-end = ap (λ (l : Checks). judged l (view s (at c t)) nxt) (sym (append-nil cs))
+  refuses {d} w f h g q = also (step t g q) (sym (e ∙ same-end cs (view s (at c t)) nxt ∙ cursor.judged-bad (view s (at c t)) nxt w cs [] f h))
 
   pub passes : {f : Part} {r : Reading} → cursor.numbered cs ≡ true → fault cs ≡ 0 → Reads f s (at c t) r → f (view s (at c t)) ≡ nxt → Reads part s (at c t) r
   unfolding judged
-  passes {f} {r} n z x y = also x (y ∙ sym (e ∙ same-end ∙ cursor.judged-good (view s (at c t)) nxt cs [] n z))
-    where
-      same-end : judged cs (view s (at c t)) nxt ≡ judged (cs ++ []) (view s (at c t)) nxt
-      same-end = ap (λ (l : Checks). judged l (view s (at c t)) nxt) (sym (append-nil cs))
+  passes {f} {r} n z x y = also x (y ∙ sym (e ∙ same-end cs (view s (at c t)) nxt ∙ cursor.judged-good (view s (at c t)) nxt cs [] n z))
 
 -- AGAIN AND AGAIN: some fuel that is enough gives what is asked for
 abbrev pub Runs : ℕ → Part → List ℕ → Reading → Reading → Type 0

@@ -18,7 +18,7 @@ use Rattle.model.specs.declared.Accumulation.{Accumulation}
 use Rattle.model.specs.declared.Accumulation.the-variants.{Max as by-max, Bsum as by-bsum}
 use Rattle.model.specs.Image.{pairOf}
 use Rattle.model.specs.Keywords.{ACT, AND, BSUM, COLON, MAX, MIN, OR, PROD, SEMICOLON}
-use Rattle.model.specs.Parse.{Parse, Part, kind, text, is, refuse, advance, change, judged, expect, aName, named, withRuleBlock, withPair, withAct, withAccu}
+use Rattle.model.specs.Parse.{Parse, Part, kind, text, refuse, advance, change, judged, expect, aName, named, withRuleBlock, withPair, withAct, withAccu}
 use Rattle.model.specs.Rules.{samePair, andPair, orPair, algorithm, algorithmLine, algorithms, activation, activationLine, accumulation}
 use Rattle.cursor.specs.declared.Cursor.{Cursor}
 use Rattle.cursor.specs.View.{seen, textOf, Fits, Step, fault}

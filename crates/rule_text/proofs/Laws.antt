@@ -8,7 +8,7 @@ use borrow.Author.Tests.{eq-eqb, ne-eqb, lt-ltb, le-ltb}
 use lib.Dec.{ltb, eqb}
 use lib.ListN.{length, drop, getD, set, length-append, drop-of-length-le}
 use lib.Seq.{getD-take, drop-cons, sets, length-sets}
-use Rattle.model.specs.Basic.{if_then_else_, all, gather, total, updateLast}
+use Rattle.model.specs.Basic.{if_then_else_, all, gather, total}
 use Rattle.model.specs.Block.{Block, Rule, Condition, Conclusion, size, term, neg, two, inputFirst, outputFirst, termsOf, singletonsOf, conclusions}
 use Rattle.model.specs.Bounds.{M}
 use Rattle.model.specs.Image.{postfix, conclusionWords}
@@ -19,9 +19,10 @@ use Rattle.model.specs.Declarations.{inputOf, outputOf, termOf, singletonOf, is
 use Rattle.model.specs.Rules.{Got, addRule, changeRule, withConclusion, withWeight, ruleNumber, concludedTerm, conclusion, weight, weighted, condition, conditionWith, parenthesis, ruleGiven, ruleFrom, rule}
 use Rattle.cursor.specs.declared.Cursor.{Cursor}
 use Rattle.cursor.specs.View.{seen, textOf, Fits, left, Step, fault}
-use Rattle.cursor.proofs.Laws.{enough, kind-seen, text-seen, block-seen, changed, unchanged, judged-bad, judged-good, numbered, lost-is, lost-expect, lost-judged, lost-repeated}
+use Rattle.cursor.proofs.Laws.{enough, kind-seen, text-seen, block-seen, changed, unchanged, clash, judged-bad, judged-good, numbered, lost-is, lost-expect, lost-judged, lost-repeated}
 use Rattle.tables.specs.declared.Totals.{Totals}
 use Rattle.tables.specs.Stored.{ruleRow}
+use Rattle.tables.proofs.Lists.{updateLast-snoc}
 use Rattle.declared.specs.Book.{Describes, outputCount, termCount, first, among}
 use Rattle.condition_text.specs.Pending.{Adds}
 use Rattle.condition_text.proofs.Laws.{adds, words-put}
@@ -30,12 +31,6 @@ use Rattle.rule_text.specs.declared.Progress.{Progress}
 use Rattle.rule_text.specs.Progress.{Kept, Few, Rows, Concludes, Onward, Goes, Within, holding, midst, gives}
 
 -- LISTS
-last-changed : {A : Type 0} (h : A → A) (xs : List A) (x : A) → updateLast h (xs ++ (x ∷ [])) ≡ xs ++ (h x ∷ [])
-unfolding updateLast
-last-changed h [] x = refl
-last-changed h (y ∷ []) x = refl
-last-changed {A} h (y ∷ z ∷ xs) x = ap (λ (l : List A). y ∷ l) (last-changed h (z ∷ xs) x)
-
 gather-append : {A B : Type 0} (f : A → List B) (xs ys : List A) → gather f (xs ++ ys) ≡ gather f xs ++ gather f ys
 unfolding gather
 gather-append f [] ys = refl
@@ -134,14 +129,14 @@ module _ (s : List ℕ) (c : Cursor) (b : Block) (m : ℕ) where
       where
         by : (t : Bool) → true ≡ not t → (if t then advance now else refuse 4 now) ≡ refuse 4 now
         by false h = refl
-        by true h = absurd (let z : _≡_ {A = ℕ} 0 1 = cc in omega arith)
+        by true h = clash (sym h)
 
     pub number-free : false ≡ not (all (λ q. not (eqb (q .number) x)) (b .rules)) → ruleNumber now ≡ advance now
     number-free h = number-formed ∙ by (all (λ q. not (eqb (q .number) x)) (b .rules)) h
       where
         by : (t : Bool) → false ≡ not t → (if t then advance now else refuse 4 now) ≡ advance now
         by true h = refl
-        by false h = absurd (let z : _≡_ {A = ℕ} 0 1 = cc in omega arith)
+        by false h = clash h
 
 -- WORDS PUT, one by one
 pub two-put : (l : List ℕ) (i a b : ℕ) → set (set l i a) (i + 1) b ≡ sets l i (a ∷ b ∷ [])
@@ -286,7 +281,7 @@ module _ (s names book : List ℕ) (b : Block) (D : Describes s names book b) (r
     unfolding changeRule
     term-known h z =
         term-named ∙ simp (lt-ltb _ _ h)
-        (ap advance (changed s c (midst b rs q) m (changeRule (withConclusion its)) z ∙ ap (λ (l : List Rule). seen s c (holding l b) m) (last-changed (withConclusion its) rs q)))
+        (ap advance (changed s c (midst b rs q) m (changeRule (withConclusion its)) z ∙ ap (λ (l : List Rule). seen s c (holding l b) m) (updateLast-snoc (withConclusion its) rs q)))
 
 -- one conclusion is put
 pub concludes-one : {s : List ℕ} {b : Block} {rs : List Rule} {q : Rule} {d : Cursor} (m o t : ℕ) (p : Concluded) (old : List ℕ) → Step advance s (p .cursor) d
@@ -400,7 +395,7 @@ module _ (s : List ℕ) (b : Block) (rs : List Rule) (q : Rule) (m : ℕ) (c : C
     weight-given w e f x z v =
         let u : unitOf (text (seen s d whole m)) ≡ w = ap unitOf (text-seen s d whole m) ∙ sym v in
         x .reads (midst b rs (withWeight w q)) m
-        ∙ ap advance (sym (changed s d whole m (changeRule (withWeight w)) z ∙ ap (λ (l : List Rule). seen s d (holding l b) m) (last-changed (withWeight w) rs q)))
+        ∙ ap advance (sym (changed s d whole m (changeRule (withWeight w)) z ∙ ap (λ (l : List Rule). seen s d (holding l b) m) (updateLast-snoc (withWeight w) rs q)))
         ∙ ap (λ (y : ℕ). advance (change (changeRule (withWeight y)) (seen s d whole m))) (sym u)
         ∙ sym (weight-follows ∙ judged-good (seen s d whole m) (advance (change (changeRule (withWeight (unitOf (text (seen s d whole m))))) (seen s d whole m))) (aUnit (seen s d whole m)) [] refl (sym f))
 

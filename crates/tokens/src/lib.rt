@@ -162,7 +162,8 @@ fn is_pair(s: &[u8], i: usize, a: u8, b: u8) -> bool
 
 // A point that belongs to a number: a digit follows it.
 fn point_at(s: &[u8], i: usize) -> bool
-    ensures { λ r. ⌜ pointPart (drop i (now (s .entry))) ≡ if r then suc (run isDigit (drop (i + 1) (now (s .entry)))) else 0 ⌝ }
+    ensures { λ r. ⌜ pointPart (drop i (now (s .entry)))
+        ≡ if r then suc (run isDigit (drop (i + 1) (now (s .entry)))) else 0 ⌝ }
     ensures within { λ r. ⌜ (r ≡ true → i < length (now (s .entry))) ⌝ }
 {
     if i < s.len() {
@@ -287,7 +288,8 @@ fn is_signed(rest: &[u8]) -> bool
 // The comment that `(*` opens at the start.
 fn comment_piece(rest: &[u8]) -> Piece
     requires { ⌜ 2 ≤ length (now rest) ⌝ }
-    ensures { λ r. ⌜ pieceOf r ≡ commentPiece (drop 2 (now (rest .entry))) (commentPart (drop 2 (now (rest .entry)))) ⌝ }
+    ensures { λ r. ⌜ pieceOf r
+        ≡ commentPiece (drop 2 (now (rest .entry))) (commentPart (drop 2 (now (rest .entry)))) ⌝ }
     ensures within { λ r. ⌜ (0 < r .kind) × (r .more < length (now (rest .entry))) ⌝ }
 {
     let mut i = 2;
@@ -309,7 +311,8 @@ fn comment_piece(rest: &[u8]) -> Piece
 // The piece at a byte that is neither blank nor of a name nor a digit.
 fn mark_piece(rest: &[u8]) -> Piece
     requires { ⌜ 0 < length (now rest) ⌝ }
-    requires other { ⌜ (isBlank (getD (now rest) 0 0) ≡ false) × (startsName (getD (now rest) 0 0) ≡ false) × (isDigit (getD (now rest) 0 0) ≡ false) ⌝ }
+    requires other { ⌜ (isBlank (getD (now rest) 0 0) ≡ false) × (startsName (getD (now rest) 0 0) ≡ false)
+        × (isDigit (getD (now rest) 0 0) ≡ false) ⌝ }
     ensures { λ r. ⌜ pieceOf r ≡ pieceAt (getD (now (rest .entry)) 0 0) (drop 1 (now (rest .entry))) ⌝ }
     ensures within { λ r. ⌜ (0 < r .kind) × (r .more < length (now (rest .entry))) ⌝ }
 {

@@ -1,7 +1,7 @@
 // The number that stands at the cursor: a crisp value, a degree or weight, a rule number; or by which refusal it is none.
 ghost use mathlib.Core.Path.{_≡_};
 ghost use mathlib.Core.List.{[], _∷_};
-ghost use Prim.Native.Nat.{ℕ, _≤_};
+ghost use Prim.Native.Nat.{ℕ};
 ghost use lib.Dec.{eqb};
 ghost use lib.IntN.{pos};
 ghost use Rattle.model.specs.Basic.{if_then_else_};

@@ -1,15 +1,10 @@
-use mathlib.Core.Path.{_≡_, refl, sym, ap, _∙_}
+use mathlib.Core.Path.{_∙_}
 use native.Mathlib.Omega.{arith}
 use borrow.Author.Needs.{needs}
 use Rattle.block_text.proofs.Laws as laws
 use borrow.Author.Tests.{not-true, not-false}
 use Rattle.block_text.proofs.back.Statement.{statement}
 use Rattle.block_text.proofs.back.Tie as tie
-use Rattle.block_text.proofs.back.Reads as reads
-use Rattle.block_text.proofs.back.Lts as lts
-use Rattle.cursor.proofs.advance.Reads as advance-reads
-use Rattle.cursor.proofs.expect.Reads as expect-reads
-use Rattle.cursor.proofs.refuse.Reads as refuse-reads
 
 expect-requires : tie.Need-expect-requires
 expect-requires c κs = (c .before .pre, omega arith)

@@ -1,11 +1,6 @@
-use mathlib.Core.Path.{_≡_, refl, sym, ap, _∙_}
-use native.Mathlib.Omega.{arith}
-use borrow.Author.Needs.{needs}
 use Rattle.block_text.proofs.Laws as laws
 use Rattle.block_text.proofs.empty_tables.Statement.{statement}
 use Rattle.block_text.proofs.empty_tables.Tie as tie
-use Rattle.block_text.proofs.empty_tables.Reads as reads
-use Rattle.block_text.proofs.empty_tables.Lts as lts
 
 returns : tie.Need-returns
 returns c = (laws.empty-view, laws.empty-holds)

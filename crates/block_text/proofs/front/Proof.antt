@@ -1,20 +1,10 @@
-use mathlib.Core.Path.{_≡_, refl, sym, ap, _∙_}
-use native.Mathlib.Omega.{arith}
+use mathlib.Core.Path.{ap, _∙_}
 use borrow.Author.Needs.{needs}
 use Rattle.block_text.proofs.Laws as laws
 use Rattle.reading.proofs.Laws as reading
 use Rattle.block_text.specs.Block.{frontText}
 use Rattle.block_text.proofs.front.Statement.{statement}
 use Rattle.block_text.proofs.front.Tie as tie
-use Rattle.block_text.proofs.front.Reads as reads
-use Rattle.block_text.proofs.front.Lts as lts
-use Rattle.block_text.proofs.empty_tables.Reads as empty-tables-reads
-use Rattle.block_text.proofs.variables.Reads as variables-reads
-use Rattle.cursor.proofs.begin.Reads as begin-reads
-use Rattle.cursor.proofs.expect.Reads as expect-reads
-use Rattle.declarations.proofs.block_name.Reads as block-name-reads
-use Rattle.defuzzify_text.proofs.defuzzify_parts.Reads as defuzzify-parts-reads
-use Rattle.fuzzify_text.proofs.fuzzify_parts.Reads as fuzzify-parts-reads
 
 begin-requires : tie.Need-begin-requires
 begin-requires c κs = search needs

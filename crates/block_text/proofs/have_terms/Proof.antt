@@ -1,8 +1,7 @@
-use mathlib.Core.Path.{_≡_, refl, sym, ap, _∙_}
-use native.Mathlib.Omega.{arith}
+use mathlib.Core.Path.{_≡_, refl, sym, _∙_}
 use borrow.Author.Needs.{needs}
 use Rattle.block_text.proofs.Laws as laws
-use Prim.Native.Nat.{ℕ, _+_, _-_, _≤_, _<_}
+use Prim.Native.Nat.{_+_, _-_, _≤_}
 use borrow.Author.Tests.{lt-ltb, le-ltb}
 use lib.Dec.{ltb}
 use Rattle.model.specs.Basic.{all}
@@ -12,8 +11,6 @@ use Rattle.declared.specs.Book.{first}
 use Rattle.block_text.specs.Block.{haveTerms}
 use Rattle.block_text.proofs.have_terms.Statement.{statement}
 use Rattle.block_text.proofs.have_terms.Tie as tie
-use Rattle.block_text.proofs.have_terms.Reads as reads
-use Rattle.block_text.proofs.have_terms.Lts as lts
 
 abbrev Inv-loop : tie.InvT-loop
 Inv-loop book v n e k₀ k = (e ≡ v + n) × (e ≤ 14) × (all (λ j. ltb (first book j) (first book (j + 1))) (tab (λ j. j) (e - k) k) ≡ haveTerms book v n)

@@ -1,12 +1,8 @@
-use mathlib.Core.Path.{_≡_, refl, sym, ap, _∙_}
-use native.Mathlib.Omega.{arith}
+use mathlib.Core.Path.{refl, sym, _∙_}
 use borrow.Author.Needs.{needs}
 use Rattle.block_text.proofs.Laws as laws
 use Rattle.block_text.proofs.is_complete.Statement.{statement}
 use Rattle.block_text.proofs.is_complete.Tie as tie
-use Rattle.block_text.proofs.is_complete.Reads as reads
-use Rattle.block_text.proofs.is_complete.Lts as lts
-use Rattle.block_text.proofs.have_terms.Reads as have-terms-reads
 
 element-copy-out-have-terms : tie.Need-element-copy-out-have-terms
 element-copy-out-have-terms c = search needs

@@ -1,17 +1,9 @@
-use mathlib.Core.Path.{_≡_, refl, sym, ap, _∙_}
 use native.Mathlib.Omega.{arith}
-use borrow.Author.Needs.{needs}
-use Rattle.block_text.proofs.Laws as laws
 use Rattle.cursor.proofs.Laws.{steps}
 use Rattle.reading.proofs.Laws as reading
 use Rattle.block_text.specs.Block.{variablesText}
 use Rattle.block_text.proofs.variables.Statement.{statement}
 use Rattle.block_text.proofs.variables.Tie as tie
-use Rattle.block_text.proofs.variables.Reads as reads
-use Rattle.block_text.proofs.variables.Lts as lts
-use Rattle.cursor.proofs.expect.Reads as expect-reads
-use Rattle.declarations.proofs.input_declarations.Reads as input-declarations-reads
-use Rattle.declarations.proofs.output_declarations.Reads as output-declarations-reads
 
 expect-requires : tie.Need-expect-requires
 expect-requires c κs = (c .before .before .pre .fits, omega arith)

@@ -1,12 +1,8 @@
-use mathlib.Core.Path.{_≡_, refl, sym, ap, _∙_}
+use mathlib.Core.Path.{refl, sym}
 use native.Mathlib.Omega.{arith}
-use borrow.Author.Needs.{needs}
-use Rattle.book.proofs.Laws as laws
 use borrow.Author.Tests.{lt-ltb, le-ltb}
 use Rattle.book.proofs.among.Statement.{statement}
 use Rattle.book.proofs.among.Tie as tie
-use Rattle.book.proofs.among.Reads as reads
-use Rattle.book.proofs.among.Lts as lts
 
 returns : tie.Need-returns
 returns c = (sym (simp (lt-ltb _ _ (c .if1 .taken)) refl), omega arith)

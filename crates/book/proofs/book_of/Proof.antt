@@ -1,15 +1,10 @@
-use mathlib.Core.Path.{_≡_, refl, sym, ap, _∙_}
-use native.Mathlib.Omega.{arith}
+use mathlib.Core.Path.{_≡_}
 use borrow.Author.Needs.{needs}
 use Rattle.book.proofs.Laws as laws
 use lib.ListN.{length}
 use Rattle.book.specs.Firsts.{termsAt}
 use Rattle.book.proofs.book_of.Statement.{statement}
 use Rattle.book.proofs.book_of.Tie as tie
-use Rattle.book.proofs.book_of.Reads as reads
-use Rattle.book.proofs.book_of.Lts as lts
-use Rattle.book.proofs.with_inputs.Reads as with-inputs-reads
-use Rattle.book.proofs.with_outputs.Reads as with-outputs-reads
 
 with-inputs-requires : tie.Need-with-inputs-requires
 with-inputs-requires c κs = search needs

@@ -1,19 +1,16 @@
-use mathlib.Core.Path.{_≡_, refl, sym, ap, _∙_}
+use mathlib.Core.Path.{_≡_, sym, _∙_}
 use native.Mathlib.Omega.{arith}
 use borrow.Author.Needs.{needs}
 use Rattle.book.proofs.Laws as laws
-use Prim.Native.Nat.{ℕ, _+_, _*_, _-_, _≤_, _<_}
+use Prim.Native.Nat.{ℕ, _*_, _-_, _≤_, _<_}
 use lib.Dec.{ltb}
-use lib.ListN.{length, getD, set, length-set}
+use lib.ListN.{length, getD, length-set}
 use Rattle.model.specs.Basic.{if_then_else_}
-use Rattle.tables.specs.View.{no-input, no-output}
+use Rattle.tables.specs.View.{no-input}
 use Rattle.book.specs.Firsts.{Firsts}
 use Rattle.book.proofs.Sums as sums
 use Rattle.book.proofs.with_inputs.Statement.{statement}
 use Rattle.book.proofs.with_inputs.Tie as tie
-use Rattle.book.proofs.with_inputs.Reads as reads
-use Rattle.book.proofs.with_inputs.Lts as lts
-use Rattle.book.proofs.among.Reads as among-reads
 
 abbrev Inv-loop : tie.InvT-loop
 Inv-loop n rows r₀ i₀ r i = (i ≤ 8) × (length r ≡ 17) × (getD r i 0 ≤ i * 7) × ((k : ℕ) → getD rows k no-input .terms ≤ 7) × ((c : ℕ → ℕ) → ((i : ℕ) → i < 8 → c i ≡ (if ltb i n then getD rows i no-input .terms else 0)) → Firsts c i r)

@@ -1,19 +1,15 @@
-use mathlib.Core.Path.{_≡_, refl, sym, ap, _∙_}
+use mathlib.Core.Path.{_≡_, sym, _∙_}
 use native.Mathlib.Omega.{arith}
 use borrow.Author.Needs.{needs}
 use Rattle.book.proofs.Laws as laws
 use Prim.Native.Nat.{ℕ, _+_, _*_, _-_, _≤_, _<_}
 use lib.Dec.{ltb}
-use lib.ListN.{length, getD, set, length-set}
+use lib.ListN.{length, getD, length-set}
 use Rattle.model.specs.Basic.{if_then_else_}
-use Rattle.tables.specs.View.{no-input, no-output}
+use Rattle.tables.specs.View.{no-output}
 use Rattle.book.specs.Firsts.{Firsts}
-use Rattle.book.proofs.Sums as sums
 use Rattle.book.proofs.with_outputs.Statement.{statement}
 use Rattle.book.proofs.with_outputs.Tie as tie
-use Rattle.book.proofs.with_outputs.Reads as reads
-use Rattle.book.proofs.with_outputs.Lts as lts
-use Rattle.book.proofs.among.Reads as among-reads
 
 abbrev Inv-loop : tie.InvT-loop
 Inv-loop n rows r₀ i₀ r i = (i ≤ 6) × (length r ≡ 17) × (getD r (8 + i) 0 ≤ 56 + i * 7) × ((k : ℕ) → getD rows k no-output .terms ≤ 7) × ((c : ℕ → ℕ) → Firsts c 8 r₀ → ((i : ℕ) → i < 6 → c (8 + i) ≡ (if ltb i n then getD rows i no-output .terms else 0)) → Firsts c (8 + i) r)

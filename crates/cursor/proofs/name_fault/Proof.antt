@@ -1,8 +1,8 @@
-use mathlib.Core.Path.{_≡_, refl, sym, ap, _∙_}
+use mathlib.Core.Path.{refl}
 use native.Mathlib.Omega.{arith}
 use borrow.Author.Tests.{eq-eqb, ne-eqb, le-leb, lt-leb}
 use borrow.Author.Needs.{needs}
-use Rattle.cursor.specs.View.{seen, fault, Step}
+use Rattle.cursor.specs.View.{fault}
 use Rattle.cursor.proofs.Laws as laws
 use Rattle.cursor.proofs.name_fault.Statement.{statement}
 use Rattle.cursor.proofs.name_fault.Tie as tie

@@ -1,8 +1,4 @@
-use mathlib.Core.Path.{_≡_, refl, sym, ap, _∙_}
 use native.Mathlib.Omega.{arith}
-use borrow.Author.Tests.{eq-eqb, ne-eqb, le-leb, lt-leb}
-use borrow.Author.Needs.{needs}
-use Rattle.cursor.specs.View.{seen, fault, Step}
 use Rattle.cursor.proofs.Laws as laws
 use Rattle.cursor.proofs.refuse.Statement.{statement}
 use Rattle.cursor.proofs.refuse.Tie as tie

@@ -1,15 +1,9 @@
-use mathlib.Core.Path.{_≡_, refl, sym, ap, _∙_}
+use mathlib.Core.Path.{sym, _∙_}
 use native.Mathlib.Omega.{arith}
 use Rattle.declarations.proofs.Laws as laws
 use borrow.Author.Needs.{needs}
 use Rattle.declarations.proofs.block_name.Statement.{statement}
 use Rattle.declarations.proofs.block_name.Tie as tie
-use Rattle.declarations.proofs.block_name.Reads as reads
-use Rattle.declarations.proofs.block_name.Lts as lts
-use Rattle.cursor.proofs.advance.Reads as advance-reads
-use Rattle.cursor.proofs.name_fault.Reads as name-fault-reads
-use Rattle.cursor.proofs.refuse.Reads as refuse-reads
-use Rattle.entries.proofs.set_name.Reads as set-name-reads
 
 name-fault-requires : tie.Need-name-fault-requires
 name-fault-requires c κs = search needs

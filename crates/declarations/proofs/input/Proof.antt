@@ -1,18 +1,11 @@
-use mathlib.Core.Path.{_≡_, refl, sym, ap, _∙_}
 use native.Mathlib.Omega.{arith}
 use Rattle.declarations.proofs.Laws as laws
 use borrow.Author.Tests.{ltb-true}
-use Rattle.model.specs.Bounds.{inputLimit, outputLimit}
-use Rattle.model.specs.Declarations.{addInput, addOutput, inputCount, outputCount}
+use Rattle.model.specs.Bounds.{inputLimit}
+use Rattle.model.specs.Declarations.{addInput, inputCount}
 use borrow.Author.Needs.{needs}
 use Rattle.declarations.proofs.input.Statement.{statement}
 use Rattle.declarations.proofs.input.Tie as tie
-use Rattle.declarations.proofs.input.Reads as reads
-use Rattle.declarations.proofs.input.Lts as lts
-use Rattle.cursor.proofs.advance.Reads as advance-reads
-use Rattle.cursor.proofs.refuse.Reads as refuse-reads
-use Rattle.declarations.proofs.new_fault.Reads as new-fault-reads
-use Rattle.entries.proofs.add_input.Reads as add-input-reads
 
 new-fault-requires : tie.Need-new-fault-requires
 new-fault-requires c κs = search needs

@@ -1,17 +1,9 @@
-use mathlib.Core.Path.{_≡_, refl, sym, ap, _∙_}
 use native.Mathlib.Omega.{arith}
 use Rattle.declarations.proofs.Laws as laws
-use Rattle.model.specs.Declarations.{inputDeclaration, outputDeclaration}
-use Rattle.cursor.specs.View.{left}
 use Rattle.reading.proofs.Laws as reading
 use borrow.Author.Needs.{needs}
 use Rattle.declarations.proofs.input_declaration.Statement.{statement}
 use Rattle.declarations.proofs.input_declaration.Tie as tie
-use Rattle.declarations.proofs.input_declaration.Reads as reads
-use Rattle.declarations.proofs.input_declaration.Lts as lts
-use Rattle.cursor.proofs.expect.Reads as expect-reads
-use Rattle.declarations.proofs.input_type.Reads as input-type-reads
-use Rattle.declarations.proofs.inputs.Reads as inputs-reads
 
 inputs-requires : tie.Need-inputs-requires
 inputs-requires c κs = search needs

@@ -1,15 +1,9 @@
-use borrow.Author.Needs.{needs}
-use mathlib.Core.Path.{_≡_, refl, sym, ap, _∙_}
 use native.Mathlib.Omega.{arith}
-use Rattle.declarations.proofs.Laws as laws
-use Rattle.model.specs.Declarations.{inputDeclaration, outputDeclaration}
+use Rattle.model.specs.Declarations.{inputDeclaration}
 use Rattle.cursor.specs.View.{left}
 use Rattle.reading.proofs.Laws as reading
 use Rattle.declarations.proofs.input_declarations.Statement.{statement}
 use Rattle.declarations.proofs.input_declarations.Tie as tie
-use Rattle.declarations.proofs.input_declarations.Reads as reads
-use Rattle.declarations.proofs.input_declarations.Lts as lts
-use Rattle.declarations.proofs.input_declaration.Reads as input-declaration-reads
 
 abbrev Inv-loop : tie.InvT-loop
 Inv-loop s q₀ q = reading.Going 2 inputDeclaration s q₀ q

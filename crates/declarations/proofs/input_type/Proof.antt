@@ -1,14 +1,7 @@
-use mathlib.Core.Path.{_≡_, refl, sym, ap, _∙_}
-use native.Mathlib.Omega.{arith}
 use Rattle.declarations.proofs.Laws as laws
 use borrow.Author.Needs.{needs}
 use Rattle.declarations.proofs.input_type.Statement.{statement}
 use Rattle.declarations.proofs.input_type.Tie as tie
-use Rattle.declarations.proofs.input_type.Reads as reads
-use Rattle.declarations.proofs.input_type.Lts as lts
-use Rattle.cursor.proofs.advance.Reads as advance-reads
-use Rattle.cursor.proofs.expect.Reads as expect-reads
-use Rattle.entries.proofs.set_int.Reads as set-int-reads
 
 set-int-requires : tie.Need-set-int-requires
 set-int-requires c κs = search needs

@@ -1,17 +1,10 @@
-use borrow.Author.Needs.{needs}
-use mathlib.Core.Path.{_≡_, refl, sym, ap, _∙_}
 use native.Mathlib.Omega.{arith}
-use Rattle.declarations.proofs.Laws as laws
-use Rattle.model.specs.Bounds.{inputLimit, outputLimit}
-use Rattle.model.specs.Declarations.{variable, addInput, addOutput, inputCount, outputCount}
+use Rattle.model.specs.Bounds.{inputLimit}
+use Rattle.model.specs.Declarations.{variable, addInput, inputCount}
 use Rattle.cursor.specs.View.{left}
 use Rattle.reading.proofs.Laws as reading
 use Rattle.declarations.proofs.inputs.Statement.{statement}
 use Rattle.declarations.proofs.inputs.Tie as tie
-use Rattle.declarations.proofs.inputs.Reads as reads
-use Rattle.declarations.proofs.inputs.Lts as lts
-use Rattle.cursor.proofs.advance.Reads as advance-reads
-use Rattle.declarations.proofs.input.Reads as input-reads
 
 abbrev Inv-loop : tie.InvT-loop
 Inv-loop s q₀ q = reading.Going 44 (reading.again (variable addInput inputCount inputLimit) s) s q₀ q

@@ -1,14 +1,10 @@
-use mathlib.Core.Path.{_≡_, refl, sym, ap, _∙_}
+use mathlib.Core.Path.{sym, _∙_}
 use native.Mathlib.Omega.{arith}
 use Rattle.declarations.proofs.Laws as laws
 use mathlib.Core.Bool.{true, false}
 use borrow.Author.Needs.{needs}
 use Rattle.declarations.proofs.new_fault.Statement.{statement}
 use Rattle.declarations.proofs.new_fault.Tie as tie
-use Rattle.declarations.proofs.new_fault.Reads as reads
-use Rattle.declarations.proofs.new_fault.Lts as lts
-use Rattle.cursor.proofs.name_fault.Reads as name-fault-reads
-use Rattle.lookup.proofs.find.Reads as find-reads
 
 name-fault-requires : tie.Need-name-fault-requires
 name-fault-requires c κs = search needs

@@ -1,17 +1,11 @@
-use mathlib.Core.Path.{_≡_, refl, sym, ap, _∙_}
+use mathlib.Core.Path.{refl}
 use native.Mathlib.Omega.{arith}
-use Rattle.declarations.proofs.Laws as laws
-use Rattle.model.specs.Declarations.{inputDeclaration, outputDeclaration}
-use Rattle.cursor.specs.View.{left}
+use Rattle.model.specs.Declarations.{outputDeclaration}
 use Rattle.reading.proofs.Laws as reading
 use Rattle.cursor.proofs.Laws.{steps}
 use borrow.Author.Needs.{needs}
 use Rattle.declarations.proofs.output_declaration.Statement.{statement}
 use Rattle.declarations.proofs.output_declaration.Tie as tie
-use Rattle.declarations.proofs.output_declaration.Reads as reads
-use Rattle.declarations.proofs.output_declaration.Lts as lts
-use Rattle.cursor.proofs.expect.Reads as expect-reads
-use Rattle.declarations.proofs.outputs.Reads as outputs-reads
 
 outputs-requires : tie.Need-outputs-requires
 outputs-requires c κs = search needs

@@ -1,17 +1,10 @@
-use borrow.Author.Needs.{needs}
-use mathlib.Core.Path.{_≡_, refl, sym, ap, _∙_}
 use native.Mathlib.Omega.{arith}
-use Rattle.declarations.proofs.Laws as laws
-use Rattle.model.specs.Bounds.{inputLimit, outputLimit}
-use Rattle.model.specs.Declarations.{variable, addInput, addOutput, inputCount, outputCount}
+use Rattle.model.specs.Bounds.{outputLimit}
+use Rattle.model.specs.Declarations.{variable, addOutput, outputCount}
 use Rattle.cursor.specs.View.{left}
 use Rattle.reading.proofs.Laws as reading
 use Rattle.declarations.proofs.outputs.Statement.{statement}
 use Rattle.declarations.proofs.outputs.Tie as tie
-use Rattle.declarations.proofs.outputs.Reads as reads
-use Rattle.declarations.proofs.outputs.Lts as lts
-use Rattle.cursor.proofs.advance.Reads as advance-reads
-use Rattle.declarations.proofs.output.Reads as output-reads
 
 abbrev Inv-loop : tie.InvT-loop
 Inv-loop s q₀ q = reading.Going 44 (reading.again (variable addOutput outputCount outputLimit) s) s q₀ q

@@ -1,17 +1,10 @@
-use mathlib.Core.Path.{_≡_, refl, sym, ap, _∙_}
+use mathlib.Core.Path.{sym, _∙_}
 use native.Mathlib.Omega.{arith}
 use borrow.Author.Needs.{needs}
 use Rattle.defuzzify_text.proofs.Laws as laws
-use lib.Seq.{slice}
-use Rattle.model.specs.Declarations.{withSingleton, withDefault}
+use Rattle.model.specs.Declarations.{withDefault}
 use Rattle.defuzzify_text.proofs.default_number.Statement.{statement}
 use Rattle.defuzzify_text.proofs.default_number.Tie as tie
-use Rattle.defuzzify_text.proofs.default_number.Reads as reads
-use Rattle.defuzzify_text.proofs.default_number.Lts as lts
-use Rattle.cursor.proofs.advance.Reads as advance-reads
-use Rattle.cursor.proofs.refuse.Reads as refuse-reads
-use Rattle.defuzzify_text.proofs.figure_here.Reads as figure-here-reads
-use Rattle.entries.proofs.set_default.Reads as set-default-reads
 
 mul-v : tie.Need-mul-v
 mul-v c = search needs

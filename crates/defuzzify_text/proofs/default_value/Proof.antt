@@ -1,13 +1,7 @@
-use mathlib.Core.Path.{_≡_, refl, sym, ap, _∙_}
 use native.Mathlib.Omega.{arith}
-use borrow.Author.Needs.{needs}
 use Rattle.defuzzify_text.proofs.Laws as laws
 use Rattle.defuzzify_text.proofs.default_value.Statement.{statement}
 use Rattle.defuzzify_text.proofs.default_value.Tie as tie
-use Rattle.defuzzify_text.proofs.default_value.Reads as reads
-use Rattle.defuzzify_text.proofs.default_value.Lts as lts
-use Rattle.cursor.proofs.advance.Reads as advance-reads
-use Rattle.defuzzify_text.proofs.default_number.Reads as default-number-reads
 
 default-number-requires : tie.Need-default-number-requires
 default-number-requires c κs = c .before .before .before .before .pre

@@ -1,16 +1,9 @@
-use mathlib.Core.Path.{_≡_, refl, sym, ap, _∙_}
+use mathlib.Core.Path.{sym, _∙_}
 use native.Mathlib.Omega.{arith}
 use borrow.Author.Needs.{needs}
 use Rattle.defuzzify_text.proofs.Laws as laws
 use Rattle.defuzzify_text.proofs.defuzzify_named.Statement.{statement}
 use Rattle.defuzzify_text.proofs.defuzzify_named.Tie as tie
-use Rattle.defuzzify_text.proofs.defuzzify_named.Reads as reads
-use Rattle.defuzzify_text.proofs.defuzzify_named.Lts as lts
-use Rattle.cursor.proofs.advance.Reads as advance-reads
-use Rattle.cursor.proofs.name_fault.Reads as name-fault-reads
-use Rattle.cursor.proofs.refuse.Reads as refuse-reads
-use Rattle.defuzzify_text.proofs.output_part.Reads as output-part-reads
-use Rattle.lookup.proofs.find.Reads as find-reads
 
 name-fault-requires : tie.Need-name-fault-requires
 name-fault-requires c κs = c .before .before .before .pre .fits .order

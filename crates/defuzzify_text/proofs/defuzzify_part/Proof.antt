@@ -1,15 +1,8 @@
-use mathlib.Core.Path.{_≡_, refl, sym, ap, _∙_}
 use native.Mathlib.Omega.{arith}
-use borrow.Author.Needs.{needs}
-use Rattle.defuzzify_text.proofs.Laws as laws
 use Rattle.reading.proofs.Laws as reading
 use Rattle.model.specs.Declarations.{defuzzify}
 use Rattle.defuzzify_text.proofs.defuzzify_part.Statement.{statement}
 use Rattle.defuzzify_text.proofs.defuzzify_part.Tie as tie
-use Rattle.defuzzify_text.proofs.defuzzify_part.Reads as reads
-use Rattle.defuzzify_text.proofs.defuzzify_part.Lts as lts
-use Rattle.cursor.proofs.expect.Reads as expect-reads
-use Rattle.defuzzify_text.proofs.defuzzify_named.Reads as defuzzify-named-reads
 
 expect-requires : tie.Need-expect-requires
 expect-requires c κs = (c .before .before .pre .fits, omega arith)

@@ -1,15 +1,9 @@
-use mathlib.Core.Path.{_≡_, refl, sym, ap, _∙_}
 use native.Mathlib.Omega.{arith}
-use borrow.Author.Needs.{needs}
-use Rattle.defuzzify_text.proofs.Laws as laws
 use Rattle.model.specs.Declarations.{defuzzify}
 use Rattle.cursor.specs.View.{left}
 use Rattle.reading.proofs.Laws as reading
 use Rattle.defuzzify_text.proofs.defuzzify_parts.Statement.{statement}
 use Rattle.defuzzify_text.proofs.defuzzify_parts.Tie as tie
-use Rattle.defuzzify_text.proofs.defuzzify_parts.Reads as reads
-use Rattle.defuzzify_text.proofs.defuzzify_parts.Lts as lts
-use Rattle.defuzzify_text.proofs.defuzzify_part.Reads as defuzzify-part-reads
 
 abbrev Inv-loop : tie.InvT-loop
 Inv-loop s q₀ q = reading.Going 138 defuzzify s q₀ q

@@ -1,14 +1,11 @@
-use mathlib.Core.Path.{_≡_, refl, sym, ap, _∙_}
+use mathlib.Core.Path.{sym, _∙_}
 use native.Mathlib.Omega.{arith}
 use borrow.Author.Needs.{needs}
+use Rattle.values.proofs.Laws.{value-here}
 use Rattle.defuzzify_text.proofs.Laws as laws
 use mathlib.Core.Bool.{true, false}
 use Rattle.defuzzify_text.proofs.figure_here.Statement.{statement}
 use Rattle.defuzzify_text.proofs.figure_here.Tie as tie
-use Rattle.defuzzify_text.proofs.figure_here.Reads as reads
-use Rattle.defuzzify_text.proofs.figure_here.Lts as lts
-use Rattle.defuzzify_text.proofs.inside.Reads as inside-reads
-use Rattle.values.proofs.crisp_here.Reads as crisp-here-reads
 
 crisp-here-requires : tie.Need-crisp-here-requires
 crisp-here-requires c κs = c .before .pre
@@ -23,12 +20,12 @@ inside-requires c κs = search needs
 returns-2 : tie.Need-returns-2
 returns-2 c = let e = c .before .before .before .before .before .crisp-here .ensures in
     let z = c .before .before .before .if1 .left in
-    ((λ b n. z ∙ sym (laws.figure-judged (c .before .before .before .before .before .before .before .args .s .now) (c .before .before .before .before .before .before .before .args .c) b n (c .before .before .before .before .before .before .before .args .v) _ true (sym z ∙ e .0 b n) (laws.value-is _ z _ _ (e .1 .0)) (sym (c .before .inside .ensures) ∙ c .if2 .taken))), λ h. (e .1 .1 z, laws.value-is _ z _ _ (e .1 .0)))
+    ((λ b n. z ∙ sym (laws.figure-judged (c .before .before .before .before .before .before .before .args .s .now) (c .before .before .before .before .before .before .before .args .c) b n (c .before .before .before .before .before .before .before .args .v) _ true (sym z ∙ e .0 b n) (value-here _ _ _ _ (e .1 .0) z) (sym (c .before .inside .ensures) ∙ c .if2 .taken))), λ h. (e .1 .1 z, value-here _ _ _ _ (e .1 .0) z))
 
 returns-3 : tie.Need-returns-3
 returns-3 c = let e = c .before .before .before .before .before .crisp-here .ensures in
     let z = c .before .before .before .if1 .left in
-    ((λ b n. sym (laws.figure-judged (c .before .before .before .before .before .before .before .args .s .now) (c .before .before .before .before .before .before .before .args .c) b n (c .before .before .before .before .before .before .before .args .v) _ false (sym z ∙ e .0 b n) (laws.value-is _ z _ _ (e .1 .0)) (sym (c .before .inside .ensures) ∙ c .if2 .left))), λ h. absurd (omega arith))
+    ((λ b n. sym (laws.figure-judged (c .before .before .before .before .before .before .before .args .s .now) (c .before .before .before .before .before .before .before .args .c) b n (c .before .before .before .before .before .before .before .args .v) _ false (sym z ∙ e .0 b n) (value-here _ _ _ _ (e .1 .0) z) (sym (c .before .inside .ensures) ∙ c .if2 .left))), λ h. absurd (omega arith))
 
 pub figure-here-spec : {M : Type 1} → statement M
 figure-here-spec =

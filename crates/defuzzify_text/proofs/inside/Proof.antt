@@ -1,12 +1,8 @@
-use mathlib.Core.Path.{_≡_, refl, sym, ap, _∙_}
-use native.Mathlib.Omega.{arith}
+use mathlib.Core.Path.{refl, sym, _∙_}
 use borrow.Author.Needs.{needs}
 use Rattle.defuzzify_text.proofs.Laws as laws
 use Rattle.defuzzify_text.proofs.inside.Statement.{statement}
 use Rattle.defuzzify_text.proofs.inside.Tie as tie
-use Rattle.defuzzify_text.proofs.inside.Reads as reads
-use Rattle.defuzzify_text.proofs.inside.Lts as lts
-use Rattle.crisp.proofs.not_above.Reads as not-above-reads
 
 not-above-requires : tie.Need-not-above-requires
 not-above-requires c κs = search needs

@@ -1,14 +1,8 @@
-use mathlib.Core.Path.{_≡_, refl, sym, ap, _∙_}
 use native.Mathlib.Omega.{arith}
-use borrow.Author.Needs.{needs}
-use Rattle.defuzzify_text.proofs.Laws as laws
 use Rattle.cursor.proofs.Laws.{steps}
 use Rattle.defuzzify_text.specs.Output.{methodText}
 use Rattle.defuzzify_text.proofs.method.Statement.{statement}
 use Rattle.defuzzify_text.proofs.method.Tie as tie
-use Rattle.defuzzify_text.proofs.method.Reads as reads
-use Rattle.defuzzify_text.proofs.method.Lts as lts
-use Rattle.cursor.proofs.expect.Reads as expect-reads
 
 expect-requires : tie.Need-expect-requires
 expect-requires c κs = (c .before .pre, omega arith)

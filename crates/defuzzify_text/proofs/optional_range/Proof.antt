@@ -1,15 +1,8 @@
-use mathlib.Core.Path.{_≡_, refl, sym, ap, _∙_}
 use native.Mathlib.Omega.{arith}
-use borrow.Author.Needs.{needs}
 use Rattle.defuzzify_text.proofs.Laws as laws
 use Rattle.cursor.proofs.Laws.{steps}
 use Rattle.defuzzify_text.proofs.optional_range.Statement.{statement}
 use Rattle.defuzzify_text.proofs.optional_range.Tie as tie
-use Rattle.defuzzify_text.proofs.optional_range.Reads as reads
-use Rattle.defuzzify_text.proofs.optional_range.Lts as lts
-use Rattle.cursor.proofs.advance.Reads as advance-reads
-use Rattle.cursor.proofs.expect.Reads as expect-reads
-use Rattle.defuzzify_text.proofs.range_from.Reads as range-from-reads
 
 returns : tie.Need-returns
 returns c = let a = c .before .before .before .before .args in

@@ -1,19 +1,9 @@
-use mathlib.Core.Path.{_≡_, refl, sym, ap, _∙_}
 use native.Mathlib.Omega.{arith}
-use borrow.Author.Needs.{needs}
-use Rattle.defuzzify_text.proofs.Laws as laws
 use Rattle.cursor.proofs.Laws.{steps}
 use Rattle.reading.proofs.Laws as reading
 use Rattle.defuzzify_text.specs.Output.{partText}
 use Rattle.defuzzify_text.proofs.output_part.Statement.{statement}
 use Rattle.defuzzify_text.proofs.output_part.Tie as tie
-use Rattle.defuzzify_text.proofs.output_part.Reads as reads
-use Rattle.defuzzify_text.proofs.output_part.Lts as lts
-use Rattle.cursor.proofs.expect.Reads as expect-reads
-use Rattle.defuzzify_text.proofs.default_value.Reads as default-value-reads
-use Rattle.defuzzify_text.proofs.method.Reads as method-reads
-use Rattle.defuzzify_text.proofs.optional_range.Reads as optional-range-reads
-use Rattle.defuzzify_text.proofs.output_terms.Reads as output-terms-reads
 
 optional-range-requires : tie.Need-optional-range-requires
 optional-range-requires c κs = c .before .pre

@@ -1,14 +1,8 @@
-use mathlib.Core.Path.{_≡_, refl, sym, ap, _∙_}
 use native.Mathlib.Omega.{arith}
 use borrow.Author.Needs.{needs}
 use Rattle.defuzzify_text.proofs.Laws as laws
 use Rattle.defuzzify_text.proofs.output_term.Statement.{statement}
 use Rattle.defuzzify_text.proofs.output_term.Tie as tie
-use Rattle.defuzzify_text.proofs.output_term.Reads as reads
-use Rattle.defuzzify_text.proofs.output_term.Lts as lts
-use Rattle.cursor.proofs.advance.Reads as advance-reads
-use Rattle.cursor.proofs.refuse.Reads as refuse-reads
-use Rattle.defuzzify_text.proofs.singleton_named.Reads as singleton-named-reads
 
 refuse-requires : tie.Need-refuse-requires
 refuse-requires c κs = search needs

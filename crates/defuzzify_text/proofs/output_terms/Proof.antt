@@ -1,15 +1,10 @@
-use mathlib.Core.Path.{_≡_, refl, sym, ap, _∙_}
+use mathlib.Core.Path.{_≡_, refl, _∙_}
 use native.Mathlib.Omega.{arith}
-use borrow.Author.Needs.{needs}
-use Rattle.defuzzify_text.proofs.Laws as laws
 use Rattle.model.specs.Declarations.{outputTerm}
 use Rattle.cursor.specs.View.{left}
 use Rattle.reading.proofs.Laws as reading
 use Rattle.defuzzify_text.proofs.output_terms.Statement.{statement}
 use Rattle.defuzzify_text.proofs.output_terms.Tie as tie
-use Rattle.defuzzify_text.proofs.output_terms.Reads as reads
-use Rattle.defuzzify_text.proofs.output_terms.Lts as lts
-use Rattle.defuzzify_text.proofs.output_term.Reads as output-term-reads
 
 abbrev Inv-loop : tie.InvT-loop
 Inv-loop s o q₀ q = reading.Going 163 (outputTerm o) s q₀ q × (q .tables .«output_count» ≡ q₀ .tables .«output_count»)

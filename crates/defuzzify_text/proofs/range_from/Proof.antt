@@ -1,18 +1,12 @@
-use mathlib.Core.Path.{_≡_, refl, sym, ap, _∙_}
+use mathlib.Core.Path.{sym, _∙_}
 use native.Mathlib.Omega.{arith}
 use borrow.Author.Needs.{needs}
+use Rattle.values.proofs.Laws.{value-here}
 use Rattle.defuzzify_text.proofs.Laws as laws
 use Rattle.cursor.proofs.Laws.{steps}
 use Rattle.reading.proofs.Laws as reading
 use Rattle.defuzzify_text.proofs.range_from.Statement.{statement}
 use Rattle.defuzzify_text.proofs.range_from.Tie as tie
-use Rattle.defuzzify_text.proofs.range_from.Reads as reads
-use Rattle.defuzzify_text.proofs.range_from.Lts as lts
-use Rattle.cursor.proofs.advance.Reads as advance-reads
-use Rattle.cursor.proofs.expect.Reads as expect-reads
-use Rattle.cursor.proofs.refuse.Reads as refuse-reads
-use Rattle.defuzzify_text.proofs.upper_end.Reads as upper-end-reads
-use Rattle.values.proofs.crisp_here.Reads as crisp-here-reads
 
 crisp-here-requires : tie.Need-crisp-here-requires
 crisp-here-requires c κs = c .before .before .pre .0 .fits
@@ -48,7 +42,7 @@ returns-2 c = let a = c .before .before .before .before .before .before .before 
     let u = c .before .before .before .upper-end .ensures in
     record {
       reads = reading.also (reading.next (reading.next (reading.next (laws.is-crisp (a .s .now) (a .p .cursor) (c .before .before .before .before .before .advance .result) (a .p .tables) (a .o) (sym z ∙ e .0 _ 0) (g .0 .holds) (c .before .before .before .before .before .advance .ensures .0)) (reading.step _ (g .0 .holds) (c .before .before .before .before .expect .ensures .0))) (u .reads)) (reading.step _ (u .reads .good .holds) (steps (c .before .expect2 .ensures .0) (c .expect3 .ensures .0))))
-          (laws.range-is (a .s .now) (a .p) (a .o) _ (laws.value-is _ z _ _ (e .1 .0)));
+          (laws.range-is (a .s .now) (a .p) (a .o) _ (value-here _ _ _ _ (e .1 .0) z));
       count = u .count;
     }
 

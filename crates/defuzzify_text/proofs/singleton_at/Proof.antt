@@ -1,17 +1,11 @@
-use mathlib.Core.Path.{_≡_, refl, sym, ap, _∙_}
+use mathlib.Core.Path.{sym, _∙_}
 use native.Mathlib.Omega.{arith}
 use borrow.Author.Needs.{needs}
 use Rattle.defuzzify_text.proofs.Laws as laws
 use lib.Seq.{slice}
-use Rattle.model.specs.Declarations.{withSingleton, withDefault}
+use Rattle.model.specs.Declarations.{withSingleton}
 use Rattle.defuzzify_text.proofs.singleton_at.Statement.{statement}
 use Rattle.defuzzify_text.proofs.singleton_at.Tie as tie
-use Rattle.defuzzify_text.proofs.singleton_at.Reads as reads
-use Rattle.defuzzify_text.proofs.singleton_at.Lts as lts
-use Rattle.cursor.proofs.advance.Reads as advance-reads
-use Rattle.cursor.proofs.refuse.Reads as refuse-reads
-use Rattle.defuzzify_text.proofs.figure_here.Reads as figure-here-reads
-use Rattle.entries.proofs.add_singleton.Reads as add-singleton-reads
 
 mul-v : tie.Need-mul-v
 mul-v c = search needs

@@ -1,4 +1,4 @@
-use mathlib.Core.Path.{_≡_, refl, sym, ap, _∙_}
+use mathlib.Core.Path.{sym, _∙_}
 use native.Mathlib.Omega.{arith}
 use borrow.Author.Needs.{needs}
 use Rattle.defuzzify_text.proofs.Laws as laws
@@ -6,13 +6,6 @@ use Rattle.cursor.proofs.Laws.{steps}
 use Rattle.reading.proofs.Laws as reading
 use Rattle.defuzzify_text.proofs.singleton_named.Statement.{statement}
 use Rattle.defuzzify_text.proofs.singleton_named.Tie as tie
-use Rattle.defuzzify_text.proofs.singleton_named.Reads as reads
-use Rattle.defuzzify_text.proofs.singleton_named.Lts as lts
-use Rattle.cursor.proofs.advance.Reads as advance-reads
-use Rattle.cursor.proofs.expect.Reads as expect-reads
-use Rattle.cursor.proofs.refuse.Reads as refuse-reads
-use Rattle.defuzzify_text.proofs.singleton_at.Reads as singleton-at-reads
-use Rattle.defuzzify_text.proofs.term_fault.Reads as term-fault-reads
 
 mul-v : tie.Need-mul-v
 mul-v c = search needs

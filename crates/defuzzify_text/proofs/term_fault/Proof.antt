@@ -1,4 +1,4 @@
-use mathlib.Core.Path.{_≡_, refl, sym, ap, _∙_}
+use mathlib.Core.Path.{sym, _∙_}
 use native.Mathlib.Omega.{arith}
 use borrow.Author.Needs.{needs}
 use Rattle.defuzzify_text.proofs.Laws as laws
@@ -6,10 +6,6 @@ use mathlib.Core.Bool.{true, false}
 use borrow.Author.Tests.{lt-ltb, le-ltb}
 use Rattle.defuzzify_text.proofs.term_fault.Statement.{statement}
 use Rattle.defuzzify_text.proofs.term_fault.Tie as tie
-use Rattle.defuzzify_text.proofs.term_fault.Reads as reads
-use Rattle.defuzzify_text.proofs.term_fault.Lts as lts
-use Rattle.cursor.proofs.name_fault.Reads as name-fault-reads
-use Rattle.lookup.proofs.find.Reads as find-reads
 
 name-fault-requires : tie.Need-name-fault-requires
 name-fault-requires c κs = c .before .pre .0 .order

@@ -1,16 +1,10 @@
-use mathlib.Core.Path.{_≡_, refl, sym, ap, _∙_}
+use mathlib.Core.Path.{sym, _∙_}
 use native.Mathlib.Omega.{arith}
 use borrow.Author.Needs.{needs}
+use Rattle.values.proofs.Laws.{value-here}
 use Rattle.defuzzify_text.proofs.Laws as laws
 use Rattle.defuzzify_text.proofs.upper_end.Statement.{statement}
 use Rattle.defuzzify_text.proofs.upper_end.Tie as tie
-use Rattle.defuzzify_text.proofs.upper_end.Reads as reads
-use Rattle.defuzzify_text.proofs.upper_end.Lts as lts
-use Rattle.crisp.proofs.less.Reads as less-reads
-use Rattle.cursor.proofs.advance.Reads as advance-reads
-use Rattle.cursor.proofs.refuse.Reads as refuse-reads
-use Rattle.entries.proofs.set_range.Reads as set-range-reads
-use Rattle.values.proofs.crisp_here.Reads as crisp-here-reads
 
 crisp-here-requires : tie.Need-crisp-here-requires
 crisp-here-requires c κs = c .before .before .before .pre .0 .fits
@@ -37,7 +31,7 @@ returns-2 c = let a = c .before .before .before .before .before .before .before 
     let g = c .before .before .before .before .before .before .before .before .before .before .pre in
     let e = c .before .before .before .before .before .before .crisp-here .ensures in
     let z = c .before .before .before .before .before .if1 .left in
-    laws.upper-set (a .s .now) (a .p .cursor) (c .advance .result) (a .p .tables) (a .o) (a .x .0) (sym z ∙ e .0 _ 0) _ (laws.value-is _ z _ _ (e .1 .0)) (c .before .set-range .result) (sym (c .before .before .before .less .ensures) ∙ c .before .before .if2 .taken) (g .0 .fits) (λ q. omega (arith, e .1 .1 z))
+    laws.upper-set (a .s .now) (a .p .cursor) (c .advance .result) (a .p .tables) (a .o) (a .x .0) (sym z ∙ e .0 _ 0) _ (value-here _ _ _ _ (e .1 .0) z) (c .before .set-range .result) (sym (c .before .before .before .less .ensures) ∙ c .before .before .if2 .taken) (g .0 .fits) (λ q. omega (arith, e .1 .1 z))
     (c .before .set-range .ensures .0 _ (g .0 .holds) (g .1)) (c .before .set-range .ensures .1) (c .advance .ensures .0)
 
 refuse-requires-2 : tie.Need-refuse-requires-2
@@ -48,7 +42,7 @@ returns-3 c = let a = c .before .before .before .before .before .before .before 
     let g = c .before .before .before .before .before .before .before .before .before .pre in
     let e = c .before .before .before .before .before .crisp-here .ensures in
     let z = c .before .before .before .before .if1 .left in
-    laws.upper-low (a .s .now) (a .p .cursor) (c .refuse2 .result) (a .p .tables) (a .o) (a .x .0) (sym z ∙ e .0 _ 0) _ (laws.value-is _ z _ _ (e .1 .0)) (sym (c .before .before .less .ensures) ∙ c .before .if2 .left) (g .0 .holds) (c .refuse2 .ensures .0 _ (g .0 .fits))
+    laws.upper-low (a .s .now) (a .p .cursor) (c .refuse2 .result) (a .p .tables) (a .o) (a .x .0) (sym z ∙ e .0 _ 0) _ (value-here _ _ _ _ (e .1 .0) z) (sym (c .before .before .less .ensures) ∙ c .before .if2 .left) (g .0 .holds) (c .refuse2 .ensures .0 _ (g .0 .fits))
 
 pub upper-end-spec : {M : Type 1} → statement M
 upper-end-spec =

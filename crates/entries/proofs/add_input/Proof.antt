@@ -2,8 +2,6 @@ use Rattle.entries.proofs.Inputs as laws
 use borrow.Author.Needs.{needs}
 use Rattle.entries.proofs.add_input.Statement.{statement}
 use Rattle.entries.proofs.add_input.Tie as tie
-use Rattle.entries.proofs.add_input.Reads as reads
-use Rattle.entries.proofs.add_input.Lts as lts
 
 mul-r : tie.Need-mul-r
 mul-r c = search needs

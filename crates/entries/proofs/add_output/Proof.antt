@@ -2,8 +2,6 @@ use Rattle.entries.proofs.Outputs as laws
 use borrow.Author.Needs.{needs}
 use Rattle.entries.proofs.add_output.Statement.{statement}
 use Rattle.entries.proofs.add_output.Tie as tie
-use Rattle.entries.proofs.add_output.Reads as reads
-use Rattle.entries.proofs.add_output.Lts as lts
 
 add-r : tie.Need-add-r
 add-r c = search needs

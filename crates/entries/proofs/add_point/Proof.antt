@@ -2,8 +2,6 @@ use Rattle.entries.proofs.Points as laws
 use borrow.Author.Needs.{needs}
 use Rattle.entries.proofs.add_point.Statement.{statement}
 use Rattle.entries.proofs.add_point.Tie as tie
-use Rattle.entries.proofs.add_point.Reads as reads
-use Rattle.entries.proofs.add_point.Lts as lts
 
 mul-n : tie.Need-mul-n
 mul-n c = search needs

@@ -3,8 +3,6 @@ use Rattle.entries.proofs.Singletons as laws
 use borrow.Author.Needs.{needs}
 use Rattle.entries.proofs.add_singleton.Statement.{statement}
 use Rattle.entries.proofs.add_singleton.Tie as tie
-use Rattle.entries.proofs.add_singleton.Reads as reads
-use Rattle.entries.proofs.add_singleton.Lts as lts
 
 mul-v : tie.Need-mul-v
 mul-v c = search needs

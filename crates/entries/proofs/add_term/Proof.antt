@@ -3,8 +3,6 @@ use Rattle.entries.proofs.Terms as laws
 use borrow.Author.Needs.{needs}
 use Rattle.entries.proofs.add_term.Statement.{statement}
 use Rattle.entries.proofs.add_term.Tie as tie
-use Rattle.entries.proofs.add_term.Reads as reads
-use Rattle.entries.proofs.add_term.Lts as lts
 
 mul-v : tie.Need-mul-v
 mul-v c = search needs

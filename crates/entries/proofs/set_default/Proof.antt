@@ -3,8 +3,6 @@ use Rattle.entries.proofs.Rows as laws
 use borrow.Author.Needs.{needs}
 use Rattle.entries.proofs.set_default.Statement.{statement}
 use Rattle.entries.proofs.set_default.Tie as tie
-use Rattle.entries.proofs.set_default.Reads as reads
-use Rattle.entries.proofs.set_default.Lts as lts
 
 mul-v : tie.Need-mul-v
 mul-v c = search needs

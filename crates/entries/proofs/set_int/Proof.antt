@@ -2,9 +2,6 @@ use Rattle.entries.proofs.Types as laws
 use borrow.Author.Needs.{needs}
 use Rattle.entries.proofs.set_int.Statement.{statement}
 use Rattle.entries.proofs.set_int.Tie as tie
-use Rattle.entries.proofs.set_int.Reads as reads
-use Rattle.entries.proofs.set_int.Lts as lts
-use Rattle.entries.proofs.typed.Reads as typed-reads
 
 typed-requires : tie.Need-typed-requires
 typed-requires c κs = search needs

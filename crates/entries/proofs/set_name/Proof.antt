@@ -1,8 +1,6 @@
 use Rattle.entries.proofs.Inputs as laws
 use Rattle.entries.proofs.set_name.Statement.{statement}
 use Rattle.entries.proofs.set_name.Tie as tie
-use Rattle.entries.proofs.set_name.Reads as reads
-use Rattle.entries.proofs.set_name.Lts as lts
 
 returns : tie.Need-returns
 returns c = λ s g o l. laws.is-named s (c .args .t) (c .args .start) (c .args .end) g o l

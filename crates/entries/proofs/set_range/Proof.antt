@@ -3,8 +3,6 @@ use Rattle.entries.proofs.Rows as laws
 use borrow.Author.Needs.{needs}
 use Rattle.entries.proofs.set_range.Statement.{statement}
 use Rattle.entries.proofs.set_range.Tie as tie
-use Rattle.entries.proofs.set_range.Reads as reads
-use Rattle.entries.proofs.set_range.Lts as lts
 
 mul-v : tie.Need-mul-v
 mul-v c = search needs

@@ -7,8 +7,6 @@ use Rattle.entries.specs.Changes.{Typed}
 use Rattle.entries.proofs.Types as laws
 use Rattle.entries.proofs.typed.Statement.{statement}
 use Rattle.entries.proofs.typed.Tie as tie
-use Rattle.entries.proofs.typed.Reads as reads
-use Rattle.entries.proofs.typed.Lts as lts
 
 abbrev Inv-loop : tie.InvT-loop
 Inv-loop from to r₀ i₀ r i = (from ≤ i) × (from < i → i ≤ to) × (to ≤ 8) × (length r₀ ≡ 8 → Typed r₀ from i r)

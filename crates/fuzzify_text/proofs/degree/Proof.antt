@@ -3,6 +3,7 @@ use native.Mathlib.Omega.{arith}
 use borrow.Author.Needs.{needs}
 use Rattle.model.specs.Tokens.{unitOf}
 use Rattle.cursor.specs.View.{textOf}
+use Rattle.values.proofs.Laws.{value-here}
 use Rattle.fuzzify_text.proofs.Laws as laws
 use Rattle.fuzzify_text.proofs.degree.Statement.{statement}
 use Rattle.fuzzify_text.proofs.degree.Tie as tie
@@ -50,7 +51,7 @@ returns-2 c =
     let l = laws.last-of (a .p .tables) (a .i) (g .1) in
     let z = c .before .before .before .before .before .if1 .left in
     let w = c .before .before .before .before .before .before .before .unit-here .ensures in
-    (laws.degree-good (a .s .now) (a .p .cursor) (a .p .tables) (c .advance .result) (a .i) (a .x .0) (c .before .add-point .result) _ (sym z ∙ w .0 _ 0) (laws.value-here (c .before .before .before .before .before .before .before .unit-here .result .fault) (c .before .before .before .before .before .before .before .unit-here .result .value .0) (unitOf (textOf (a .s .now) (a .p .cursor))) 0 (w .1 .0) z) (g .0 .fits) (λ q. omega (arith, w .1 .1 z)) (c .before .add-point .ensures .0 _ (a .i) (g .0 .holds) l) (c .advance .ensures .0), laws.still _ _ _ (c .before .add-point .ensures .1 (a .i) l))
+    (laws.degree-good (a .s .now) (a .p .cursor) (a .p .tables) (c .advance .result) (a .i) (a .x .0) (c .before .add-point .result) _ (sym z ∙ w .0 _ 0) (value-here (c .before .before .before .before .before .before .before .unit-here .result .fault) (c .before .before .before .before .before .before .before .unit-here .result .value .0) (unitOf (textOf (a .s .now) (a .p .cursor))) 0 (w .1 .0) z) (g .0 .fits) (λ q. omega (arith, w .1 .1 z)) (c .before .add-point .ensures .0 _ (a .i) (g .0 .holds) l) (c .advance .ensures .0), laws.still _ _ _ (c .before .add-point .ensures .1 (a .i) l))
 
 pub degree-spec : {M : Type 1} → statement M
 degree-spec =

@@ -5,6 +5,7 @@ use lib.IntN.{ℤ, pos}
 use Rattle.model.specs.Tokens.{valueOf}
 use Rattle.cursor.specs.View.{textOf}
 use Rattle.fuzzify_text.specs.Terms.{rises}
+use Rattle.values.proofs.Laws.{value-here}
 use Rattle.fuzzify_text.proofs.Laws as laws
 use Rattle.fuzzify_text.proofs.position.Statement.{statement}
 use Rattle.fuzzify_text.proofs.position.Tie as tie
@@ -32,7 +33,7 @@ returns-2 c =
     let a = c .before .before .before .before .before .before .before .before .args in
     let g = c .before .before .before .before .before .before .before .before .pre in
     let z = c .before .before .before .if1 .left in
-    let v = laws.value-here (c .before .before .before .before .before .before .crisp-here .result .fault) (c .before .before .before .before .before .before .crisp-here .result .value .0) (valueOf (textOf (a .s .now) (a .c))) (pos 0) (c .before .before .before .before .before .before .crisp-here .ensures .1 .0) z in
+    let v = value-here (c .before .before .before .before .before .before .crisp-here .result .fault) (c .before .before .before .before .before .before .crisp-here .result .value .0) (valueOf (textOf (a .s .now) (a .c))) (pos 0) (c .before .before .before .before .before .before .crisp-here .ensures .1 .0) z in
     (laws.position-good (a .s .now) (a .c) (c .advance .result) (a .n) (a .last .0) (λ b m. sym z ∙ c .before .before .before .before .before .before .crisp-here .ensures .0 b m) (ap (λ (x : ℤ). rises (a .n) (a .last .0) x) (sym v) ∙ sym (c .before .before .may-stand .ensures) ∙ c .before .if2 .taken) (c .advance .ensures .0), λ q. v)
 
 refuse-requires-2 : tie.Need-refuse-requires-2
@@ -43,7 +44,7 @@ returns-3 c =
     let a = c .before .before .before .before .before .before .before .before .args in
     let g = c .before .before .before .before .before .before .before .before .pre in
     let z = c .before .before .before .if1 .left in
-    let v = laws.value-here (c .before .before .before .before .before .before .crisp-here .result .fault) (c .before .before .before .before .before .before .crisp-here .result .value .0) (valueOf (textOf (a .s .now) (a .c))) (pos 0) (c .before .before .before .before .before .before .crisp-here .ensures .1 .0) z in
+    let v = value-here (c .before .before .before .before .before .before .crisp-here .result .fault) (c .before .before .before .before .before .before .crisp-here .result .value .0) (valueOf (textOf (a .s .now) (a .c))) (pos 0) (c .before .before .before .before .before .before .crisp-here .ensures .1 .0) z in
     (laws.position-low (a .s .now) (a .c) (c .refuse2 .result) (a .n) (a .last .0) (λ b m. sym z ∙ c .before .before .before .before .before .before .crisp-here .ensures .0 b m) (ap (λ (x : ℤ). rises (a .n) (a .last .0) x) (sym v) ∙ sym (c .before .before .may-stand .ensures) ∙ c .before .if2 .left) (c .refuse2 .ensures .0 _ g), λ q. v)
 
 pub position-spec : {M : Type 1} → statement M

@@ -10,8 +10,6 @@ use Rattle.lookup.specs.Names.{nameOf}
 use Rattle.lookup.proofs.Names as laws
 use Rattle.lookup.proofs.find.Statement.{statement}
 use Rattle.lookup.proofs.find.Tie as tie
-use Rattle.lookup.proofs.find.Reads as reads
-use Rattle.lookup.proofs.find.Lts as lts
 
 abbrev Inv-loop : tie.InvT-loop
 Inv-loop s names from count start end n i₀ k a e j₀ i j =

@@ -1,16 +1,8 @@
 use mathlib.Core.Path.{sym, _∙_}
 use borrow.Author.Needs.{needs}
 use Rattle.numerals.proofs.Digits as laws
-use borrow.Author.Needs.{needs}
 use Rattle.numerals.proofs.amount_of.Statement.{statement}
 use Rattle.numerals.proofs.amount_of.Tie as tie
-use Rattle.numerals.proofs.amount_of.Reads as reads
-use Rattle.numerals.proofs.amount_of.Lts as lts
-use Rattle.numerals.proofs.behind.Reads as behind-reads
-use Rattle.numerals.proofs.decimal_of.Reads as decimal-of-reads
-use Rattle.numerals.proofs.digits_end.Reads as digits-end-reads
-use Rattle.numerals.proofs.sign_size.Reads as sign-size-reads
-use Rattle.numerals.proofs.thousandths.Reads as thousandths-reads
 
 sign-size-requires : tie.Need-sign-size-requires
 sign-size-requires c κs = search needs

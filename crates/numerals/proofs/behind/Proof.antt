@@ -1,10 +1,7 @@
 use borrow.Author.Needs.{needs}
 use Rattle.numerals.proofs.Digits as laws
-use borrow.Author.Needs.{needs}
 use Rattle.numerals.proofs.behind.Statement.{statement}
 use Rattle.numerals.proofs.behind.Tie as tie
-use Rattle.numerals.proofs.behind.Reads as reads
-use Rattle.numerals.proofs.behind.Lts as lts
 
 add-result : tie.Need-add-result
 add-result c = search needs

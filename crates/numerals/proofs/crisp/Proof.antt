@@ -3,13 +3,8 @@ use mathlib.Core.Bool.{true, false}
 use borrow.Author.Needs.{needs}
 use borrow.Author.Tests.{not-true, not-false}
 use Rattle.numerals.proofs.Values as values
-use borrow.Author.Needs.{needs}
 use Rattle.numerals.proofs.crisp.Statement.{statement}
 use Rattle.numerals.proofs.crisp.Tie as tie
-use Rattle.numerals.proofs.crisp.Reads as reads
-use Rattle.numerals.proofs.crisp.Lts as lts
-use Rattle.numerals.proofs.amount_of.Reads as amount-of-reads
-use Rattle.numerals.proofs.is_negative.Reads as is-negative-reads
 
 amount-of-requires : tie.Need-amount-of-requires
 amount-of-requires c κs = search needs

@@ -7,9 +7,6 @@ use Rattle.model.specs.Tokens.{decimalFrom, decimal}
 use Rattle.numerals.proofs.Digits as laws
 use Rattle.numerals.proofs.decimal_of.Statement.{statement}
 use Rattle.numerals.proofs.decimal_of.Tie as tie
-use Rattle.numerals.proofs.decimal_of.Reads as reads
-use Rattle.numerals.proofs.decimal_of.Lts as lts
-use Rattle.numerals.proofs.digit.Reads as digit-reads
 
 abbrev Inv-loop : tie.InvT-loop
 Inv-loop w a e n₀ k₀ n k = (a ≤ k) × (k ≤ e) × laws.Small n (k - a) × (decimalFrom n (slice k e w) ≡ decimal (slice a e w))

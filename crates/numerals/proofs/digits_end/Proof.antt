@@ -8,9 +8,6 @@ use Rattle.model.specs.Tokens.{isDigit}
 use Rattle.numerals.proofs.Digits as laws
 use Rattle.numerals.proofs.digits_end.Statement.{statement}
 use Rattle.numerals.proofs.digits_end.Tie as tie
-use Rattle.numerals.proofs.digits_end.Reads as reads
-use Rattle.numerals.proofs.digits_end.Lts as lts
-use Rattle.numerals.proofs.is_digit.Reads as is-digit-reads
 
 abbrev Inv-loop : tie.InvT-loop
 Inv-loop w a k₀ k = (k ≤ length w) × (k + run isDigit (drop k w) ≡ a + run isDigit (drop a w))

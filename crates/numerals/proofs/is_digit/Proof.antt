@@ -1,8 +1,6 @@
 use borrow.Author.Tests.{le-leb, lt-leb}
 use Rattle.numerals.proofs.is_digit.Statement.{statement}
 use Rattle.numerals.proofs.is_digit.Tie as tie
-use Rattle.numerals.proofs.is_digit.Reads as reads
-use Rattle.numerals.proofs.is_digit.Lts as lts
 
 returns : tie.Need-returns
 returns c = simp (lt-leb _ _ (c .if1 .taken))

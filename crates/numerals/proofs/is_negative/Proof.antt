@@ -1,11 +1,8 @@
 use mathlib.Core.Path.{sym}
 use borrow.Author.Needs.{needs}
 use Rattle.numerals.proofs.Digits as laws
-use borrow.Author.Needs.{needs}
 use Rattle.numerals.proofs.is_negative.Statement.{statement}
 use Rattle.numerals.proofs.is_negative.Tie as tie
-use Rattle.numerals.proofs.is_negative.Reads as reads
-use Rattle.numerals.proofs.is_negative.Lts as lts
 
 returns : tie.Need-returns
 returns c = sym (laws.starts-none _ (c .before .args .w .now) (c .if1 .taken))

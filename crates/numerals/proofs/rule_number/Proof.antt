@@ -7,13 +7,8 @@ use Rattle.model.specs.Basic.{run}
 use Rattle.model.specs.Tokens.{isDigit, decimal}
 use Rattle.numerals.proofs.Digits as laws
 use Rattle.numerals.proofs.Values as values
-use borrow.Author.Needs.{needs}
 use Rattle.numerals.proofs.rule_number.Statement.{statement}
 use Rattle.numerals.proofs.rule_number.Tie as tie
-use Rattle.numerals.proofs.rule_number.Reads as reads
-use Rattle.numerals.proofs.rule_number.Lts as lts
-use Rattle.numerals.proofs.decimal_of.Reads as decimal-of-reads
-use Rattle.numerals.proofs.digits_end.Reads as digits-end-reads
 
 returns : tie.Need-returns
 returns c =

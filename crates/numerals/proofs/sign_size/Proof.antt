@@ -2,11 +2,8 @@ use native.Mathlib.Omega.{arith}
 use borrow.Author.Needs.{needs}
 use borrow.Author.Tests.{eq-eqb, ne-eqb}
 use Rattle.numerals.proofs.Digits as laws
-use borrow.Author.Needs.{needs}
 use Rattle.numerals.proofs.sign_size.Statement.{statement}
 use Rattle.numerals.proofs.sign_size.Tie as tie
-use Rattle.numerals.proofs.sign_size.Reads as reads
-use Rattle.numerals.proofs.sign_size.Lts as lts
 
 returns : tie.Need-returns
 returns c = (laws.no-sign (c .before .args .w .now) (c .if1 .taken), omega arith)

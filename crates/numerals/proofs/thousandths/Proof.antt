@@ -3,12 +3,8 @@ use native.Mathlib.Omega.{arith}
 use borrow.Author.Needs.{needs}
 use lib.ListN.{drop, length-drop}
 use Rattle.numerals.proofs.Digits as laws
-use borrow.Author.Needs.{needs}
 use Rattle.numerals.proofs.thousandths.Statement.{statement}
 use Rattle.numerals.proofs.thousandths.Tie as tie
-use Rattle.numerals.proofs.thousandths.Reads as reads
-use Rattle.numerals.proofs.thousandths.Lts as lts
-use Rattle.numerals.proofs.decimal_of.Reads as decimal-of-reads
 
 decimal-of-requires : tie.Need-decimal-of-requires
 decimal-of-requires c κs = search needs

@@ -3,13 +3,8 @@ use native.Mathlib.Omega.{arith}
 use borrow.Author.Needs.{needs}
 use borrow.Author.Tests.{not-true, not-false}
 use Rattle.numerals.proofs.Values as values
-use borrow.Author.Needs.{needs}
 use Rattle.numerals.proofs.unit.Statement.{statement}
 use Rattle.numerals.proofs.unit.Tie as tie
-use Rattle.numerals.proofs.unit.Reads as reads
-use Rattle.numerals.proofs.unit.Lts as lts
-use Rattle.numerals.proofs.amount_of.Reads as amount-of-reads
-use Rattle.numerals.proofs.unit_limit.Reads as unit-limit-reads
 
 amount-of-requires : tie.Need-amount-of-requires
 amount-of-requires c κs = search needs

@@ -2,12 +2,8 @@ use mathlib.Core.Path.{sym, _∙_}
 use native.Mathlib.Omega.{arith}
 use borrow.Author.Needs.{needs}
 use Rattle.numerals.specs.Written.{unitLimit}
-use borrow.Author.Needs.{needs}
 use Rattle.numerals.proofs.unit_limit.Statement.{statement}
 use Rattle.numerals.proofs.unit_limit.Tie as tie
-use Rattle.numerals.proofs.unit_limit.Reads as reads
-use Rattle.numerals.proofs.unit_limit.Lts as lts
-use Rattle.numerals.proofs.is_negative.Reads as is-negative-reads
 
 is-negative-requires : tie.Need-is-negative-requires
 is-negative-requires c κs = search needs

@@ -5,9 +5,6 @@ use Rattle.values.proofs.Laws as laws
 use borrow.Author.Needs.{needs}
 use Rattle.values.proofs.crisp_here.Statement.{statement}
 use Rattle.values.proofs.crisp_here.Tie as tie
-use Rattle.values.proofs.crisp_here.Reads as reads
-use Rattle.values.proofs.crisp_here.Lts as lts
-use Rattle.numerals.proofs.crisp.Reads as crisp-reads
 
 returns : tie.Need-returns
 returns c =

@@ -1,13 +1,10 @@
-use mathlib.Core.Path.{refl, sym, _∙_}
+use mathlib.Core.Path.{refl}
 use mathlib.Core.Bool.{true, false}
 use native.Mathlib.Omega.{arith}
 use Rattle.values.proofs.Laws as laws
 use borrow.Author.Needs.{needs}
 use Rattle.values.proofs.number_here.Statement.{statement}
 use Rattle.values.proofs.number_here.Tie as tie
-use Rattle.values.proofs.number_here.Reads as reads
-use Rattle.values.proofs.number_here.Lts as lts
-use Rattle.numerals.proofs.rule_number.Reads as rule-number-reads
 
 returns : tie.Need-returns
 returns c =

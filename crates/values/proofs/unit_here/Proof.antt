@@ -5,9 +5,6 @@ use Rattle.values.proofs.Laws as laws
 use borrow.Author.Needs.{needs}
 use Rattle.values.proofs.unit_here.Statement.{statement}
 use Rattle.values.proofs.unit_here.Tie as tie
-use Rattle.values.proofs.unit_here.Reads as reads
-use Rattle.values.proofs.unit_here.Lts as lts
-use Rattle.numerals.proofs.unit.Reads as unit-reads
 
 returns : tie.Need-returns
 returns c =
