@@ -124,7 +124,8 @@ pub fn is_complete(book: &[usize; 17]) -> bool
 // From behind the last rule to the end of the text, where every variable has its part or not.
 pub fn back(s: &[u8], c: Cursor, complete: bool) -> Cursor
     requires { ⌜ Fits (now s) c ⌝ }
-    ensures { λ r. ⌜ ((b : Block) (n : ℕ) → partsThere b ≡ complete → Ends (seen (now (s .entry)) r b n) (backText (seen (now (s .entry)) c b n))) ⌝ }
+    ensures { λ r. ⌜ ((b : Block) (n : ℕ) → partsThere b ≡ complete
+        → Ends (seen (now (s .entry)) r b n) (backText (seen (now (s .entry)) c b n))) ⌝ }
     ensures sticky { λ r. ⌜ (r .why ≡ 0 → c .why ≡ 0) ⌝ }
 {
     let d = cursor::expect(s, c, kinds::END_RULEBLOCK);

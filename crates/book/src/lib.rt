@@ -26,7 +26,8 @@ fn among(i: usize, n: usize, terms: usize) -> usize
 
 fn with_inputs(book: [usize; 17], rows: [Input; 8], n: usize) -> [usize; 17]
     requires { ⌜ (getD book 0 0 ≡ 0) × ((i : ℕ) → getD rows i no-input .terms ≤ 7) ⌝ }
-    ensures { λ r. ⌜ ((c : ℕ → ℕ) → ((i : ℕ) → i < 8 → c i ≡ (if ltb i n then getD rows i no-input .terms else 0)) → Firsts c 8 r) ⌝ }
+    ensures { λ r. ⌜ ((c : ℕ → ℕ) → ((i : ℕ) → i < 8 → c i ≡ (if ltb i n then getD rows i no-input .terms else 0))
+        → Firsts c 8 r) ⌝ }
     ensures small { λ r. ⌜ getD r 8 0 ≤ 56 ⌝ }
 {
     let mut r = book;
@@ -42,7 +43,8 @@ fn with_inputs(book: [usize; 17], rows: [Input; 8], n: usize) -> [usize; 17]
 
 fn with_outputs(book: [usize; 17], rows: [Output; 6], n: usize) -> [usize; 17]
     requires { ⌜ (getD book 8 0 ≤ 56) × ((i : ℕ) → getD rows i no-output .terms ≤ 7) ⌝ }
-    ensures { λ r. ⌜ ((c : ℕ → ℕ) → Firsts c 8 book → ((i : ℕ) → i < 6 → c (8 + i) ≡ (if ltb i n then getD rows i no-output .terms else 0)) → Firsts c 14 r) ⌝ }
+    ensures { λ r. ⌜ ((c : ℕ → ℕ) → Firsts c 8 book
+        → ((i : ℕ) → i < 6 → c (8 + i) ≡ (if ltb i n then getD rows i no-output .terms else 0)) → Firsts c 14 r) ⌝ }
 {
     let mut r = book;
     let mut i = 0;
@@ -56,9 +58,11 @@ fn with_outputs(book: [usize; 17], rows: [Output; 6], n: usize) -> [usize; 17]
 }
 
 pub fn book_of(t: Tables) -> [usize; 17]
-    requires { ⌜ ((i : ℕ) → getD (t .inputs) i no-input .terms ≤ 7) × ((o : ℕ) → getD (t .outputs) o no-output .terms ≤ 7) ⌝ }
+    requires { ⌜ ((i : ℕ) → getD (t .inputs) i no-input .terms ≤ 7)
+        × ((o : ℕ) → getD (t .outputs) o no-output .terms ≤ 7) ⌝ }
     ensures { λ r. ⌜ ((s : List ℕ) → Holds s t → Book s (t .names) r) ⌝ }
-    ensures describes { λ r. ⌜ ((s : List ℕ) (b : Block) → Holds s t → b .inputs ≡ inputsView s t → b .outputs ≡ outputsView s t → Describes s (t .names) r b) ⌝ }
+    ensures describes { λ r. ⌜ ((s : List ℕ) (b : Block) → Holds s t → b .inputs ≡ inputsView s t
+        → b .outputs ≡ outputsView s t → Describes s (t .names) r b) ⌝ }
 {
     let m = t.input_count;
     let n = t.output_count;

@@ -1,5 +1,5 @@
-// A condition's text to its words: parentheses first, then NOT, AND, OR, equal operators grouped to the left. Each NOT, AND, OR and input name
-// is counted at its token; its word is put when its operands are.
+// A condition's text to its words: parentheses first, then NOT, AND, OR, equal operators grouped to the left. Each NOT,
+// AND, OR and input name is counted at its token; its word is put when its operands are.
 ghost use mathlib.Core.Path.{_≡_};
 ghost use mathlib.Core.List.{List};
 ghost use Prim.Native.Nat.{ℕ, _≤_, _<_};
@@ -36,7 +36,8 @@ fn refused(p: Pending, why: u8) -> Pending
 // The current token as one condition word more.
 fn count(s: &[u8], p: Pending) -> Pending
     requires { ⌜ Room (now s) p × (p .cursor .kind ≡ 0 → ⊥) ⌝ }
-    ensures { λ r. ⌜ ((b : Block) → seen (now (s .entry)) (r .cursor) b (r .words) ≡ word (seen (now (s .entry)) (p .cursor) b (p .words))) ⌝ }
+    ensures { λ r. ⌜ ((b : Block)
+        → seen (now (s .entry)) (r .cursor) b (r .words) ≡ word (seen (now (s .entry)) (p .cursor) b (p .words))) ⌝ }
     ensures counts { λ r. ⌜ Counts (now (s .entry)) p r ⌝ }
 {
     if p.words < 640 {
@@ -78,9 +79,11 @@ fn term_named(
     p: Pending,
     i: usize,
 ) -> Pending
-    requires { ⌜ Room (now s) p × Book (now s) (now names) (now book) × (i < inputCount (now book)) × (p .cursor .why ≡ 0 → p .put < p .words) ⌝ }
+    requires { ⌜ Room (now s) p × Book (now s) (now names) (now book) × (i < inputCount (now book))
+        × (p .cursor .why ≡ 0 → p .put < p .words) ⌝ }
     ensures { λ r. ⌜ ((b : Block) → Describes (now (s .entry)) (now (names .entry)) (now (book .entry)) b
-        → Reads (now (s .entry)) b p r (termNamed i (seen (now (s .entry)) (p .cursor) b (p .words))) (now (words .entry)) (now (words .exit))) ⌝ }
+        → Reads (now (s .entry)) b p r (termNamed i (seen (now (s .entry)) (p .cursor) b (p .words)))
+        (now (words .entry)) (now (words .exit))) ⌝ }
     ensures within { λ r. ⌜ Within (now (s .entry)) 1 p r (now (words .entry)) (now (words .exit)) ⌝ }
 {
     let c = p.cursor;
@@ -113,9 +116,11 @@ fn term_here(
     p: Pending,
     i: usize,
 ) -> Pending
-    requires { ⌜ Room (now s) p × Book (now s) (now names) (now book) × (i < inputCount (now book)) × (p .cursor .why ≡ 0 → p .put < p .words) ⌝ }
+    requires { ⌜ Room (now s) p × Book (now s) (now names) (now book) × (i < inputCount (now book))
+        × (p .cursor .why ≡ 0 → p .put < p .words) ⌝ }
     ensures { λ r. ⌜ ((b : Block) → Describes (now (s .entry)) (now (names .entry)) (now (book .entry)) b
-        → Reads (now (s .entry)) b p r (termHere i (seen (now (s .entry)) (p .cursor) b (p .words))) (now (words .entry)) (now (words .exit))) ⌝ }
+        → Reads (now (s .entry)) b p r (termHere i (seen (now (s .entry)) (p .cursor) b (p .words)))
+        (now (words .entry)) (now (words .exit))) ⌝ }
     ensures within { λ r. ⌜ Within (now (s .entry)) 1 p r (now (words .entry)) (now (words .exit)) ⌝ }
 {
     let c = p.cursor;
@@ -137,7 +142,8 @@ fn subcondition(
 ) -> Pending
     requires { ⌜ Room (now s) p × Book (now s) (now names) (now book) ⌝ }
     ensures { λ r. ⌜ ((b : Block) → Describes (now (s .entry)) (now (names .entry)) (now (book .entry)) b
-        → Reads (now (s .entry)) b p r (subconditionOf (seen (now (s .entry)) (p .cursor) b (p .words))) (now (words .entry)) (now (words .exit))) ⌝ }
+        → Reads (now (s .entry)) b p r (subconditionOf (seen (now (s .entry)) (p .cursor) b (p .words)))
+        (now (words .entry)) (now (words .exit))) ⌝ }
     ensures within { λ r. ⌜ Within (now (s .entry)) 0 p r (now (words .entry)) (now (words .exit)) ⌝ }
 {
     let c = p.cursor;
@@ -177,7 +183,8 @@ fn plain(
 ) -> Pending
     requires { ⌜ Room (now s) p × Book (now s) (now names) (now book) ⌝ }
     ensures { λ r. ⌜ ((b : Block) → Describes (now (s .entry)) (now (names .entry)) (now (book .entry)) b
-        → Reads (now (s .entry)) b p r (plainOf (parenthesis depth) (seen (now (s .entry)) (p .cursor) b (p .words))) (now (words .entry)) (now (words .exit))) ⌝ }
+        → Reads (now (s .entry)) b p r (plainOf (parenthesis depth) (seen (now (s .entry)) (p .cursor) b (p .words)))
+        (now (words .entry)) (now (words .exit))) ⌝ }
     ensures within { λ r. ⌜ Within (now (s .entry)) 0 p r (now (words .entry)) (now (words .exit)) ⌝ }
 {
     let c = p.cursor;
@@ -219,7 +226,8 @@ fn operand(
 ) -> Pending
     requires { ⌜ Room (now s) p × Book (now s) (now names) (now book) ⌝ }
     ensures { λ r. ⌜ ((b : Block) → Describes (now (s .entry)) (now (names .entry)) (now (book .entry)) b
-        → Reads (now (s .entry)) b p r (operandOf (parenthesis depth) (seen (now (s .entry)) (p .cursor) b (p .words))) (now (words .entry)) (now (words .exit))) ⌝ }
+        → Reads (now (s .entry)) b p r (operandOf (parenthesis depth) (seen (now (s .entry)) (p .cursor) b (p .words)))
+        (now (words .entry)) (now (words .exit))) ⌝ }
     ensures within { λ r. ⌜ Within (now (s .entry)) 0 p r (now (words .entry)) (now (words .exit)) ⌝ }
 {
     let c = p.cursor;
@@ -242,7 +250,9 @@ fn conjunction(
 ) -> Pending
     requires { ⌜ Room (now s) p × Book (now s) (now names) (now book) ⌝ }
     ensures { λ r. ⌜ ((b : Block) → Describes (now (s .entry)) (now (names .entry)) (now (book .entry)) b
-        → Reads (now (s .entry)) b p r (chain (operandOf (parenthesis depth)) AND and (seen (now (s .entry)) (p .cursor) b (p .words))) (now (words .entry)) (now (words .exit))) ⌝ }
+        → Reads (now (s .entry)) b p r
+        (chain (operandOf (parenthesis depth)) AND and (seen (now (s .entry)) (p .cursor) b (p .words)))
+        (now (words .entry)) (now (words .exit))) ⌝ }
     ensures within { λ r. ⌜ Within (now (s .entry)) 0 p r (now (words .entry)) (now (words .exit)) ⌝ }
 {
     let mut q = operand(s, names, book, words, p, depth);
@@ -265,7 +275,9 @@ pub fn condition(
 ) -> Pending
     requires { ⌜ Room (now s) p × Book (now s) (now names) (now book) ⌝ }
     ensures { λ r. ⌜ ((b : Block) → Describes (now (s .entry)) (now (names .entry)) (now (book .entry)) b
-        → Reads (now (s .entry)) b p r (conditionWith (parenthesis depth) (seen (now (s .entry)) (p .cursor) b (p .words))) (now (words .entry)) (now (words .exit))) ⌝ }
+        → Reads (now (s .entry)) b p r
+        (conditionWith (parenthesis depth) (seen (now (s .entry)) (p .cursor) b (p .words)))
+        (now (words .entry)) (now (words .exit))) ⌝ }
     ensures within { λ r. ⌜ Within (now (s .entry)) 0 p r (now (words .entry)) (now (words .exit)) ⌝ }
 {
     let mut q = conjunction(s, names, book, words, p, depth);

@@ -46,7 +46,8 @@ fn new_fault(
     c: Cursor,
 ) -> u8
     requires { ⌜ Fits (now s) c × Placed (now s) (now names) × (inputs ≤ 8) × (outputs ≤ 6) ⌝ }
-    ensures { λ r. ⌜ ((b : Block) (n : ℕ) → Declares (now (s .entry)) (now (names .entry)) inputs outputs b → r ≡ fault (newChecks (seen (now (s .entry)) c b n) room)) ⌝ }
+    ensures { λ r. ⌜ ((b : Block) (n : ℕ) → Declares (now (s .entry)) (now (names .entry)) inputs outputs b
+        → r ≡ fault (newChecks (seen (now (s .entry)) c b n) room)) ⌝ }
     ensures passed { λ r. ⌜ (r ≡ 0 → (c .kind ≡ 2) × (room ≡ true)) ⌝ }
 {
     let w = cursor::name_fault(c);

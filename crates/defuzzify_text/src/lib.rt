@@ -110,7 +110,8 @@ fn inside(v: Output, x: Crisp) -> bool
 // The number at the cursor as one inside the RANGE of v.
 fn figure_here(s: &[u8], c: Cursor, v: Output) -> CrispHere
     requires { ⌜ Fits (now s) c ⌝ }
-    ensures { λ r. ⌜ ((b : Block) (n : ℕ) → r .fault ≡ fault (figureChecks (rangeView v) (seen (now (s .entry)) c b n))) ⌝ }
+    ensures { λ r. ⌜ ((b : Block) (n : ℕ)
+        → r .fault ≡ fault (figureChecks (rangeView v) (seen (now (s .entry)) c b n))) ⌝ }
     ensures value { λ r. ⌜ (r .fault ≡ 0 → (c .kind ≡ 3) × (r .value .0 ≡ valueOf (textOf (now (s .entry)) c))) ⌝ }
 {
     let w = values::crisp_here(s, c);
@@ -126,8 +127,11 @@ fn figure_here(s: &[u8], c: Cursor, v: Output) -> CrispHere
 
 // A number as the singleton of output o with the name from start to end.
 fn singleton_at(s: &[u8], p: Reading, o: usize, start: usize, end: usize) -> Reading
-    requires { ⌜ Good (now s) p × (o < p .tables .«output_count») × (outputRow (p .tables) o .terms < 7) × (start ≤ end) × (end ≤ length (now s)) ⌝ }
-    ensures { λ r. ⌜ ReadsFor (figure (λ x. withSingleton (record { name = slice start end (now (s .entry)); at = x })) o) (now (s .entry)) p r ⌝ }
+    requires { ⌜ Good (now s) p × (o < p .tables .«output_count») × (outputRow (p .tables) o .terms < 7) × (start ≤ end)
+        × (end ≤ length (now s)) ⌝ }
+    ensures { λ r. ⌜ ReadsFor
+        (figure (λ x. withSingleton (record { name = slice start end (now (s .entry)); at = x })) o)
+        (now (s .entry)) p r ⌝ }
 {
     let c = p.cursor;
     let t = p.tables;
@@ -179,7 +183,8 @@ fn default_number(s: &[u8], p: Reading, o: usize) -> Reading
 // By which number the current token is refused as the name of a new term of output o, which has some; 0 where it is one.
 fn term_fault(s: &[u8], names: &[usize; 224], o: usize, terms: usize, c: Cursor) -> u8
     requires { ⌜ Fits (now s) c × Placed (now s) (now names) × (o < 6) × (terms ≤ 7) ⌝ }
-    ensures { λ r. ⌜ ((b : Block) (n : ℕ) → HasSingletons (now (s .entry)) (now (names .entry)) o terms b → r ≡ fault (termChecks o (seen (now (s .entry)) c b n))) ⌝ }
+    ensures { λ r. ⌜ ((b : Block) (n : ℕ) → HasSingletons (now (s .entry)) (now (names .entry)) o terms b
+        → r ≡ fault (termChecks o (seen (now (s .entry)) c b n))) ⌝ }
     ensures kind { λ r. ⌜ (r ≡ 0 → c .kind ≡ 2) ⌝ }
 {
     let w = cursor::name_fault(c);

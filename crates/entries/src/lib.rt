@@ -15,7 +15,8 @@ use tables::Point;
 use tables::Tables;
 
 pub fn set_name(t: Tables, start: usize, end: usize) -> Tables
-    ensures { λ r. ⌜ ((s : List ℕ) → Holds s t → start ≤ end → end ≤ length s → Changes s t r (withName (slice start end s))) ⌝ }
+    ensures { λ r. ⌜ ((s : List ℕ) → Holds s t → start ≤ end → end ≤ length s
+        → Changes s t r (withName (slice start end s))) ⌝ }
 {
     let mut r = t;
     r.start = start;
@@ -25,7 +26,8 @@ pub fn set_name(t: Tables, start: usize, end: usize) -> Tables
 
 pub fn add_input(t: Tables, start: usize, end: usize) -> Tables
     requires { ⌜ t .«input_count» < 8 ⌝ }
-    ensures { λ r. ⌜ ((s : List ℕ) → Holds s t → start ≤ end → end ≤ length s → Changes s t r (addInput (slice start end s))) ⌝ }
+    ensures { λ r. ⌜ ((s : List ℕ) → Holds s t → start ≤ end → end ≤ length s
+        → Changes s t r (addInput (slice start end s))) ⌝ }
 {
     let n = t.input_count;
     let v = Input {
@@ -70,7 +72,8 @@ pub fn set_int(t: Tables, n: usize) -> Tables
 
 pub fn add_output(t: Tables, start: usize, end: usize) -> Tables
     requires { ⌜ t .«output_count» < 6 ⌝ }
-    ensures { λ r. ⌜ ((s : List ℕ) → Holds s t → start ≤ end → end ≤ length s → Changes s t r (addOutput (slice start end s))) ⌝ }
+    ensures { λ r. ⌜ ((s : List ℕ) → Holds s t → start ≤ end → end ≤ length s
+        → Changes s t r (addOutput (slice start end s))) ⌝ }
 {
     let n = t.output_count;
     let z = Crisp(0);
@@ -93,8 +96,10 @@ pub fn add_output(t: Tables, start: usize, end: usize) -> Tables
 // A term without points for input i.
 pub fn add_term(t: Tables, i: usize, start: usize, end: usize) -> Tables
     requires { ⌜ (i < 8) × (inputRow t i .terms < 7) ⌝ }
-    ensures { λ r. ⌜ ((s : List ℕ) → Holds s t → i < t .«input_count» → start ≤ end → end ≤ length s → Changes s t r (addTerm i (slice start end s))) ⌝ }
-    ensures more { λ r. ⌜ ((s : List ℕ) → Holds s t → i < t .«input_count» → LastTerm r i (i * 7 + inputRow t i .terms)) ⌝ }
+    ensures { λ r. ⌜ ((s : List ℕ) → Holds s t → i < t .«input_count» → start ≤ end → end ≤ length s
+        → Changes s t r (addTerm i (slice start end s))) ⌝ }
+    ensures more { λ r. ⌜ ((s : List ℕ) → Holds s t → i < t .«input_count»
+        → LastTerm r i (i * 7 + inputRow t i .terms)) ⌝ }
 {
     let mut v = t.inputs[i];
     let j = v.terms;
@@ -111,7 +116,8 @@ pub fn add_term(t: Tables, i: usize, start: usize, end: usize) -> Tables
 // A point for the term at place k, which is the last one of an input.
 pub fn add_point(t: Tables, k: usize, p: Point) -> Tables
     requires { ⌜ (k < 56) × (getD (t .counts) k 0 < 4) ⌝ }
-    ensures { λ r. ⌜ ((s : List ℕ) (i : ℕ) → Holds s t → LastTerm t i k → Changes s t r (addPoint i (record { at = p .at .0; degree = p .degree .0 }))) ⌝ }
+    ensures { λ r. ⌜ ((s : List ℕ) (i : ℕ) → Holds s t → LastTerm t i k
+        → Changes s t r (addPoint i (record { at = p .at .0; degree = p .degree .0 }))) ⌝ }
     ensures rows { λ r. ⌜ ((i : ℕ) → LastTerm t i k → LastTerm r i k) ⌝ }
 {
     let n = t.counts[k];
@@ -141,7 +147,8 @@ pub fn add_singleton(t: Tables, o: usize, start: usize, end: usize, x: Crisp) ->
 
 pub fn set_range(t: Tables, o: usize, least: Crisp, most: Crisp) -> Tables
     requires { ⌜ o < 6 ⌝ }
-    ensures { λ r. ⌜ ((s : List ℕ) → Holds s t → o < t .«output_count» → Changes s t r (changeOutput (withRange (record { least = least .0; most = most .0 })) o)) ⌝ }
+    ensures { λ r. ⌜ ((s : List ℕ) → Holds s t → o < t .«output_count»
+        → Changes s t r (changeOutput (withRange (record { least = least .0; most = most .0 })) o)) ⌝ }
     ensures count { λ r. ⌜ r .«output_count» ≡ t .«output_count» ⌝ }
 {
     let v = t.outputs[o];
@@ -161,7 +168,8 @@ pub fn set_range(t: Tables, o: usize, least: Crisp, most: Crisp) -> Tables
 
 pub fn set_default(t: Tables, o: usize, x: Crisp) -> Tables
     requires { ⌜ o < 6 ⌝ }
-    ensures { λ r. ⌜ ((s : List ℕ) → Holds s t → o < t .«output_count» → Changes s t r (changeOutput (withDefault (x .0)) o)) ⌝ }
+    ensures { λ r. ⌜ ((s : List ℕ) → Holds s t → o < t .«output_count»
+        → Changes s t r (changeOutput (withDefault (x .0)) o)) ⌝ }
     ensures count { λ r. ⌜ r .«output_count» ≡ t .«output_count» ⌝ }
 {
     let v = t.outputs[o];

@@ -90,7 +90,8 @@ fn degree(s: &[u8], p: Reading, i: usize, x: Crisp) -> Reading
 
 // A point behind its parenthesis, after n others, the last position given.
 fn point_from(s: &[u8], p: Reading, i: usize, n: usize, last: Crisp) -> Reading
-    requires { ⌜ Good (now s) p × Open (p .tables) i × (getD (p .tables .counts) (lastPlace (p .tables) i) 0 < 4) × Ends (blockView (now s) (p .tables)) i n (last .0) ⌝ }
+    requires { ⌜ Good (now s) p × Open (p .tables) i × (getD (p .tables .counts) (lastPlace (p .tables) i) 0 < 4)
+        × Ends (blockView (now s) (p .tables)) i n (last .0) ⌝ }
     ensures { λ r. ⌜ Reads (pointFrom i) (now (s .entry)) p r ⌝ }
     ensures open { λ r. ⌜ Open (r .tables) i ⌝ }
 {

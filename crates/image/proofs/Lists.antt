@@ -1,7 +1,7 @@
 -- Lists of slots, one more a turn, and sums over them.
 use mathlib.Core.Path.{_≡_, refl, sym, ap, _∙_}
 use mathlib.Core.List.{List, [], _∷_, _++_, append-assoc, append-nil}
-use Prim.Native.Nat.{ℕ, zero, suc, _+_, _*_, _-_, _≤_, _<_}
+use Prim.Native.Nat.{ℕ, suc, _+_, _*_, _-_, _≤_, _<_}
 use native.Mathlib.Omega.{arith}
 use lib.Dec.{eqb}
 use lib.ListN.{length, getD, set, length-set, replicate}
@@ -10,19 +10,15 @@ use borrow.Author.Tests.{eqb-true, eqb-false}
 use mathlib.Core.Bool.{Bool, true, false}
 use Rattle.model.specs.Image.{tab}
 use Rattle.words.proofs.Places.{tab-last}
+use Rattle.tables.proofs.Lists.{alike}
 use Rattle.layout.specs.Tables.{sums}
 use Rattle.image.specs.declared.Slots.{Slots}
 use Rattle.image.specs.Rows.{Listed, listOf, rows, onward, slotRow}
 use Rattle.image.proofs.Over.{rows-more, rows-end}
 
 -- no slots
-zeros : (n k : ℕ) → _≡_ {A = ℕ} (getD (replicate n 0) k 0) 0
-zeros zero k = refl
-zeros (suc n) zero = refl
-zeros (suc n) (suc k) = zeros n k
-
 pub listed-none : Listed (record { at = replicate 98 0; count = 0 })
-listed-none = record { size = refl; below = λ k. omega (arith, zeros 98 k) }
+listed-none = record { size = refl; below = λ k. omega (arith, alike {A = ℕ} 0 98 k) }
 
 -- one slot more
 abbrev pub longer : Slots → ℕ → Slots

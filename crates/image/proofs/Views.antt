@@ -13,7 +13,7 @@ use Rattle.model.specs.Basic.{if_then_else_, gather}
 use Rattle.model.specs.Bounds.{M}
 use Rattle.model.specs.Block as block
 use Rattle.model.specs.declared.InputType.the-variants.{Real as real, Int as int}
-use Rattle.model.specs.Image.{tab, singletonTerm, terms, points, typeWord, rangeWords, defaultWords, nameWords, inputTable, outputTable, termTable, pointWords}
+use Rattle.model.specs.Image.{tab, singletonTerm, typeWord, rangeWords, defaultWords, nameWords, inputTable, outputTable, termTable, pointWords}
 use Rattle.words.proofs.Places.{length-tab, tab-ext}
 use Rattle.lookup.specs.Names.{nameOf}
 use Rattle.layout.specs.Rows.{laid}

@@ -151,8 +151,10 @@ fn input_table(
     out: &mut [u8],
     at: usize,
 ) -> usize
-    requires { ⌜ (count ≤ 8) × Placed (now s) (now names) × ((i : ℕ) → inputSize inputs i ≤ 7) × ((at + count * 7) * 4 ≤ length (now out)) ⌝ }
-    ensures { λ r. ⌜ Wrote at r (inputRows (now (s .entry)) (now (names .entry)) inputs count) (now (out .entry)) (now (out .exit)) ⌝ }
+    requires { ⌜ (count ≤ 8) × Placed (now s) (now names) × ((i : ℕ) → inputSize inputs i ≤ 7)
+        × ((at + count * 7) * 4 ≤ length (now out)) ⌝ }
+    ensures { λ r. ⌜ Wrote at r (inputRows (now (s .entry)) (now (names .entry)) inputs count)
+        (now (out .entry)) (now (out .exit)) ⌝ }
     ensures next { λ r. ⌜ r ≡ at + count * 7 ⌝ }
 {
     let mut first: usize = 0;
@@ -209,8 +211,10 @@ fn output_table(
     out: &mut [u8],
     at: usize,
 ) -> usize
-    requires { ⌜ (count ≤ 6) × (first ≤ 56) × Placed (now s) (now names) × ((o : ℕ) → outputSize outputs o ≤ 7) × ((at + count * 11) * 4 ≤ length (now out)) ⌝ }
-    ensures { λ r. ⌜ Wrote at r (outputRows (now (s .entry)) (now (names .entry)) outputs count first) (now (out .entry)) (now (out .exit)) ⌝ }
+    requires { ⌜ (count ≤ 6) × (first ≤ 56) × Placed (now s) (now names) × ((o : ℕ) → outputSize outputs o ≤ 7)
+        × ((at + count * 11) * 4 ≤ length (now out)) ⌝ }
+    ensures { λ r. ⌜ Wrote at r (outputRows (now (s .entry)) (now (names .entry)) outputs count first)
+        (now (out .entry)) (now (out .exit)) ⌝ }
     ensures next { λ r. ⌜ r ≡ at + count * 11 ⌝ }
 {
     let mut n = first;
@@ -262,7 +266,8 @@ fn input_slots(inputs: [Input; 8], count: usize) -> Slots
 
 fn output_slots(list: Slots, outputs: [Output; 6], count: usize) -> Slots
     requires { ⌜ (count ≤ 6) × (list .count ≤ 56) × ((o : ℕ) → outputSize outputs o ≤ 7) × Listed list ⌝ }
-    ensures { λ r. ⌜ Listed r × (r .count ≤ list .count + count * 7) × (listOf r ≡ listOf list ++ slotsOf (outputSize outputs) 8 count) ⌝ }
+    ensures { λ r. ⌜ Listed r × (r .count ≤ list .count + count * 7)
+        × (listOf r ≡ listOf list ++ slotsOf (outputSize outputs) 8 count) ⌝ }
 {
     let mut r = list;
     let mut o: usize = 0;
@@ -322,8 +327,11 @@ fn term_table(
     out: &mut [u8],
     at: usize,
 ) -> usize
-    requires { ⌜ (n ≤ 98) × ((i : ℕ) → getD (now slots) i 0 < 98) × ((i : ℕ) → getD (now counts) i 0 ≤ 4) × Placed (now s) (now names) × ((at + n * 6) * 4 ≤ length (now out)) ⌝ }
-    ensures { λ r. ⌜ Wrote at r (termRows (now (s .entry)) (now (names .entry)) (now (counts .entry)) (now (slots .entry)) n) (now (out .entry)) (now (out .exit)) ⌝ }
+    requires { ⌜ (n ≤ 98) × ((i : ℕ) → getD (now slots) i 0 < 98) × ((i : ℕ) → getD (now counts) i 0 ≤ 4)
+        × Placed (now s) (now names) × ((at + n * 6) * 4 ≤ length (now out)) ⌝ }
+    ensures { λ r. ⌜ Wrote at r
+        (termRows (now (s .entry)) (now (names .entry)) (now (counts .entry)) (now (slots .entry)) n)
+        (now (out .entry)) (now (out .exit)) ⌝ }
     ensures next { λ r. ⌜ r ≡ at + n * 6 ⌝ }
 {
     let mut first: usize = 0;
@@ -367,8 +375,10 @@ fn slot_points(
     out: &mut [u8],
     at: usize,
 ) -> usize
-    requires { ⌜ (k < 98) × ((i : ℕ) → getD (now counts) i 0 ≤ 4) × ((at + held (now counts) k * 2) * 4 ≤ length (now out)) ⌝ }
-    ensures { λ r. ⌜ Wrote at r (pointsIn points singletons (now (counts .entry)) k) (now (out .entry)) (now (out .exit)) ⌝ }
+    requires { ⌜ (k < 98) × ((i : ℕ) → getD (now counts) i 0 ≤ 4)
+        × ((at + held (now counts) k * 2) * 4 ≤ length (now out)) ⌝ }
+    ensures { λ r. ⌜ Wrote at r (pointsIn points singletons (now (counts .entry)) k)
+        (now (out .entry)) (now (out .exit)) ⌝ }
     ensures next { λ r. ⌜ r ≡ at + held (now (counts .entry)) k * 2 ⌝ }
 {
     if k < 56 {
@@ -389,8 +399,10 @@ fn point_table(
     out: &mut [u8],
     at: usize,
 ) -> usize
-    requires { ⌜ (n ≤ 98) × ((i : ℕ) → getD (now slots) i 0 < 98) × ((i : ℕ) → getD (now counts) i 0 ≤ 4) × ((at + heldIn (now counts) (now slots) n * 2) * 4 ≤ length (now out)) ⌝ }
-    ensures { λ r. ⌜ Wrote at r (pointRows points singletons (now (counts .entry)) (now (slots .entry)) n) (now (out .entry)) (now (out .exit)) ⌝ }
+    requires { ⌜ (n ≤ 98) × ((i : ℕ) → getD (now slots) i 0 < 98) × ((i : ℕ) → getD (now counts) i 0 ≤ 4)
+        × ((at + heldIn (now counts) (now slots) n * 2) * 4 ≤ length (now out)) ⌝ }
+    ensures { λ r. ⌜ Wrote at r (pointRows points singletons (now (counts .entry)) (now (slots .entry)) n)
+        (now (out .entry)) (now (out .exit)) ⌝ }
     ensures next { λ r. ⌜ r ≡ at + heldIn (now (counts .entry)) (now (slots .entry)) n * 2 ⌝ }
 {
     let mut p = at;
@@ -430,7 +442,8 @@ fn rule_table(rules: &[u32], n: usize, out: &mut [u8], at: usize) -> usize
 // THE WHOLE
 // The seven counts of the header.
 fn entries(inputs: usize, outputs: usize, counts: &[usize; 56], list: Slots, n: Totals) -> Counts
-    requires { ⌜ (inputs ≤ 8) × (outputs ≤ 6) × (list .count ≤ 98) × ((i : ℕ) → getD (now counts) i 0 ≤ 4) × (n .rules ≤ 64) × (n .words ≤ 640) × (n .conclusions ≤ 128) ⌝ }
+    requires { ⌜ (inputs ≤ 8) × (outputs ≤ 6) × (list .count ≤ 98) × ((i : ℕ) → getD (now counts) i 0 ≤ 4)
+        × (n .rules ≤ 64) × (n .words ≤ 640) × (n .conclusions ≤ 128) ⌝ }
     ensures { λ r. ⌜ r ≡ entriesOf inputs outputs (now (counts .entry)) list n ⌝ }
     ensures few { λ r. ⌜ Few r ⌝ }
 {
@@ -486,7 +499,9 @@ fn head_words(c: Counts, h: Heading) -> [u32; 20]
 // The whole header.
 fn header(s: &[u8], head: [u32; 20], start: usize, end: usize, h: Heading, out: &mut [u8]) -> usize
     requires { ⌜ (start ≤ end) × (end ≤ length (now s)) × Headed (now s) h × (112 ≤ length (now out)) ⌝ }
-    ensures { λ r. ⌜ Wrote 0 r (head ++ (nameWords (slice start end (now (s .entry))) ++ nameWords (slice (h .start) (h .end) (now (s .entry))))) (now (out .entry)) (now (out .exit)) ⌝ }
+    ensures { λ r. ⌜ Wrote 0 r (head ++ (nameWords (slice start end (now (s .entry)))
+        ++ nameWords (slice (h .start) (h .end) (now (s .entry)))))
+        (now (out .entry)) (now (out .exit)) ⌝ }
     ensures next { λ r. ⌜ r ≡ 28 ⌝ }
 {
     let p = copy(&head, out, 0);
@@ -500,7 +515,8 @@ fn header(s: &[u8], head: [u32; 20], start: usize, end: usize, h: Heading, out: 
 
 // The tables of variables, terms and points. first: how many of the terms in the list are of inputs.
 fn variables(s: &[u8], t: Tables, first: usize, list: Slots, out: &mut [u8], at: usize) -> usize
-    requires { ⌜ Holds (now s) t × Listed list × (first ≤ 56) × (list .count ≤ 98) × ((at + variableWords t list) * 4 ≤ length (now out)) ⌝ }
+    requires { ⌜ Holds (now s) t × Listed list × (first ≤ 56) × (list .count ≤ 98)
+        × ((at + variableWords t list) * 4 ≤ length (now out)) ⌝ }
     ensures { λ r. ⌜ Wrote at r (variableRows (now (s .entry)) t first list) (now (out .entry)) (now (out .exit)) ⌝ }
     ensures next { λ r. ⌜ r ≡ at + variableWords t list ⌝ }
 {
@@ -529,9 +545,12 @@ pub fn store(
     out: &mut [u8],
 ) -> Written
     requires { ⌜ Holds (now s) t × Headed (now s) h × (n .rules ≤ 64) × (n .words ≤ 640) × (n .conclusions ≤ 128) ⌝ }
-    ensures { λ r. ⌜ ((rs : List Rule) → Stored rs (now (rules .entry)) (now (words .entry)) (now (conclusions .entry)) (n .rules) (n .words) (n .conclusions)
+    ensures { λ r. ⌜ ((rs : List Rule)
+        → Stored rs (now (rules .entry)) (now (words .entry)) (now (conclusions .entry))
+        (n .rules) (n .words) (n .conclusions)
         → (writtenOf r ≡ lengthIn (into (length (now (out .entry))) (image (wholeView (now (s .entry)) t h rs))))
-        × (now (out .exit) ≡ bufferAfter (now (out .entry)) (into (length (now (out .entry))) (image (wholeView (now (s .entry)) t h rs))))) ⌝ }
+        × (now (out .exit) ≡ bufferAfter (now (out .entry))
+        (into (length (now (out .entry))) (image (wholeView (now (s .entry)) t h rs))))) ⌝ }
 {
     // As slices, whose lengths are then known.
     let rows: &[u32] = rules;

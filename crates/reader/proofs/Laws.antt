@@ -1,18 +1,15 @@
 -- The parts of a text make up document 01's reading of it.
 use mathlib.Core.Path.{_≡_, refl, sym, ap, _∙_}
-use mathlib.Core.Bool.{true, false}
-use mathlib.Core.List.{List, [], _∷_}
+use mathlib.Core.List.{List}
 use mathlib.Core.Option.{some}
 use Prim.Native.Nat.{ℕ, zero, suc, _≤_, _<_}
 use native.Mathlib.Omega.{arith}
 use borrow.Author.Tests.{eq-eqb, ne-eqb, lt-ltb, le-ltb}
-use lib.Dec.{ltb, eqb}
 use lib.ListN.{length}
-use Rattle.model.specs.Basic.{if_then_else_, gather, total}
+use Rattle.model.specs.Basic.{gather, total}
 use Rattle.model.specs.Block.{Block, Rule}
-use Rattle.model.specs.Bounds.{textLimit}
 use Rattle.model.specs.Keywords.{RULE}
-use Rattle.model.specs.Outcome.{Outcome, accepted, refused, andThen, into, lengthIn, bufferAfter}
+use Rattle.model.specs.Outcome.{Outcome, accepted, refused, andThen, into}
 use Rattle.model.specs.Parse.{Parse, repeated}
 use Rattle.model.specs.Rules.{rule, ruleBlock}
 use Rattle.model.specs.Reader.{functionBlock, start, outcomeOf, reads}
@@ -20,18 +17,13 @@ use Rattle.model.specs.Image.{image}
 use Rattle.model.specs.Entries.{readsInto}
 use Rattle.cursor.specs.declared.Cursor.{Cursor}
 use Rattle.cursor.specs.View.{seen}
-use Rattle.cursor.proofs.Laws.{why-seen, block-seen}
 use Rattle.tables.specs.declared.Tables.{Tables}
 use Rattle.tables.specs.declared.Heading.{Heading}
-use Rattle.tables.specs.declared.Totals.{Totals}
 use Rattle.tables.specs.View.{inputsView, outputsView, blockView, wholeView}
-use Rattle.tables.specs.Stored.{Stored}
 use Rattle.reading.specs.Reads.{view}
-use Rattle.reading.specs.declared.Reading.{Reading}
 use Rattle.rule_heading.specs.Opening.{opening, headed, Bare}
 use Rattle.rule_text.specs.Progress.{Kept, holding}
 use Rattle.block_text.specs.Block.{variablesText, frontText, backText, Ends}
-use Rattle.refusals.specs.Known.{Known}
 use Rattle.refusals.proofs.Numbers.{reads-known}
 
 pub bare : (s : List ℕ) (t : Tables) → Bare (blockView s t)

@@ -18,7 +18,8 @@ use tables::Totals;
 fn read_on(s: &[u8], p: Reading, out: &mut [u8]) -> Written
     requires { ⌜ Good (now s) p × (view (now s) p ≡ frontText (start (now s))) × (length (now s) ≤ 65536) ⌝ }
     ensures { λ r. ⌜ writtenOf r ≡ lengthIn (readsInto (length (now (out .entry))) (now (s .entry))) ⌝ }
-    ensures buffer { λ r. ⌜ now (out .exit) ≡ bufferAfter (now (out .entry)) (readsInto (length (now (out .entry))) (now (s .entry))) ⌝ }
+    ensures buffer { λ r. ⌜ now (out .exit)
+        ≡ bufferAfter (now (out .entry)) (readsInto (length (now (out .entry))) (now (s .entry))) ⌝ }
 {
     let t = p.tables;
     let book = book::book_of(t);
@@ -59,7 +60,8 @@ fn read_on(s: &[u8], p: Reading, out: &mut [u8]) -> Written
 // The image of the text into the buffer: its length, or the refusal, which leaves the buffer as it came.
 pub fn read(s: &[u8], out: &mut [u8]) -> Written
     ensures { λ r. ⌜ writtenOf r ≡ lengthIn (readsInto (length (now (out .entry))) (now (s .entry))) ⌝ }
-    ensures buffer { λ r. ⌜ now (out .exit) ≡ bufferAfter (now (out .entry)) (readsInto (length (now (out .entry))) (now (s .entry))) ⌝ }
+    ensures buffer { λ r. ⌜ now (out .exit)
+        ≡ bufferAfter (now (out .entry)) (readsInto (length (now (out .entry))) (now (s .entry))) ⌝ }
 {
     if 65536 < s.len() {
         return Written::Refused(Refusal::TextTooLong);

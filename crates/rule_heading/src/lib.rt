@@ -111,7 +111,8 @@ fn pair_at(k: u8, w: u8) -> u32
 
 // The first algorithm sets the pair; the second has to be of it.
 fn algorithm(s: &[u8], p: Opened, second: bool, a: u32) -> Opened
-    requires { ⌜ Fits (now s) (p .cursor) × Headed (now s) (p .heading) × (a ≤ 3) × (a < 3 → p .cursor .kind ≡ 0 → ⊥) ⌝ }
+    requires { ⌜ Fits (now s) (p .cursor) × Headed (now s) (p .heading) × (a ≤ 3)
+        × (a < 3 → p .cursor .kind ≡ 0 → ⊥) ⌝ }
     ensures { λ r. ⌜ Opens (algorithmOf second (pairAt a)) (now (s .entry)) p r ⌝ }
 {
     if a == 3 {
@@ -234,7 +235,8 @@ fn accumulation(s: &[u8], p: Opened) -> Opened
 // ACCU with its algorithm
 fn accumulation_line(s: &[u8], p: Opened) -> Opened
     requires { ⌜ Fits (now s) (p .cursor) × Headed (now s) (p .heading) ⌝ }
-    ensures { λ r. ⌜ Opens (λ y. y ▸ expect ACCU ▸ expect COLON ▸ accumulationOf ▸ expect SEMICOLON) (now (s .entry)) p r ⌝ }
+    ensures { λ r. ⌜ Opens (λ y. y ▸ expect ACCU ▸ expect COLON ▸ accumulationOf ▸ expect SEMICOLON)
+        (now (s .entry)) p r ⌝ }
 {
     let a = expected(s, p, kinds::ACCU);
     let b = expected(s, a, kinds::COLON);
@@ -244,8 +246,11 @@ fn accumulation_line(s: &[u8], p: Opened) -> Opened
 
 pub fn rule_heading(s: &[u8], c: Cursor) -> Opened
     requires { ⌜ Fits (now s) c ⌝ }
-    ensures { λ r. ⌜ ((b : Block) (n : ℕ) → Bare b → seen (now (s .entry)) (r .cursor) (headed (now (s .entry)) (r .heading) b) n ≡ opening (seen (now (s .entry)) c b n)) ⌝ }
-    ensures within { λ r. ⌜ (left (now (s .entry)) (r .cursor) ≤ left (now (s .entry)) c) × Fits (now (s .entry)) (r .cursor) × Headed (now (s .entry)) (r .heading) ⌝ }
+    ensures { λ r. ⌜ ((b : Block) (n : ℕ) → Bare b
+        → seen (now (s .entry)) (r .cursor) (headed (now (s .entry)) (r .heading) b) n
+        ≡ opening (seen (now (s .entry)) c b n)) ⌝ }
+    ensures within { λ r. ⌜ (left (now (s .entry)) (r .cursor) ≤ left (now (s .entry)) c)
+        × Fits (now (s .entry)) (r .cursor) × Headed (now (s .entry)) (r .heading) ⌝ }
 {
     let h = Heading {
         start: 0,

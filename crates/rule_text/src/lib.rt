@@ -46,7 +46,8 @@ struct Weighed {
 // Whether one of the rules has this number.
 fn is_used(rules: &[u32; 256], count: usize, number: u32) -> bool
     requires { ⌜ count ≤ 64 ⌝ }
-    ensures { λ r. ⌜ ((rs : List Rule) → Rows rs (now (rules .entry)) count → r ≡ not (all (λ q. not (eqb (q .number) number)) rs)) ⌝ }
+    ensures { λ r. ⌜ ((rs : List Rule) → Rows rs (now (rules .entry)) count
+        → r ≡ not (all (λ q. not (eqb (q .number) number)) rs)) ⌝ }
 {
     let mut k = 0;
     while k < count {
@@ -60,8 +61,10 @@ fn is_used(rules: &[u32; 256], count: usize, number: u32) -> bool
 
 fn rule_number(s: &[u8], rules: &[u32; 256], count: usize, c: Cursor) -> Numbered
     requires { ⌜ Fits (now s) c × (count ≤ 64) ⌝ }
-    ensures { λ r. ⌜ ((b : Block) (m : ℕ) → Rows (b .rules) (now (rules .entry)) count → seen (now (s .entry)) (r .cursor) b m ≡ ruleNumber (seen (now (s .entry)) c b m)) ⌝ }
-    ensures within { λ r. ⌜ (left (now (s .entry)) (r .cursor) ≤ left (now (s .entry)) c) × Fits (now (s .entry)) (r .cursor) × (r .cursor .why ≡ 0 → r .number ≡ decimal (textOf (now (s .entry)) c)) ⌝ }
+    ensures { λ r. ⌜ ((b : Block) (m : ℕ) → Rows (b .rules) (now (rules .entry)) count
+        → seen (now (s .entry)) (r .cursor) b m ≡ ruleNumber (seen (now (s .entry)) c b m)) ⌝ }
+    ensures within { λ r. ⌜ (left (now (s .entry)) (r .cursor) ≤ left (now (s .entry)) c)
+        × Fits (now (s .entry)) (r .cursor) × (r .cursor .why ≡ 0 → r .number ≡ decimal (textOf (now (s .entry)) c)) ⌝ }
 {
     let x = values::number_here(s, c);
     if x.fault != 0 {
@@ -104,9 +107,12 @@ fn concluded_term(
     p: Concluded,
     o: usize,
 ) -> Concluded
-    requires { ⌜ Fits (now s) (p .cursor) × Book (now s) (now names) (now book) × (o < outputCount (now book)) × (p .count < 128) ⌝ }
-    ensures { λ r. ⌜ ((b : Block) (rs : List Rule) (q : Rule) (m : ℕ) → Describes (now (s .entry)) (now (names .entry)) (now (book .entry)) b
-        → Concludes (concludedTerm o) (now (s .entry)) b rs q m p r (now (conclusions .entry)) (now (conclusions .exit))) ⌝ }
+    requires { ⌜ Fits (now s) (p .cursor) × Book (now s) (now names) (now book) × (o < outputCount (now book))
+        × (p .count < 128) ⌝ }
+    ensures { λ r. ⌜ ((b : Block) (rs : List Rule) (q : Rule) (m : ℕ)
+        → Describes (now (s .entry)) (now (names .entry)) (now (book .entry)) b
+        → Concludes (concludedTerm o) (now (s .entry)) b rs q m p r
+        (now (conclusions .entry)) (now (conclusions .exit))) ⌝ }
     ensures onward { λ r. ⌜ Onward (now (s .entry)) p r ⌝ }
 {
     let c = p.cursor;
@@ -138,7 +144,8 @@ fn conclusion(
     p: Concluded,
 ) -> Concluded
     requires { ⌜ Fits (now s) (p .cursor) × Book (now s) (now names) (now book) × (p .count ≤ 128) ⌝ }
-    ensures { λ r. ⌜ ((b : Block) (rs : List Rule) (q : Rule) (m : ℕ) → Describes (now (s .entry)) (now (names .entry)) (now (book .entry)) b
+    ensures { λ r. ⌜ ((b : Block) (rs : List Rule) (q : Rule) (m : ℕ)
+        → Describes (now (s .entry)) (now (names .entry)) (now (book .entry)) b
         → length (conclusionsOf (midst b rs q)) ≡ p .count
         → Concludes conclusionOf (now (s .entry)) b rs q m p r (now (conclusions .entry)) (now (conclusions .exit))) ⌝ }
     ensures onward { λ r. ⌜ Onward (now (s .entry)) p r ⌝ }
@@ -173,9 +180,11 @@ fn conclusion_list(
     p: Concluded,
 ) -> Concluded
     requires { ⌜ Fits (now s) (p .cursor) × Book (now s) (now names) (now book) × (p .count ≤ 128) ⌝ }
-    ensures { λ r. ⌜ ((b : Block) (rs : List Rule) (q : Rule) (m : ℕ) → Describes (now (s .entry)) (now (names .entry)) (now (book .entry)) b
+    ensures { λ r. ⌜ ((b : Block) (rs : List Rule) (q : Rule) (m : ℕ)
+        → Describes (now (s .entry)) (now (names .entry)) (now (book .entry)) b
         → length (conclusionsOf (midst b rs q)) ≡ p .count
-        → Concludes (listed conclusionOf) (now (s .entry)) b rs q m p r (now (conclusions .entry)) (now (conclusions .exit))) ⌝ }
+        → Concludes (listed conclusionOf) (now (s .entry)) b rs q m p r
+        (now (conclusions .entry)) (now (conclusions .exit))) ⌝ }
     ensures onward { λ r. ⌜ Onward (now (s .entry)) p r ⌝ }
 {
     let mut q = conclusion(s, names, book, conclusions, p);
@@ -195,8 +204,10 @@ fn conclusion_list(
 fn weighted(s: &[u8], c: Cursor) -> Weighed
     requires { ⌜ Fits (now s) c ⌝ }
     ensures { λ r. ⌜ ((b : Block) (rs : List Rule) (q : Rule) (m : ℕ) → q .weight ≡ M
-        → seen (now (s .entry)) (r .cursor) (midst b rs (withWeight (r .weight .0) q)) m ≡ weightedOf (seen (now (s .entry)) c (midst b rs q) m)) ⌝ }
-    ensures within { λ r. ⌜ (left (now (s .entry)) (r .cursor) ≤ left (now (s .entry)) c) × Fits (now (s .entry)) (r .cursor) ⌝ }
+        → seen (now (s .entry)) (r .cursor) (midst b rs (withWeight (r .weight .0) q)) m
+        ≡ weightedOf (seen (now (s .entry)) c (midst b rs q) m)) ⌝ }
+    ensures within { λ r. ⌜ (left (now (s .entry)) (r .cursor) ≤ left (now (s .entry)) c)
+        × Fits (now (s .entry)) (r .cursor) ⌝ }
 {
     if c.kind != kinds::WITH {
         return Weighed {
@@ -223,7 +234,8 @@ fn weighted(s: &[u8], c: Cursor) -> Weighed
 // The row of rule k.
 fn put_row(rules: &mut [u32; 256], k: usize, number: u32, words: u32, conclusions: u32, weight: u32)
     requires { ⌜ k < 64 ⌝ }
-    ensures { λ r. ⌜ Adds (k * 4) ((k + 1) * 4) (number ∷ words ∷ conclusions ∷ weight ∷ []) (now (rules .entry)) (now (rules .exit)) ⌝ }
+    ensures { λ r. ⌜ Adds (k * 4) ((k + 1) * 4) (number ∷ words ∷ conclusions ∷ weight ∷ [])
+        (now (rules .entry)) (now (rules .exit)) ⌝ }
 {
     rules[k * 4] = number;
     rules[k * 4 + 1] = words;
@@ -242,10 +254,14 @@ fn rule_given(
     number: u32,
     words: u32,
 ) -> Progress
-    requires { ⌜ Fits (now s) (p .cursor) × Book (now s) (now names) (now book) × Few (p .totals) × (p .totals .rules < 64) ⌝ }
-    ensures { λ r. ⌜ ((b : Block) (rs : List Rule) (q : Rule) → Describes (now (s .entry)) (now (names .entry)) (now (book .entry)) b
+    requires { ⌜ Fits (now s) (p .cursor) × Book (now s) (now names) (now book) × Few (p .totals)
+        × (p .totals .rules < 64) ⌝ }
+    ensures { λ r. ⌜ ((b : Block) (rs : List Rule) (q : Rule)
+        → Describes (now (s .entry)) (now (names .entry)) (now (book .entry)) b
         → length (conclusionsOf (midst b rs q)) ≡ p .totals .conclusions → q .weight ≡ M
-        → Ends (λ y. expect SEMICOLON (weightedOf (listed conclusionOf (expect THEN y)))) (now (s .entry)) b rs q p r number words (now (rules .entry)) (now (rules .exit)) (now (conclusions .entry)) (now (conclusions .exit))) ⌝ }
+        → Ends (λ y. expect SEMICOLON (weightedOf (listed conclusionOf (expect THEN y))))
+        (now (s .entry)) b rs q p r number words
+        (now (rules .entry)) (now (rules .exit)) (now (conclusions .entry)) (now (conclusions .exit))) ⌝ }
     ensures within { λ r. ⌜ Within (now (s .entry)) p r ⌝ }
 {
     let c = p.cursor;
@@ -284,7 +300,8 @@ fn rule_from(
     conclusions: &mut [u32; 256],
     p: Progress,
 ) -> Progress
-    requires { ⌜ Fits (now s) (p .cursor) × Book (now s) (now names) (now book) × Few (p .totals) × (p .totals .rules < 64) ⌝ }
+    requires { ⌜ Fits (now s) (p .cursor) × Book (now s) (now names) (now book) × Few (p .totals)
+        × (p .totals .rules < 64) ⌝ }
     ensures { λ r. ⌜ ((b : Block) → Describes (now (s .entry)) (now (names .entry)) (now (book .entry)) b
         → Kept (b .rules) (now (rules .entry)) (now (words .entry)) (now (conclusions .entry)) (p .totals)
         → Goes ruleFrom (now (s .entry)) b p r (now (rules .exit)) (now (words .exit)) (now (conclusions .exit))) ⌝ }
@@ -321,7 +338,8 @@ fn rule_from(
 
 fn refused(p: Progress, why: u8) -> Progress
     requires { ⌜ 0 < why ⌝ }
-    ensures { λ r. ⌜ ((s : List ℕ) → Fits s (p .cursor) → Step (refuse why) s (p .cursor) (r .cursor) × Moves s (p .cursor) (r .cursor)) ⌝ }
+    ensures { λ r. ⌜ ((s : List ℕ) → Fits s (p .cursor) → Step (refuse why) s (p .cursor) (r .cursor)
+        × Moves s (p .cursor) (r .cursor)) ⌝ }
     ensures totals { λ r. ⌜ (r .totals ≡ p .totals) × (r .cursor .why ≡ 0 → ⊥) ⌝ }
 {
     let c = p.cursor;
@@ -378,7 +396,8 @@ pub fn rules(
     requires { ⌜ Fits (now s) (p .cursor) × Book (now s) (now names) (now book) × Few (p .totals) ⌝ }
     ensures { λ r. ⌜ ((b : Block) → Describes (now (s .entry)) (now (names .entry)) (now (book .entry)) b
         → Kept (b .rules) (now (rules .entry)) (now (words .entry)) (now (conclusions .entry)) (p .totals)
-        → Goes (λ y. repeated RULE ruleOf (ruleOf y)) (now (s .entry)) b p r (now (rules .exit)) (now (words .exit)) (now (conclusions .exit))) ⌝ }
+        → Goes (λ y. repeated RULE ruleOf (ruleOf y)) (now (s .entry)) b p r
+        (now (rules .exit)) (now (words .exit)) (now (conclusions .exit))) ⌝ }
     ensures within { λ r. ⌜ Within (now (s .entry)) p r ⌝ }
 {
     let mut q = rule(s, names, book, rules, words, conclusions, p);

@@ -1,5 +1,6 @@
-// The fixed tables that a text is read into, by value: 8 inputs, 6 outputs, 7 terms each, 4 points a term. Names are places in the text: name v
-// is that of variable v, inputs first and outputs from 8 on, and name 14 + 7v + j that of its term j.
+// The fixed tables that a text is read into, by value: 8 inputs, 6 outputs, 7 terms each, 4 points a term. Names are
+// places in the text: name v is that of variable v, inputs first and outputs from 8 on, and name 14 + 7v + j that of
+// its term j.
 use model::Crisp;
 use model::Degree;
 

@@ -1,6 +1,7 @@
-// Reads each text of data/texts into a buffer and writes a line for it: the image in hex, or the number and place of the refusal. A text that is
-// accepted is read again into a buffer that is one byte too short. A byte of the buffer that changed and should not have adds "changed".
-// The file, and the lines to expect, are made by tools/vectors.py from vectors worked out elsewhere.
+// Reads each text of data/texts into a buffer and writes a line for it: the image in hex, or the number and place of
+// the refusal. A text that is accepted is read again into a buffer that is one byte too short. A byte of the buffer
+// that changed and should not have adds "changed". The file, and the lines to expect, are made by tools/vectors.py from
+// vectors worked out elsewhere.
 ghost use mathlib.Core.Path.{_≡_};
 ghost use lib.ListN.{length};
 use model::Refusal;

@@ -77,7 +77,9 @@ pub fn unit_here(s: &[u8], c: Cursor) -> UnitHere
 // The rule number, whether or not another rule has it.
 pub fn number_here(s: &[u8], c: Cursor) -> NumberHere
     requires { ⌜ Fits (now s) c ⌝ }
-    ensures { λ r. ⌜ ((b : Block) (n : ℕ) → r .fault ≡ fault ((is NUMBER (seen (now (s .entry)) c b n), 2) ∷ (isRuleNumber (text (seen (now (s .entry)) c b n)), 3) ∷ [])) ⌝ }
+    ensures { λ r. ⌜ ((b : Block) (n : ℕ)
+        → r .fault ≡ fault ((is NUMBER (seen (now (s .entry)) c b n), 2)
+        ∷ (isRuleNumber (text (seen (now (s .entry)) c b n)), 3) ∷ [])) ⌝ }
     ensures value { λ r. ⌜ r .value ≡ (if eqb (r .fault) 0 then decimal (textOf (now (s .entry)) c) else 0) ⌝ }
     ensures kind { λ r. ⌜ (r .fault ≡ 0 → c .kind ≡ 3) ⌝ }
 {

@@ -1,15 +1,10 @@
-use mathlib.Core.Path.{_≡_, refl, sym, ap, _∙_}
-use native.Mathlib.Omega.{arith}
+use mathlib.Core.Path.{sym, ap}
 use borrow.Author.Needs.{needs}
 use Rattle.reader.proofs.Laws as laws
 use lib.ListN.{length}
 use Rattle.model.specs.Outcome.{lengthIn, bufferAfter}
 use Rattle.reader.proofs.read.Statement.{statement}
 use Rattle.reader.proofs.read.Tie as tie
-use Rattle.reader.proofs.read.Reads as reads
-use Rattle.reader.proofs.read.Lts as lts
-use Rattle.block_text.proofs.front.Reads as front-reads
-use Rattle.reader.proofs.read_on.Reads as read-on-reads
 
 returns : tie.Need-returns
 returns c = let e = laws.long (length (c .before .before .before .args .out .now)) (c .before .before .before .args .s .now) (c .if1 .taken) in (ap lengthIn (sym e), ap (bufferAfter (c .before .before .before .args .out .now)) (sym e))

@@ -1,4 +1,4 @@
-use mathlib.Core.Path.{_≡_, refl, sym, ap, _∙_}
+use mathlib.Core.Path.{refl, sym, ap, _∙_}
 use native.Mathlib.Omega.{arith}
 use borrow.Author.Needs.{needs}
 use Rattle.reader.proofs.Laws as laws
@@ -9,15 +9,6 @@ use Rattle.rule_heading.specs.Opening.{headed}
 use Rattle.rule_text.specs.Progress.{holding}
 use Rattle.reader.proofs.read_on.Statement.{statement}
 use Rattle.reader.proofs.read_on.Tie as tie
-use Rattle.reader.proofs.read_on.Reads as reads
-use Rattle.reader.proofs.read_on.Lts as lts
-use Rattle.block_text.proofs.back.Reads as back-reads
-use Rattle.block_text.proofs.is_complete.Reads as is-complete-reads
-use Rattle.book.proofs.book_of.Reads as book-of-reads
-use Rattle.image.proofs.store.Reads as store-reads
-use Rattle.refusals.proofs.refusal_of.Reads as refusal-of-reads
-use Rattle.rule_heading.proofs.rule_heading.Reads as rule-heading-reads
-use Rattle.rule_text.proofs.rules.Reads as rules-reads
 
 book-of-requires : tie.Need-book-of-requires
 book-of-requires c κs = (c .before .before .before .pre .0 .holds .inputTerms, c .before .before .before .pre .0 .holds .outputTerms)

@@ -3,8 +3,6 @@ use lib.ListN.{length}
 use borrow.Author.Needs.{needs}
 use Rattle.text_vectors.proofs.is_changed.Statement.{statement}
 use Rattle.text_vectors.proofs.is_changed.Tie as tie
-use Rattle.text_vectors.proofs.is_changed.Reads as reads
-use Rattle.text_vectors.proofs.is_changed.Lts as lts
 
 abbrev Inv-loop : tie.InvT-loop
 Inv-loop out k i₀ i = k ≤ i

@@ -2,11 +2,6 @@ use Prim.Native.Nat.{_≤_, _-_}
 use borrow.Author.Needs.{needs}
 use Rattle.text_vectors.proofs.main.Statement.{statement}
 use Rattle.text_vectors.proofs.main.Tie as tie
-use Rattle.text_vectors.proofs.main.Reads as reads
-use Rattle.text_vectors.proofs.main.Lts as lts
-use Rattle.libc.proofs.close.Reads as close-reads
-use Rattle.os.proofs.open_read.Reads as open-read-reads
-use Rattle.text_vectors.proofs.run_case.Reads as run-case-reads
 
 abbrev Inv-loop : tie.InvT-loop
 Inv-loop fd i₀ i = i ≤ 100000

@@ -1,16 +1,9 @@
 use mathlib.Core.Path.{sym}
 use native.Mathlib.Omega.{arith}
 use lib.Seq.{length-take-le}
-use lib.ListN.{length}
 use borrow.Author.Needs.{needs}
 use Rattle.text_vectors.proofs.run_case.Statement.{statement}
 use Rattle.text_vectors.proofs.run_case.Tie as tie
-use Rattle.text_vectors.proofs.run_case.Reads as reads
-use Rattle.text_vectors.proofs.run_case.Lts as lts
-use Rattle.io.proofs.read_full.Reads as read-full-reads
-use Rattle.text_vectors.proofs.long_buffer.Reads as long-buffer-reads
-use Rattle.text_vectors.proofs.run_text.Reads as run-text-reads
-use Rattle.words.proofs.word.Reads as word-reads
 
 slice-aggregate-read-full : tie.Need-slice-aggregate-read-full
 slice-aggregate-read-full c = search needs

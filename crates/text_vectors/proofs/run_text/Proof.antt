@@ -1,16 +1,10 @@
 use mathlib.Core.Path.{sym}
 use native.Mathlib.Omega.{arith}
 use lib.Seq.{length-take-le}
-use Prim.Native.Nat.{_≤_, _-_}
-use lib.ListN.{length}
+use Prim.Native.Nat.{_-_}
 use borrow.Author.Needs.{needs}
 use Rattle.text_vectors.proofs.run_text.Statement.{statement}
 use Rattle.text_vectors.proofs.run_text.Tie as tie
-use Rattle.text_vectors.proofs.run_text.Reads as reads
-use Rattle.text_vectors.proofs.run_text.Lts as lts
-use Rattle.io.proofs.read_full.Reads as read-full-reads
-use Rattle.text_vectors.proofs.filled.Reads as filled-reads
-use Rattle.text_vectors.proofs.run_reading.Reads as run-reading-reads
 
 read-full-requires : tie.Need-read-full-requires
 read-full-requires c κs = search needs

@@ -2,10 +2,6 @@ use Prim.Native.Nat.{_≤_, _-_}
 use borrow.Author.Needs.{needs}
 use Rattle.text_vectors.proofs.write_bytes.Statement.{statement}
 use Rattle.text_vectors.proofs.write_bytes.Tie as tie
-use Rattle.text_vectors.proofs.write_bytes.Reads as reads
-use Rattle.text_vectors.proofs.write_bytes.Lts as lts
-use Rattle.io.proofs.print_hex.Reads as print-hex-reads
-use Rattle.text_vectors.proofs.wide.Reads as wide-reads
 
 abbrev Inv-loop : tie.InvT-loop
 Inv-loop out n i₀ i = i ≤ n
