@@ -5,18 +5,12 @@ use Prim.Native.Nat.{ℕ, zero, suc, _+_, _*_, _%_, _^_, _≤_}
 use native.Mathlib.Omega.{arith}
 use lib.ListN.{length, getD, take, drop, length-append}
 use lib.Seq.{drop-cons, length-take-le}
+use Rattle.layout.proofs.Whole.{length-conditions}
 use Rattle.model.specs.Basic.{gather, total}
 use Rattle.model.specs.Block.{Rule, Conclusion, size}
-use Rattle.model.specs.Image.{postfix, ruleTable, conclusionWords}
-use Rattle.layout.proofs.Whole.{length-postfix}
+use Rattle.model.specs.Image.{ruleTable, conclusionWords}
 use Rattle.tables.specs.Stored.{Stored, ruleRow}
 use Rattle.image.specs.Rows.{rows, ruleWords, ruleNext}
-
-pub length-conditions : (rs : List Rule) → length (gather (λ r. postfix (r .condition)) rs) ≡ total (λ r. size (r .condition)) rs
-unfolding gather total
-length-conditions [] = refl
-length-conditions (r ∷ rs) =
-    length-append (postfix (r .condition)) (gather (λ q. postfix (q .condition)) rs) ∙ (λ j. length-postfix (r .condition) j + length-conditions rs j)
 
 length-joined : (rs : List Rule) → length (gather (λ r. r .conclusions) rs) ≡ total (λ r. length (r .conclusions)) rs
 unfolding gather total

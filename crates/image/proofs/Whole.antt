@@ -3,7 +3,7 @@ use mathlib.Core.Path.{_≡_, refl, sym, ap, _∙_}
 use mathlib.Core.List.{List, [], _∷_, _++_, append-assoc}
 use mathlib.Core.Bool.{false}
 use mathlib.Core.Option.{some}
-use Prim.Native.Nat.{ℕ, zero, suc, _*_, _≤_, _<_}
+use Prim.Native.Nat.{ℕ, _*_, _≤_, _<_}
 use native.Mathlib.Omega.{arith}
 use lib.Dec.{ltb}
 use lib.ListN.{length, take, drop, length-append}
@@ -28,7 +28,8 @@ use Rattle.image.specs.declared.Counts.{Counts}
 use Rattle.image.specs.declared.Slots.{Slots}
 use Rattle.image.specs.Rows.{heldIn, variableRows, ruleRows, countList, headWords}
 use Rattle.image.proofs.Views.{Ordered, inputs-laid, outputs-laid, terms-laid, points-laid, first-output, terms-count, points-count}
-use Rattle.image.proofs.Kept.{length-conditions, length-pairs, words-count, conclusions-count, all-kept}
+use Rattle.layout.proofs.Whole.{length-conditions, pair-code, accu-code, act-code}
+use Rattle.image.proofs.Kept.{length-pairs, words-count, conclusions-count, all-kept}
 
 -- HOW LONG the words of a block are
 length-points : (ps : List block.Point) → length (gather pointWords ps) ≡ length ps * 2
@@ -93,23 +94,6 @@ module _ (b : Block) where
         length-conditions (b .rules),
         length-pairs (conclusions b),
       )
-
--- THE HEADER: words that are their own codes
-pair-code : (x : ℕ) → x ≤ 2 → pairWord (pairOf x) ≡ x
-pair-code zero h = refl
-pair-code (suc zero) h = refl
-pair-code (suc (suc zero)) h = refl
-pair-code (suc (suc (suc x))) h = absurd (omega arith)
-
-accu-code : (x : ℕ) → x ≤ 1 → accuWord (accuOf x) ≡ x
-accu-code zero h = refl
-accu-code (suc zero) h = refl
-accu-code (suc (suc x)) h = absurd (omega arith)
-
-act-code : (x : ℕ) → x ≤ 1 → actWord (actOf x) ≡ x
-act-code zero h = refl
-act-code (suc zero) h = refl
-act-code (suc (suc x)) h = absurd (omega arith)
 
 -- THE ANSWERS
 module _ (img old : List ℕ) (n : ℕ) (long : length img ≡ n) where

@@ -45,14 +45,14 @@ length-postfix (neg c) = length-append (postfix c) (0 ∷ []) ∙ omega (arith, 
 length-postfix (two o a b) =
     length-append (postfix a) (postfix b ++ (opWord o ∷ [])) ∙ omega (arith, length-append (postfix b) (opWord o ∷ []), length-postfix a, length-postfix b)
 
-length-conditions : (rs : List Rule) → length (gather (λ r. postfix (r .condition)) rs) ≡ total (λ r. size (r .condition)) rs
+pub length-conditions : (rs : List Rule) → length (gather (λ r. postfix (r .condition)) rs) ≡ total (λ r. size (r .condition)) rs
 unfolding gather total
 length-conditions [] = refl
 length-conditions (r ∷ rs) =
     length-append (postfix (r .condition)) (gather (λ q. postfix (q .condition)) rs) ∙ (λ j. length-postfix (r .condition) j + length-conditions rs j)
 
 -- small words that are their own codes
-pair-code : (x : ℕ) → x ≤ 2 → pairWord (pairOf x) ≡ x
+pub pair-code : (x : ℕ) → x ≤ 2 → pairWord (pairOf x) ≡ x
 pair-code zero h = refl
 pair-code (suc zero) h = refl
 pair-code (suc (suc zero)) h = refl
@@ -66,7 +66,7 @@ pair-small x h = subst (λ (n : ℕ). n ≤ 2) h (go (pairOf x))
     go ProdAsum = omega arith
     go BdifBsum = omega arith
 
-accu-code : (x : ℕ) → x ≤ 1 → accuWord (accuOf x) ≡ x
+pub accu-code : (x : ℕ) → x ≤ 1 → accuWord (accuOf x) ≡ x
 accu-code zero h = refl
 accu-code (suc zero) h = refl
 accu-code (suc (suc x)) h = absurd (omega arith)
@@ -78,7 +78,7 @@ accu-small x h = subst (λ (n : ℕ). n ≤ 1) h (go (accuOf x))
     go Max = omega arith
     go Bsum = omega arith
 
-act-code : (x : ℕ) → x ≤ 1 → actWord (actOf x) ≡ x
+pub act-code : (x : ℕ) → x ≤ 1 → actWord (actOf x) ≡ x
 act-code zero h = refl
 act-code (suc zero) h = refl
 act-code (suc (suc x)) h = absurd (omega arith)

@@ -21,13 +21,13 @@ clamped z =
     if ltZ (pos crispLimit) z then pos crispLimit else z
 
 -- a finite float is m * up e / down e, negative where s is true (lib.Ieee)
-abbrev pub exactly : Bool → ℕ → ℤ → ℤ
-exactly s m e = nearestℤ (if s then negℤ (pos (1000 * m * up e)) else pos (1000 * m * up e)) (down e)
+abbrev pub nearestThousandth : Bool → ℕ → ℤ → ℤ
+nearestThousandth s m e = nearestℤ (if s then negℤ (pos (1000 * m * up e)) else pos (1000 * m * up e)) (down e)
 
 unfoldable pub realOf : Float → Taken
 realOf nan = NotFinite
 realOf (inf s) = NotFinite
-realOf (fin s m e) = Value (record { 0 = clamped (exactly s m e) })
+realOf (fin s m e) = Value (record { 0 = clamped (nearestThousandth s m e) })
 
 unfoldable pub taken : InputType → Reading → Taken
 taken real (Real x) = realOf x

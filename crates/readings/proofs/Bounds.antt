@@ -2,7 +2,7 @@
 use mathlib.Core.Path.{_≡_, ap, subst}
 use lib.IntN.{ℤ}
 use lib.Ieee.{Float, nan, inf, fin}
-use Rattle.model.specs.Readings.{exactly, realOf}
+use Rattle.model.specs.Readings.{nearestThousandth, realOf}
 use Rattle.model.specs.declared.Crisp.{Crisp}
 use Rattle.model.specs.declared.Taken.{Taken}
 use Rattle.model.specs.declared.Taken.the-variants.{Value, Absent, NotFinite, WrongKind}
@@ -22,7 +22,7 @@ pub real-bounded : (x : Float) → Bounded (realOf x)
 unfolding realOf
 real-bounded nan = tt
 real-bounded (inf s) = tt
-real-bounded (fin s m e) = clamped-crisp (exactly s m e)
+real-bounded (fin s m e) = clamped-crisp (nearestThousandth s m e)
 
 pub value-is : (r : Crisp) (z : ℤ) → r .0 ≡ z → Value r ≡ Value (record { 0 = z })
 value-is r z e = ap (λ (y : ℤ). Value (record { 0 = y })) e
