@@ -18,8 +18,8 @@ use Rattle.model.specs.Evaluation.{ruleDegree}
 use Rattle.model.specs.Image.{tab, treeOf, pairOf, accuOf, decode, termAt, ruleAt, conclusionAt}
 use Rattle.model.specs.WellFormed.{unitOk, outputOk, conditionOk, conclusionOk, ruleOk}
 use Rattle.words.proofs.Places.{both, and-i, passed, length-tab}
-use Rattle.conditions.specs.Stored.{isCondition, conditionStored}
-use Rattle.conditions.proofs.Stored.{tab-from}
+use Rattle.stored_conditions.specs.Stored.{isCondition, conditionStored}
+use Rattle.stored_conditions.proofs.Stored.{tab-from}
 use Rattle.layout.specs.Tables.{inputTermsIn, conditionRows, conditionExact}
 use Rattle.layout.specs.Groups.{Sound, frameOk, variablesOk, rulesOk}
 use Rattle.layout.proofs.Parts.{inputTerms-are}

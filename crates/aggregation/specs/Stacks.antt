@@ -6,7 +6,7 @@ use lib.ListN.{getD}
 use Rattle.model.specs.declared.Pair.{Pair}
 use Rattle.model.specs.Degrees.{notOf, pairs}
 use Rattle.degrees.specs.Tables.{Low}
-use Rattle.conditions.specs.Machine.{Meaning, room, stackOf}
+use Rattle.stored_conditions.specs.Machine.{Meaning, room, stackOf}
 use Rattle.aggregation.specs.declared.Stack.{Stack}
 
 abbrev pub byDegrees : Pair → List ℕ → Meaning ℕ

@@ -16,14 +16,14 @@ use Rattle.model.specs.Parse.{Parse, Checks, is, refuse, advance, judged, expec
 use Rattle.model.specs.Tokens.{tokens}
 use Rattle.model.specs.Reader.{start, partsThere, endOfBlock}
 use Rattle.words.proofs.Places.{all-start}
-use Rattle.tables.specs.declared.Tables.{Tables}
-use Rattle.tables.specs.View.{zero-crisp, no-input, no-output, no-point, blockView, Holds}
-use Rattle.tables.proofs.Lists.{alike}
+use Rattle.block_tables.specs.declared.Tables.{Tables}
+use Rattle.block_tables.specs.View.{zero-crisp, no-input, no-output, no-point, blockView, Holds}
+use Rattle.block_tables.proofs.Lists.{alike}
 use Rattle.cursor.specs.declared.Cursor.{Cursor}
 use Rattle.cursor.specs.View.{seen, Step, fault}
 use Rattle.cursor.proofs.Laws.{kind-seen, block-seen, lost-kind, judged-bad}
-use Rattle.reading.specs.Reads.{view}
-use Rattle.declared.specs.Book.{Describes, first, inputCount, outputCount}
+use Rattle.parse_state.specs.Reads.{view}
+use Rattle.symbol_table.specs.Book.{Describes, first, inputCount, outputCount}
 use Rattle.block_text.specs.Block.{backText, haveTerms, Ends}
 
 -- THE EMPTY TABLES

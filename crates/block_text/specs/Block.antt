@@ -10,7 +10,7 @@ use Rattle.model.specs.Parse.{Parse, Part, expect, repeated, withName, named}
 use Rattle.model.specs.Declarations.{inputDeclaration, outputDeclaration, fuzzify, defuzzify}
 use Rattle.model.specs.Image.{tab}
 use Rattle.model.specs.Reader.{endOfBlock}
-use Rattle.declared.specs.Book.{first}
+use Rattle.symbol_table.specs.Book.{first}
 
 unfoldable pub variablesText : Part
 variablesText r =

@@ -5,19 +5,19 @@ ghost use Prim.Native.Nat.{ℕ, _+_, _≤_};
 ghost use Rattle.model.specs.Block.{Block};
 ghost use Rattle.model.specs.Parse.{emptyBlock};
 ghost use Rattle.model.specs.Reader.{start, partsThere};
-ghost use Rattle.tables.specs.View.{blockView, Holds};
+ghost use Rattle.block_tables.specs.View.{blockView, Holds};
 ghost use Rattle.cursor.specs.View.{seen, Fits};
-ghost use Rattle.reading.specs.Reads.{view, Good, Reads};
-ghost use Rattle.declared.specs.Book.{Describes, inputCount, outputCount};
+ghost use Rattle.parse_state.specs.Reads.{view, Good, Reads};
+ghost use Rattle.symbol_table.specs.Book.{Describes, inputCount, outputCount};
 ghost use Rattle.block_text.specs.Block.{variablesText, frontText, backText, haveTerms, Ends};
 use cursor::Cursor;
 use model::Crisp;
 use model::Degree;
-use reading::Reading;
-use tables::Input;
-use tables::Output;
-use tables::Point;
-use tables::Tables;
+use parse_state::Reading;
+use block_tables::Input;
+use block_tables::Output;
+use block_tables::Point;
+use block_tables::Tables;
 
 fn empty_tables() -> Tables
     ensures { λ r. ⌜ ((s : List ℕ) → blockView s r ≡ emptyBlock) ⌝ }
@@ -59,17 +59,17 @@ fn variables(s: &[u8], p: Reading) -> Reading
     ensures { λ r. ⌜ Reads variablesText (now (s .entry)) p r ⌝ }
 {
     let c = p.cursor;
-    let d = cursor::expect(s, c, kinds::VAR_INPUT);
+    let d = cursor::expect(s, c, token_kinds::VAR_INPUT);
     let mut q = p;
     q.cursor = d;
-    let mut r = declarations::input_declarations(s, q);
+    let mut r = declaration_text::input_declarations(s, q);
     let e = r.cursor;
-    let f = cursor::expect(s, e, kinds::END_VAR);
-    let g = cursor::expect(s, f, kinds::VAR_OUTPUT);
+    let f = cursor::expect(s, e, token_kinds::END_VAR);
+    let g = cursor::expect(s, f, token_kinds::VAR_OUTPUT);
     r.cursor = g;
-    let mut u = declarations::output_declarations(s, r);
+    let mut u = declaration_text::output_declarations(s, r);
     let h = u.cursor;
-    let i = cursor::expect(s, h, kinds::END_VAR);
+    let i = cursor::expect(s, h, token_kinds::END_VAR);
     u.cursor = i;
     u
 }
@@ -80,9 +80,9 @@ pub fn front(s: &[u8]) -> Reading
     ensures good { λ r. ⌜ Good (now (s .entry)) r ⌝ }
 {
     let c = cursor::begin(s);
-    let d = cursor::expect(s, c, kinds::FUNCTION_BLOCK);
+    let d = cursor::expect(s, c, token_kinds::FUNCTION_BLOCK);
     let t = empty_tables();
-    let a = declarations::block_name(
+    let a = declaration_text::block_name(
         s,
         Reading {
             cursor: d,
@@ -128,15 +128,15 @@ pub fn back(s: &[u8], c: Cursor, complete: bool) -> Cursor
         → Ends (seen (now (s .entry)) r b n) (backText (seen (now (s .entry)) c b n))) ⌝ }
     ensures sticky { λ r. ⌜ (r .why ≡ 0 → c .why ≡ 0) ⌝ }
 {
-    let d = cursor::expect(s, c, kinds::END_RULEBLOCK);
-    if d.kind != kinds::END_FUNCTION_BLOCK {
+    let d = cursor::expect(s, c, token_kinds::END_RULEBLOCK);
+    if d.kind != token_kinds::END_FUNCTION_BLOCK {
         return cursor::refuse(d, 2);
     }
     if !complete {
         return cursor::refuse(d, 9);
     }
     let e = cursor::advance(s, d);
-    if e.kind != kinds::END {
+    if e.kind != token_kinds::END {
         return cursor::refuse(e, 2);
     }
     e

@@ -19,7 +19,7 @@ use Rattle.model.specs.Rules.{Got, got, word, termNamed, termHere, subcondition
 use Rattle.cursor.specs.declared.Cursor.{Cursor}
 use Rattle.cursor.specs.View.{seen, textOf, Fits, left, Step, fault}
 use Rattle.cursor.proofs.Laws.{enough, kind-seen, text-seen, block-seen, words-seen, lost-kind, lost-refuse, lost-expect, judged-bad, judged-good, numbered}
-use Rattle.declared.specs.Book.{Describes, inputCount, termCount, first, among}
+use Rattle.symbol_table.specs.Book.{Describes, inputCount, termCount, first, among}
 use Rattle.condition_text.specs.declared.Pending.{Pending}
 use Rattle.condition_text.specs.Pending.{Room, Adds, Reads, Within, Stops, Counts, Puts}
 

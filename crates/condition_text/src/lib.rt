@@ -8,7 +8,7 @@ ghost use Rattle.model.specs.Keywords.{AND};
 ghost use Rattle.model.specs.Parse.{refuse};
 ghost use Rattle.model.specs.Rules.{word, termNamed, termHere, subcondition as subconditionOf, chain, plain as plainOf, operand as operandOf, conditionWith, parenthesis};
 ghost use Rattle.cursor.specs.View.{seen, Fits, Step};
-ghost use Rattle.declared.specs.Book.{Book, Describes, inputCount};
+ghost use Rattle.symbol_table.specs.Book.{Book, Describes, inputCount};
 ghost use Rattle.condition_text.specs.Pending.{Room, Reads, Within, Stops, Counts, Puts};
 use cursor::Cursor;
 
@@ -91,7 +91,7 @@ fn term_named(
     if w != 0 {
         return refused(p, w);
     }
-    let j = declared::term_of(s, names, book, i, c);
+    let j = symbol_table::term_of(s, names, book, i, c);
     if book[i + 1] - book[i] <= j {
         return refused(p, 5);
     }
@@ -124,7 +124,7 @@ fn term_here(
     ensures within { λ r. ⌜ Within (now (s .entry)) 1 p r (now (words .entry)) (now (words .exit)) ⌝ }
 {
     let c = p.cursor;
-    if c.kind != kinds::NOT {
+    if c.kind != token_kinds::NOT {
         return term_named(s, names, book, words, p, i);
     }
     let q = count(s, p);
@@ -151,13 +151,13 @@ fn subcondition(
     if w != 0 {
         return refused(p, w);
     }
-    let i = declared::input_of(s, names, book, c);
+    let i = symbol_table::input_of(s, names, book, c);
     if book[15] <= i {
         return refused(p, 5);
     }
     let q = count(s, p);
     let d = q.cursor;
-    let e = cursor::expect(s, d, kinds::IS);
+    let e = cursor::expect(s, d, token_kinds::IS);
     term_here(
         s,
         names,
@@ -188,7 +188,7 @@ fn plain(
     ensures within { λ r. ⌜ Within (now (s .entry)) 0 p r (now (words .entry)) (now (words .exit)) ⌝ }
 {
     let c = p.cursor;
-    if c.kind != kinds::OPEN {
+    if c.kind != token_kinds::OPEN {
         return subcondition(s, names, book, words, p);
     }
     if depth == 0 {
@@ -208,7 +208,7 @@ fn plain(
         depth - 1,
     );
     let e = q.cursor;
-    let f = cursor::expect(s, e, kinds::CLOSE);
+    let f = cursor::expect(s, e, token_kinds::CLOSE);
     Pending {
         cursor: f,
         words: q.words,
@@ -231,7 +231,7 @@ fn operand(
     ensures within { λ r. ⌜ Within (now (s .entry)) 0 p r (now (words .entry)) (now (words .exit)) ⌝ }
 {
     let c = p.cursor;
-    if c.kind != kinds::NOT {
+    if c.kind != token_kinds::NOT {
         return plain(s, names, book, words, p, depth);
     }
     let q = count(s, p);
@@ -256,7 +256,7 @@ fn conjunction(
     ensures within { λ r. ⌜ Within (now (s .entry)) 0 p r (now (words .entry)) (now (words .exit)) ⌝ }
 {
     let mut q = operand(s, names, book, words, p, depth);
-    while q.cursor.kind == kinds::AND {
+    while q.cursor.kind == token_kinds::AND {
         let n = count(s, q);
         let m = operand(s, names, book, words, n, depth);
         q = put(words, m, 1);
@@ -281,7 +281,7 @@ pub fn condition(
     ensures within { λ r. ⌜ Within (now (s .entry)) 0 p r (now (words .entry)) (now (words .exit)) ⌝ }
 {
     let mut q = conjunction(s, names, book, words, p, depth);
-    while q.cursor.kind == kinds::OR {
+    while q.cursor.kind == token_kinds::OR {
         let n = count(s, q);
         let m = conjunction(s, names, book, words, n, depth);
         q = put(words, m, 2);

@@ -43,7 +43,7 @@ pub fn refuse(c: Cursor, why: u8) -> Cursor
         return c;
     }
     Cursor {
-        kind: kinds::END,
+        kind: token_kinds::END,
         start: 0,
         end: 0,
         why: why,
@@ -83,7 +83,7 @@ pub fn name_fault(c: Cursor) -> u8
     ensures { λ r. ⌜ ((s : List ℕ) → Fits s c → (b : Block) (n : ℕ) → r ≡ fault (aName (seen s c b n) [])) ⌝ }
     ensures kind { λ r. ⌜ (r ≡ 0 → c .kind ≡ 2) ⌝ }
 {
-    if c.kind != kinds::NAME {
+    if c.kind != token_kinds::NAME {
         return 2;
     }
     if 16 < c.end - c.start {

@@ -21,14 +21,14 @@ use Rattle.cursor.specs.declared.Cursor.{Cursor}
 use Rattle.cursor.specs.View.{seen, textOf, Fits, Step, fault}
 use Rattle.cursor.proofs.Laws.{text-seen, block-seen, fault-bad, fault-good, numbered, lost-expect, lost-judged}
 use Rattle.lookup.specs.Names.{nameOf}
-use Rattle.tables.specs.declared.Tables.{Tables}
-use Rattle.tables.specs.declared.Output.{Output as Row}
-use Rattle.tables.specs.View.{outputRow, rangeView, outputsView, blockView, Holds}
-use Rattle.entries.specs.Changes.{Changes}
-use Rattle.entries.proofs.Lookups as lookups
-use Rattle.reading.specs.declared.Reading.{Reading}
-use Rattle.reading.specs.Reads.{view, Good, Reads}
-use Rattle.reading.proofs.Laws as reading
+use Rattle.block_tables.specs.declared.Tables.{Tables}
+use Rattle.block_tables.specs.declared.Output.{Output as Row}
+use Rattle.block_tables.specs.View.{outputRow, rangeView, outputsView, blockView, Holds}
+use Rattle.block_updates.specs.Changes.{Changes}
+use Rattle.block_updates.proofs.Lookups as lookups
+use Rattle.parse_state.specs.declared.Reading.{Reading}
+use Rattle.parse_state.specs.Reads.{view, Good, Reads}
+use Rattle.parse_state.proofs.Laws as reading
 use Rattle.defuzzify_text.specs.Output.{ReadsFor, HasSingletons, figureChecks, termChecks, methodText, partText}
 
 outputs-are : (s : List ℕ) (t : Tables) → blockView s t .outputs ≡ outputsView s t

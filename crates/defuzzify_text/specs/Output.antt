@@ -13,8 +13,8 @@ use Rattle.model.specs.Parse.{Parse, Part, Checks, text, expect, repeated, aNam
 use Rattle.model.specs.Declarations.{singletonOf, isSingleton, range, outputTerm, defaultValue}
 use Rattle.model.specs.Image.{tab}
 use Rattle.lookup.specs.Names.{nameOf}
-use Rattle.reading.specs.declared.Reading.{Reading}
-use Rattle.reading.specs.Reads.{Reads}
+use Rattle.parse_state.specs.declared.Reading.{Reading}
+use Rattle.parse_state.specs.Reads.{Reads}
 
 -- a part is read, and there are as many outputs as before
 pub record ReadsFor (part : Part) (s : List ℕ) (p r : Reading) : Type 0 where

@@ -10,14 +10,14 @@ ghost use Rattle.model.specs.Tokens.{valueOf};
 ghost use Rattle.model.specs.Declarations.{upperEnd, rangeFrom, range, figure, withSingleton, withDefault, singletonNamed, outputTerm, defaultValue, defuzzifyNamed, defuzzify};
 ghost use Rattle.cursor.specs.View.{seen, textOf, Fits, Step, Moves, fault};
 ghost use Rattle.lookup.specs.Names.{Placed};
-ghost use Rattle.tables.specs.View.{outputRow, rangeView};
-ghost use Rattle.reading.specs.Reads.{Good, Reads};
+ghost use Rattle.block_tables.specs.View.{outputRow, rangeView};
+ghost use Rattle.parse_state.specs.Reads.{Good, Reads};
 ghost use Rattle.defuzzify_text.specs.Output.{ReadsFor, HasSingletons, figureChecks, termChecks, methodText, partText};
 use cursor::Cursor;
 use model::Crisp;
-use reading::Reading;
-use tables::Output;
-use values::CrispHere;
+use parse_state::Reading;
+use block_tables::Output;
+use number_tokens::CrispHere;
 
 // The upper end of the RANGE of output o, above its lower end x.
 fn upper_end(s: &[u8], p: Reading, o: usize, x: Crisp) -> Reading
@@ -26,7 +26,7 @@ fn upper_end(s: &[u8], p: Reading, o: usize, x: Crisp) -> Reading
 {
     let c = p.cursor;
     let t = p.tables;
-    let v = values::crisp_here(s, c);
+    let v = number_tokens::crisp_here(s, c);
     let w = v.fault;
     if w != 0 {
         let d = cursor::refuse(c, w);
@@ -37,7 +37,7 @@ fn upper_end(s: &[u8], p: Reading, o: usize, x: Crisp) -> Reading
     }
     let y = v.value;
     if crisp::less(x, y) {
-        let u = entries::set_range(t, o, x, y);
+        let u = block_updates::set_range(t, o, x, y);
         let d = cursor::advance(s, c);
         return Reading {
             cursor: d,
@@ -57,7 +57,7 @@ fn range_from(s: &[u8], p: Reading, o: usize) -> Reading
     ensures { λ r. ⌜ ReadsFor (rangeFrom o) (now (s .entry)) p r ⌝ }
 {
     let c = p.cursor;
-    let v = values::crisp_here(s, c);
+    let v = number_tokens::crisp_here(s, c);
     let w = v.fault;
     let mut q = p;
     if w != 0 {
@@ -67,12 +67,12 @@ fn range_from(s: &[u8], p: Reading, o: usize) -> Reading
     }
     let x = v.value;
     let d = cursor::advance(s, c);
-    let e = cursor::expect(s, d, kinds::DOTS);
+    let e = cursor::expect(s, d, token_kinds::DOTS);
     q.cursor = e;
     let mut r = upper_end(s, q, o, x);
     let f = r.cursor;
-    let g = cursor::expect(s, f, kinds::CLOSE);
-    let h = cursor::expect(s, g, kinds::SEMICOLON);
+    let g = cursor::expect(s, f, token_kinds::CLOSE);
+    let h = cursor::expect(s, g, token_kinds::SEMICOLON);
     r.cursor = h;
     r
 }
@@ -82,11 +82,11 @@ fn optional_range(s: &[u8], p: Reading, o: usize) -> Reading
     ensures { λ r. ⌜ ReadsFor (range o) (now (s .entry)) p r ⌝ }
 {
     let c = p.cursor;
-    if c.kind != kinds::RANGE {
+    if c.kind != token_kinds::RANGE {
         return p;
     }
     let d = cursor::advance(s, c);
-    let e = cursor::expect(s, d, kinds::OPEN);
+    let e = cursor::expect(s, d, token_kinds::OPEN);
     let mut q = p;
     q.cursor = e;
     range_from(s, q, o)
@@ -114,7 +114,7 @@ fn figure_here(s: &[u8], c: Cursor, v: Output) -> CrispHere
         → r .fault ≡ fault (figureChecks (rangeView v) (seen (now (s .entry)) c b n))) ⌝ }
     ensures value { λ r. ⌜ (r .fault ≡ 0 → (c .kind ≡ 3) × (r .value .0 ≡ valueOf (textOf (now (s .entry)) c))) ⌝ }
 {
-    let w = values::crisp_here(s, c);
+    let w = number_tokens::crisp_here(s, c);
     if w.fault != 0 {
         return w;
     }
@@ -146,7 +146,7 @@ fn singleton_at(s: &[u8], p: Reading, o: usize, start: usize, end: usize) -> Rea
         };
     }
     let x = y.value;
-    let u = entries::add_singleton(t, o, start, end, x);
+    let u = block_updates::add_singleton(t, o, start, end, x);
     let d = cursor::advance(s, c);
     Reading {
         cursor: d,
@@ -172,7 +172,7 @@ fn default_number(s: &[u8], p: Reading, o: usize) -> Reading
         };
     }
     let x = y.value;
-    let u = entries::set_default(t, o, x);
+    let u = block_updates::set_default(t, o, x);
     let d = cursor::advance(s, c);
     Reading {
         cursor: d,
@@ -214,7 +214,7 @@ fn singleton_named(s: &[u8], p: Reading, o: usize) -> Reading
         };
     }
     let d = cursor::advance(s, c);
-    let e = cursor::expect(s, d, kinds::ASSIGN);
+    let e = cursor::expect(s, d, token_kinds::ASSIGN);
     let mut q = singleton_at(
         s,
         Reading {
@@ -226,7 +226,7 @@ fn singleton_named(s: &[u8], p: Reading, o: usize) -> Reading
         c.end,
     );
     let f = q.cursor;
-    let g = cursor::expect(s, f, kinds::SEMICOLON);
+    let g = cursor::expect(s, f, token_kinds::SEMICOLON);
     q.cursor = g;
     q
 }
@@ -238,7 +238,7 @@ fn output_term(s: &[u8], p: Reading, o: usize) -> Reading
 {
     let c = p.cursor;
     let t = p.tables;
-    if c.kind != kinds::TERM {
+    if c.kind != token_kinds::TERM {
         let d = cursor::refuse(c, 2);
         return Reading {
             cursor: d,
@@ -269,7 +269,7 @@ fn output_terms(s: &[u8], p: Reading, o: usize) -> Reading
     ensures { λ r. ⌜ ReadsFor (λ q. repeated TERM (outputTerm o) (outputTerm o q)) (now (s .entry)) p r ⌝ }
 {
     let mut q = output_term(s, p, o);
-    while q.cursor.kind == kinds::TERM {
+    while q.cursor.kind == token_kinds::TERM {
         q = output_term(s, q, o);
     }
     q
@@ -280,12 +280,12 @@ fn method(s: &[u8], c: Cursor) -> Cursor
     requires { ⌜ Fits (now s) c ⌝ }
     ensures { λ r. ⌜ Step methodText (now (s .entry)) c r ⌝ }
 {
-    let a = cursor::expect(s, c, kinds::METHOD);
-    let b = cursor::expect(s, a, kinds::COLON);
-    let d = cursor::expect(s, b, kinds::COGS);
-    let e = cursor::expect(s, d, kinds::SEMICOLON);
-    let f = cursor::expect(s, e, kinds::DEFAULT);
-    cursor::expect(s, f, kinds::ASSIGN)
+    let a = cursor::expect(s, c, token_kinds::METHOD);
+    let b = cursor::expect(s, a, token_kinds::COLON);
+    let d = cursor::expect(s, b, token_kinds::COGS);
+    let e = cursor::expect(s, d, token_kinds::SEMICOLON);
+    let f = cursor::expect(s, e, token_kinds::DEFAULT);
+    cursor::expect(s, f, token_kinds::ASSIGN)
 }
 
 // A number or NC for output o.
@@ -294,7 +294,7 @@ fn default_value(s: &[u8], p: Reading, o: usize) -> Reading
     ensures { λ r. ⌜ ReadsFor (defaultValue o) (now (s .entry)) p r ⌝ }
 {
     let c = p.cursor;
-    if c.kind != kinds::NC {
+    if c.kind != token_kinds::NC {
         return default_number(s, p, o);
     }
     let d = cursor::advance(s, c);
@@ -315,8 +315,8 @@ fn output_part(s: &[u8], p: Reading, o: usize) -> Reading
     b.cursor = d;
     let mut e = default_value(s, b, o);
     let f = e.cursor;
-    let g = cursor::expect(s, f, kinds::SEMICOLON);
-    let h = cursor::expect(s, g, kinds::END_DEFUZZIFY);
+    let g = cursor::expect(s, f, token_kinds::SEMICOLON);
+    let h = cursor::expect(s, g, token_kinds::END_DEFUZZIFY);
     e.cursor = h;
     e
 }
@@ -368,7 +368,7 @@ fn defuzzify_part(s: &[u8], p: Reading) -> Reading
     ensures moves { λ r. ⌜ Moves (now (s .entry)) (p .cursor) (r .cursor) ⌝ }
 {
     let c = p.cursor;
-    let d = cursor::expect(s, c, kinds::DEFUZZIFY);
+    let d = cursor::expect(s, c, token_kinds::DEFUZZIFY);
     let mut q = p;
     q.cursor = d;
     defuzzify_named(s, q)
@@ -380,7 +380,7 @@ pub fn defuzzify_parts(s: &[u8], p: Reading) -> Reading
     ensures { λ r. ⌜ Reads (λ q. repeated DEFUZZIFY defuzzify (defuzzify q)) (now (s .entry)) p r ⌝ }
 {
     let mut q = defuzzify_part(s, p);
-    while q.cursor.kind == kinds::DEFUZZIFY {
+    while q.cursor.kind == token_kinds::DEFUZZIFY {
         q = defuzzify_part(s, q);
     }
     q

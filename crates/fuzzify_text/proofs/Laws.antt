@@ -23,14 +23,14 @@ use Rattle.cursor.specs.declared.Cursor.{Cursor}
 use Rattle.cursor.specs.View.{seen, textOf, Fits, Step, fault}
 use Rattle.cursor.proofs.Laws as cursor
 use Rattle.cursor.proofs.Laws.{kind-seen, text-seen, judged-bad, judged-good, numbered}
-use Rattle.tables.specs.declared.Tables.{Tables}
-use Rattle.tables.specs.View.{no-point, inputRow, pointView, termView, blockView, Holds}
-use Rattle.entries.specs.Changes.{Changes, LastTerm}
-use Rattle.entries.proofs.Lookups as lookups
-use Rattle.reading.specs.declared.Reading.{Reading}
-use Rattle.reading.specs.Reads.{view, Reads}
-use Rattle.reading.proofs.Laws as reading
-use Rattle.reading.proofs.Laws.{at, kind-view, text-view, block-view}
+use Rattle.block_tables.specs.declared.Tables.{Tables}
+use Rattle.block_tables.specs.View.{no-point, inputRow, pointView, termView, blockView, Holds}
+use Rattle.block_updates.specs.Changes.{Changes, LastTerm}
+use Rattle.block_updates.proofs.Lookups as lookups
+use Rattle.parse_state.specs.declared.Reading.{Reading}
+use Rattle.parse_state.specs.Reads.{view, Reads}
+use Rattle.parse_state.proofs.Laws as reading
+use Rattle.parse_state.proofs.Laws.{at, kind-view, text-view, block-view}
 use Rattle.fuzzify_text.specs.Terms.{Open, lastPlace, rises, Ends, positionAfter, endAfter}
 
 -- THE LAST TERM

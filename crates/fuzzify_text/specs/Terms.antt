@@ -12,8 +12,8 @@ use Rattle.model.specs.Bounds.{pointLeast}
 use Rattle.model.specs.Keywords.{SEMICOLON}
 use Rattle.model.specs.Parse.{Part, is, advance, judged, aCrisp, valueHere}
 use Rattle.model.specs.Declarations.{pointsOf}
-use Rattle.tables.specs.declared.Tables.{Tables}
-use Rattle.tables.specs.View.{inputRow}
+use Rattle.block_tables.specs.declared.Tables.{Tables}
+use Rattle.block_tables.specs.View.{inputRow}
 
 -- there is an input i, and it has terms
 pub record Open (t : Tables) (i : ℕ) : Type 0 where

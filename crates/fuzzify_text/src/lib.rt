@@ -7,13 +7,13 @@ ghost use Rattle.model.specs.Keywords.{ASSIGN, TERM, FUZZIFY};
 ghost use Rattle.model.specs.Parse.{expect as expected, listed, repeated};
 ghost use Rattle.model.specs.Declarations.{degree as aDegree, pointFrom, point as aPoint, endOfPoints, termName, inputTerm, fuzzifyNamed, fuzzify as aFuzzify};
 ghost use Rattle.cursor.specs.View.{textOf, Fits, Step, Moves};
-ghost use Rattle.tables.specs.View.{inputRow, blockView};
-ghost use Rattle.reading.specs.Reads.{Good, Reads};
+ghost use Rattle.block_tables.specs.View.{inputRow, blockView};
+ghost use Rattle.parse_state.specs.Reads.{Good, Reads};
 ghost use Rattle.fuzzify_text.specs.Terms.{Open, lastPlace, rises, Ends, positionAfter, endAfter};
 use cursor::Cursor;
 use model::Crisp;
-use reading::Reading;
-use tables::Point;
+use parse_state::Reading;
+use block_tables::Point;
 
 // The cursor behind a position, and its value where it is not refused.
 struct At {
@@ -37,7 +37,7 @@ fn position(s: &[u8], c: Cursor, n: usize, last: Crisp) -> At
     ensures { λ r. ⌜ Step (positionAfter n (last .0)) (now (s .entry)) c (r .cursor) ⌝ }
     ensures value { λ r. ⌜ (r .cursor .why ≡ 0 → r .value .0 ≡ valueOf (textOf (now (s .entry)) c)) ⌝ }
 {
-    let w = values::crisp_here(s, c);
+    let w = number_tokens::crisp_here(s, c);
     let x = w.value;
     if w.fault != 0 {
         let d = cursor::refuse(c, w.fault);
@@ -68,7 +68,7 @@ fn degree(s: &[u8], p: Reading, i: usize, x: Crisp) -> Reading
 {
     let c = p.cursor;
     let t = p.tables;
-    let w = values::unit_here(s, c);
+    let w = number_tokens::unit_here(s, c);
     if w.fault != 0 {
         let d = cursor::refuse(c, w.fault);
         return Reading {
@@ -80,7 +80,7 @@ fn degree(s: &[u8], p: Reading, i: usize, x: Crisp) -> Reading
     let q = Point { at: x, degree: y };
     let v = t.inputs[i];
     let k = i * 7 + v.terms - 1;
-    let u = entries::add_point(t, k, q);
+    let u = block_updates::add_point(t, k, q);
     let d = cursor::advance(s, c);
     Reading {
         cursor: d,
@@ -103,12 +103,12 @@ fn point_from(s: &[u8], p: Reading, i: usize, n: usize, last: Crisp) -> Reading
     if d.why != 0 {
         return q;
     }
-    let e = cursor::expect(s, d, kinds::COMMA);
+    let e = cursor::expect(s, d, token_kinds::COMMA);
     q.cursor = e;
     let x = a.value;
     let mut r = degree(s, q, i, x);
     let f = r.cursor;
-    let g = cursor::expect(s, f, kinds::CLOSE);
+    let g = cursor::expect(s, f, token_kinds::CLOSE);
     r.cursor = g;
     r
 }
@@ -125,7 +125,7 @@ fn point(s: &[u8], p: Reading, i: usize) -> Reading
     let k = i * 7 + v.terms - 1;
     let n = t.counts[k];
     let mut q = p;
-    if c.kind != kinds::OPEN {
+    if c.kind != token_kinds::OPEN {
         let d = cursor::refuse(c, 2);
         q.cursor = d;
         return q;
@@ -151,7 +151,7 @@ fn points(s: &[u8], p: Reading, i: usize) -> Reading
     ensures open { λ r. ⌜ Open (r .tables) i ⌝ }
 {
     let mut q = point(s, p, i);
-    while q.cursor.kind == kinds::COMMA {
+    while q.cursor.kind == token_kinds::COMMA {
         let c = q.cursor;
         let d = cursor::advance(s, c);
         q.cursor = d;
@@ -165,7 +165,7 @@ fn end_of_points(s: &[u8], c: Cursor, n: usize) -> Cursor
     requires { ⌜ Fits (now s) c ⌝ }
     ensures { λ r. ⌜ Step (endAfter n) (now (s .entry)) c r ⌝ }
 {
-    if c.kind != kinds::SEMICOLON {
+    if c.kind != token_kinds::SEMICOLON {
         return cursor::refuse(c, 2);
     }
     if n < 2 {
@@ -181,7 +181,7 @@ fn term_points(s: &[u8], p: Reading, i: usize) -> Reading
     ensures open { λ r. ⌜ Open (r .tables) i ⌝ }
 {
     let c = p.cursor;
-    let d = cursor::expect(s, c, kinds::ASSIGN);
+    let d = cursor::expect(s, c, token_kinds::ASSIGN);
     let mut q = p;
     q.cursor = d;
     let mut r = points(s, q, i);
@@ -220,7 +220,7 @@ fn term_name(s: &[u8], p: Reading, i: usize) -> Reading
             tables: t,
         };
     }
-    let u = entries::add_term(t, i, c.start, c.end);
+    let u = block_updates::add_term(t, i, c.start, c.end);
     let d = cursor::advance(s, c);
     Reading {
         cursor: d,
@@ -238,7 +238,7 @@ fn input_term(s: &[u8], p: Reading, i: usize) -> Reading
     let t = p.tables;
     let v = t.inputs[i];
     let mut q = p;
-    if c.kind != kinds::TERM {
+    if c.kind != token_kinds::TERM {
         let d = cursor::refuse(c, 2);
         q.cursor = d;
         return q;
@@ -262,7 +262,7 @@ fn input_terms(s: &[u8], p: Reading, i: usize) -> Reading
     ensures { λ r. ⌜ Reads (λ q. repeated TERM (inputTerm i) (inputTerm i q)) (now (s .entry)) p r ⌝ }
 {
     let mut q = input_term(s, p, i);
-    while q.cursor.kind == kinds::TERM {
+    while q.cursor.kind == token_kinds::TERM {
         q = input_term(s, q, i);
     }
     q
@@ -299,7 +299,7 @@ fn fuzzify_named(s: &[u8], p: Reading) -> Reading
     q.cursor = d;
     let mut r = input_terms(s, q, i);
     let e = r.cursor;
-    let f = cursor::expect(s, e, kinds::END_FUZZIFY);
+    let f = cursor::expect(s, e, token_kinds::END_FUZZIFY);
     r.cursor = f;
     r
 }
@@ -310,7 +310,7 @@ fn fuzzify(s: &[u8], p: Reading) -> Reading
     ensures moves { λ r. ⌜ Moves (now (s .entry)) (p .cursor) (r .cursor) ⌝ }
 {
     let c = p.cursor;
-    let d = cursor::expect(s, c, kinds::FUZZIFY);
+    let d = cursor::expect(s, c, token_kinds::FUZZIFY);
     let mut q = p;
     q.cursor = d;
     fuzzify_named(s, q)
@@ -322,7 +322,7 @@ pub fn fuzzify_parts(s: &[u8], p: Reading) -> Reading
     ensures { λ r. ⌜ Reads (λ q. repeated FUZZIFY aFuzzify (aFuzzify q)) (now (s .entry)) p r ⌝ }
 {
     let mut q = fuzzify(s, p);
-    while q.cursor.kind == kinds::FUZZIFY {
+    while q.cursor.kind == token_kinds::FUZZIFY {
         q = fuzzify(s, q);
     }
     q

@@ -9,7 +9,7 @@ use Rattle.layout.proofs.Whole.{length-conditions}
 use Rattle.model.specs.Basic.{gather, total}
 use Rattle.model.specs.Block.{Rule, Conclusion, size}
 use Rattle.model.specs.Image.{ruleTable, conclusionWords}
-use Rattle.tables.specs.Stored.{Stored, ruleRow}
+use Rattle.block_tables.specs.Stored.{Stored, ruleRow}
 use Rattle.image.specs.Rows.{rows, ruleWords, ruleNext}
 
 length-joined : (rs : List Rule) → length (gather (λ r. r .conclusions) rs) ≡ total (λ r. length (r .conclusions)) rs

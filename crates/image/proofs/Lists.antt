@@ -10,7 +10,7 @@ use borrow.Author.Tests.{eqb-true, eqb-false}
 use mathlib.Core.Bool.{Bool, true, false}
 use Rattle.model.specs.Image.{tab}
 use Rattle.words.proofs.Places.{tab-last}
-use Rattle.tables.proofs.Lists.{alike}
+use Rattle.block_tables.proofs.Lists.{alike}
 use Rattle.layout.specs.Tables.{sums}
 use Rattle.image.specs.declared.Slots.{Slots}
 use Rattle.image.specs.Rows.{Listed, listOf, rows, onward, slotRow}

@@ -20,9 +20,9 @@ use Rattle.layout.specs.Rows.{laid}
 use Rattle.layout.specs.Tables.{inputRow, inputNext, outputRow, outputNext, termRow, termNext, alone, sums}
 use Rattle.layout.specs.Tables as layout
 use Rattle.layout.proofs.TableLaws.{input-table, output-table, term-table, gather-laid, gather-append, map-tab}
-use Rattle.tables.specs.declared.Output.{Output}
-use Rattle.tables.specs.declared.Tables.{Tables}
-use Rattle.tables.specs.View.{zero-crisp, no-input, no-output, rangeView, defaultView, pointView, termView, inputView, singletonView, outputView, inputsView, outputsView, Holds}
+use Rattle.block_tables.specs.declared.Output.{Output}
+use Rattle.block_tables.specs.declared.Tables.{Tables}
+use Rattle.block_tables.specs.View.{zero-crisp, no-input, no-output, rangeView, defaultView, pointView, termView, inputView, singletonView, outputView, inputsView, outputsView, Holds}
 use Rattle.image.specs.declared.Slots.{Slots}
 use Rattle.image.specs.Rows.{rows, onward, bit, given, inputSize, outputSize, inputWords, outputWords, inputRows, outputRows, slotRow, slotsOf, listOf, Listed, held, heldIn, termWords, termRows, pointRow, pointsIn, pointRows}
 

@@ -19,10 +19,10 @@ use Rattle.layout.specs.Tables.{inputRow, inputNext, outputRow, outputNext, ter
 use Rattle.layout.proofs.RowLaws.{length-laid}
 use Rattle.layout.proofs.TableLaws.{input-table, output-table, term-table, rule-table}
 use Rattle.layout.proofs.Parts.{wide-input, wide-output, wide-term}
-use Rattle.tables.specs.declared.Tables.{Tables}
-use Rattle.tables.specs.declared.Heading.{Heading}
-use Rattle.tables.specs.View.{outputsView, inputView, outputView, wholeView, Holds, Headed}
-use Rattle.tables.specs.Stored.{Stored}
+use Rattle.block_tables.specs.declared.Tables.{Tables}
+use Rattle.block_tables.specs.declared.Heading.{Heading}
+use Rattle.block_tables.specs.View.{outputsView, inputView, outputView, wholeView, Holds, Headed}
+use Rattle.block_tables.specs.Stored.{Stored}
 use Rattle.words.proofs.Places.{length-tab}
 use Rattle.image.specs.declared.Counts.{Counts}
 use Rattle.image.specs.declared.Slots.{Slots}

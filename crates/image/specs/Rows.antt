@@ -11,14 +11,14 @@ use Rattle.model.specs.Bounds.{M}
 use Rattle.model.specs.Image.{crispWord, nameWords, endOf, offsets, headerSize, widths, tab}
 use Rattle.model.specs.declared.Crisp.{Crisp}
 use Rattle.lookup.specs.Names.{nameOf}
-use Rattle.tables.specs.declared.Input.{Input}
-use Rattle.tables.specs.declared.Output.{Output}
-use Rattle.tables.specs.declared.Point.{Point}
-use Rattle.tables.specs.declared.Tables.{Tables}
-use Rattle.tables.specs.declared.Heading.{Heading}
-use Rattle.tables.specs.declared.Totals.{Totals}
+use Rattle.block_tables.specs.declared.Input.{Input}
+use Rattle.block_tables.specs.declared.Output.{Output}
+use Rattle.block_tables.specs.declared.Point.{Point}
+use Rattle.block_tables.specs.declared.Tables.{Tables}
+use Rattle.block_tables.specs.declared.Heading.{Heading}
+use Rattle.block_tables.specs.declared.Totals.{Totals}
 use Rattle.layout.specs.Tables.{sums}
-use Rattle.tables.specs.View.{no-input, no-output, no-point, zero-crisp}
+use Rattle.block_tables.specs.View.{no-input, no-output, no-point, zero-crisp}
 use Rattle.image.specs.declared.Counts.{Counts}
 use Rattle.image.specs.declared.Slots.{Slots}
 

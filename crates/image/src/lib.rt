@@ -9,19 +9,19 @@ ghost use Rattle.model.specs.Image.{crispWord, nameWords, image, tab};
 ghost use Rattle.model.specs.Outcome.{into, lengthIn, bufferAfter};
 ghost use Rattle.model.specs.Refusals.{writtenOf};
 ghost use Rattle.lookup.specs.Names.{nameOf, Placed};
-ghost use Rattle.tables.specs.View.{wholeView, Holds, Headed};
-ghost use Rattle.tables.specs.Stored.{Stored};
+ghost use Rattle.block_tables.specs.View.{wholeView, Holds, Headed};
+ghost use Rattle.block_tables.specs.Stored.{Stored};
 ghost use Rattle.image.specs.Over.{over, Wrote};
 ghost use Rattle.image.specs.Rows.{bit, given, inputSize, outputSize, inputWords, inputRows, outputWords, outputRows, slotsOf, listOf, Listed, held, heldIn, termWords, termRows, pointRow, pointsIn, pointRows, variableRows, variableWords, ruleRows, entriesOf, Few, headWords, rows, onward};
 use model::Crisp;
 use model::Refusal;
 use model::Written;
-use tables::Heading;
-use tables::Input;
-use tables::Output;
-use tables::Point;
-use tables::Tables;
-use tables::Totals;
+use block_tables::Heading;
+use block_tables::Input;
+use block_tables::Output;
+use block_tables::Point;
+use block_tables::Tables;
+use block_tables::Totals;
 
 // How many entries the tables of the image have.
 struct Counts {

@@ -32,15 +32,15 @@ pub fn examine(img: &[u8]) -> Checked
     if img.len() != n * 4 {
         return not_accepted();
     }
-    let f = frame::frame(img);
+    let f = stored_tables::frame(img);
     if !f.ok {
         return not_accepted();
     }
-    if !variables::variables_ok(img) {
+    if !stored_variables::variables_ok(img) {
         return not_accepted();
     }
     let m = f.input_terms;
-    if !rules::rules_ok(img, m) {
+    if !stored_rules::rules_ok(img, m) {
         return not_accepted();
     }
     Checked {

@@ -17,10 +17,10 @@ use Rattle.model.specs.Image.{image}
 use Rattle.model.specs.Entries.{readsInto}
 use Rattle.cursor.specs.declared.Cursor.{Cursor}
 use Rattle.cursor.specs.View.{seen}
-use Rattle.tables.specs.declared.Tables.{Tables}
-use Rattle.tables.specs.declared.Heading.{Heading}
-use Rattle.tables.specs.View.{inputsView, outputsView, blockView, wholeView}
-use Rattle.reading.specs.Reads.{view}
+use Rattle.block_tables.specs.declared.Tables.{Tables}
+use Rattle.block_tables.specs.declared.Heading.{Heading}
+use Rattle.block_tables.specs.View.{inputsView, outputsView, blockView, wholeView}
+use Rattle.parse_state.specs.Reads.{view}
 use Rattle.rule_heading.specs.Opening.{opening, headed, Bare}
 use Rattle.rule_text.specs.Progress.{Kept, holding}
 use Rattle.block_text.specs.Block.{variablesText, frontText, backText, Ends}

@@ -5,14 +5,14 @@ ghost use Rattle.model.specs.Outcome.{lengthIn, bufferAfter};
 ghost use Rattle.model.specs.Refusals.{writtenOf};
 ghost use Rattle.model.specs.Reader.{start};
 ghost use Rattle.model.specs.Entries.{readsInto};
-ghost use Rattle.reading.specs.Reads.{view, Good};
+ghost use Rattle.parse_state.specs.Reads.{view, Good};
 ghost use Rattle.block_text.specs.Block.{frontText};
 ghost use Prim.Native.Nat.{_≤_};
 use model::Refusal;
 use model::Written;
-use reading::Reading;
+use parse_state::Reading;
 use rule_text::Progress;
-use tables::Totals;
+use block_tables::Totals;
 
 // From the rule block on: p is what stands before it.
 fn read_on(s: &[u8], p: Reading, out: &mut [u8]) -> Written
@@ -22,7 +22,7 @@ fn read_on(s: &[u8], p: Reading, out: &mut [u8]) -> Written
         ≡ bufferAfter (now (out .entry)) (readsInto (length (now (out .entry))) (now (s .entry))) ⌝ }
 {
     let t = p.tables;
-    let book = book::book_of(t);
+    let book = block_symbols::book_of(t);
     let c = p.cursor;
     let o = rule_heading::rule_heading(s, c);
     let d = o.cursor;

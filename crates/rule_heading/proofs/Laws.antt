@@ -23,8 +23,8 @@ use Rattle.model.specs.Rules.{samePair, andPair, orPair, algorithm, algorithmLi
 use Rattle.cursor.specs.declared.Cursor.{Cursor}
 use Rattle.cursor.specs.View.{seen, textOf, Fits, Step, fault}
 use Rattle.cursor.proofs.Laws.{kind-seen, text-seen, changed, judged-bad, judged-good, numbered}
-use Rattle.tables.specs.declared.Heading.{Heading}
-use Rattle.tables.specs.View.{Headed}
+use Rattle.block_tables.specs.declared.Heading.{Heading}
+use Rattle.block_tables.specs.View.{Headed}
 use Rattle.rule_heading.specs.declared.Opened.{Opened}
 use Rattle.rule_heading.specs.Opening.{headed, Bare, Opens, pairs, pairAt}
 

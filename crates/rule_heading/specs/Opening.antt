@@ -16,8 +16,8 @@ use Rattle.model.specs.Keywords.{AND, ACCU, COLON, RULEBLOCK, SEMICOLON}
 use Rattle.model.specs.Parse.{Part, expect, named, withRuleBlock}
 use Rattle.model.specs.Rules.{andPair, orPair, algorithms, activationLine, accumulation}
 use Rattle.cursor.specs.View.{seen, Fits, left}
-use Rattle.tables.specs.declared.Heading.{Heading}
-use Rattle.tables.specs.View.{Headed}
+use Rattle.block_tables.specs.declared.Heading.{Heading}
+use Rattle.block_tables.specs.View.{Headed}
 use Rattle.rule_heading.specs.declared.Opened.{Opened}
 
 -- RULEBLOCK, before its rules

@@ -8,10 +8,10 @@ ghost use Rattle.model.specs.Keywords.{COLON, SEMICOLON, ACCU};
 ghost use Rattle.model.specs.Parse.{refuse, expect, named, withRuleBlock};
 ghost use Rattle.model.specs.Rules.{andPair, orPair, algorithm as algorithmOf, algorithmLine, algorithms as algorithmsOf, activation as activationOf, activationLine, accumulation as accumulationOf};
 ghost use Rattle.cursor.specs.View.{seen, Fits, left};
-ghost use Rattle.tables.specs.View.{Headed};
+ghost use Rattle.block_tables.specs.View.{Headed};
 ghost use Rattle.rule_heading.specs.Opening.{opening, headed, Bare, Opens, pairs, pairAt};
 use cursor::Cursor;
-use tables::Heading;
+use block_tables::Heading;
 
 // A reading in a heading, beside what it says so far.
 pub struct Opened {
@@ -70,13 +70,13 @@ fn and_pair(w: u8) -> u32
     ensures { λ r. ⌜ andPair w ≡ pairAt r ⌝ }
     ensures within { λ r. ⌜ (r ≤ 3) × (r < 3 → w ≡ 0 → ⊥) ⌝ }
 {
-    if w == kinds::MIN {
+    if w == token_kinds::MIN {
         return 0;
     }
-    if w == kinds::PROD {
+    if w == token_kinds::PROD {
         return 1;
     }
-    if w == kinds::BDIF {
+    if w == token_kinds::BDIF {
         return 2;
     }
     3
@@ -87,13 +87,13 @@ fn or_pair(w: u8) -> u32
     ensures { λ r. ⌜ orPair w ≡ pairAt r ⌝ }
     ensures within { λ r. ⌜ (r ≤ 3) × (r < 3 → w ≡ 0 → ⊥) ⌝ }
 {
-    if w == kinds::MAX {
+    if w == token_kinds::MAX {
         return 0;
     }
-    if w == kinds::ASUM {
+    if w == token_kinds::ASUM {
         return 1;
     }
-    if w == kinds::BSUM {
+    if w == token_kinds::BSUM {
         return 2;
     }
     3
@@ -103,7 +103,7 @@ fn pair_at(k: u8, w: u8) -> u32
     ensures { λ r. ⌜ pairs k w ≡ pairAt r ⌝ }
     ensures within { λ r. ⌜ (r ≤ 3) × (r < 3 → w ≡ 0 → ⊥) ⌝ }
 {
-    if k == kinds::AND {
+    if k == token_kinds::AND {
         return and_pair(w);
     }
     or_pair(w)
@@ -139,11 +139,11 @@ fn algorithm_line(s: &[u8], p: Opened, second: bool, k: u8) -> Opened
     ensures { λ r. ⌜ Opens (algorithmLine second k (pairs k)) (now (s .entry)) p r ⌝ }
 {
     let a = expected(s, p, k);
-    let b = expected(s, a, kinds::COLON);
+    let b = expected(s, a, token_kinds::COLON);
     let c = b.cursor;
     let w = pair_at(k, c.kind);
     let d = algorithm(s, b, second, w);
-    expected(s, d, kinds::SEMICOLON)
+    expected(s, d, token_kinds::SEMICOLON)
 }
 
 // Each optional, in either order.
@@ -151,17 +151,17 @@ fn algorithms(s: &[u8], p: Opened) -> Opened
     requires { ⌜ Fits (now s) (p .cursor) × Headed (now s) (p .heading) ⌝ }
     ensures { λ r. ⌜ Opens algorithmsOf (now (s .entry)) p r ⌝ }
 {
-    if p.cursor.kind == kinds::AND {
-        let q = algorithm_line(s, p, false, kinds::AND);
-        if q.cursor.kind == kinds::OR {
-            return algorithm_line(s, q, true, kinds::OR);
+    if p.cursor.kind == token_kinds::AND {
+        let q = algorithm_line(s, p, false, token_kinds::AND);
+        if q.cursor.kind == token_kinds::OR {
+            return algorithm_line(s, q, true, token_kinds::OR);
         }
         return q;
     }
-    if p.cursor.kind == kinds::OR {
-        let q = algorithm_line(s, p, false, kinds::OR);
-        if q.cursor.kind == kinds::AND {
-            return algorithm_line(s, q, true, kinds::AND);
+    if p.cursor.kind == token_kinds::OR {
+        let q = algorithm_line(s, p, false, token_kinds::OR);
+        if q.cursor.kind == token_kinds::AND {
+            return algorithm_line(s, q, true, token_kinds::AND);
         }
         return q;
     }
@@ -174,7 +174,7 @@ fn activation(s: &[u8], p: Opened) -> Opened
 {
     let c = p.cursor;
     let mut h = p.heading;
-    if c.kind == kinds::MIN {
+    if c.kind == token_kinds::MIN {
         h.act = 0;
         let d = cursor::advance(s, c);
         return Opened {
@@ -182,7 +182,7 @@ fn activation(s: &[u8], p: Opened) -> Opened
             heading: h,
         };
     }
-    if c.kind == kinds::PROD {
+    if c.kind == token_kinds::PROD {
         h.act = 1;
         let d = cursor::advance(s, c);
         return Opened {
@@ -198,13 +198,13 @@ fn activation_line(s: &[u8], p: Opened) -> Opened
     requires { ⌜ Fits (now s) (p .cursor) × Headed (now s) (p .heading) ⌝ }
     ensures { λ r. ⌜ Opens activationLine (now (s .entry)) p r ⌝ }
 {
-    if p.cursor.kind != kinds::ACT {
+    if p.cursor.kind != token_kinds::ACT {
         return p;
     }
-    let a = expected(s, p, kinds::ACT);
-    let b = expected(s, a, kinds::COLON);
+    let a = expected(s, p, token_kinds::ACT);
+    let b = expected(s, a, token_kinds::COLON);
     let d = activation(s, b);
-    expected(s, d, kinds::SEMICOLON)
+    expected(s, d, token_kinds::SEMICOLON)
 }
 
 fn accumulation(s: &[u8], p: Opened) -> Opened
@@ -213,7 +213,7 @@ fn accumulation(s: &[u8], p: Opened) -> Opened
 {
     let c = p.cursor;
     let mut h = p.heading;
-    if c.kind == kinds::MAX {
+    if c.kind == token_kinds::MAX {
         h.accu = 0;
         let d = cursor::advance(s, c);
         return Opened {
@@ -221,7 +221,7 @@ fn accumulation(s: &[u8], p: Opened) -> Opened
             heading: h,
         };
     }
-    if c.kind == kinds::BSUM {
+    if c.kind == token_kinds::BSUM {
         h.accu = 1;
         let d = cursor::advance(s, c);
         return Opened {
@@ -238,10 +238,10 @@ fn accumulation_line(s: &[u8], p: Opened) -> Opened
     ensures { λ r. ⌜ Opens (λ y. y ▸ expect ACCU ▸ expect COLON ▸ accumulationOf ▸ expect SEMICOLON)
         (now (s .entry)) p r ⌝ }
 {
-    let a = expected(s, p, kinds::ACCU);
-    let b = expected(s, a, kinds::COLON);
+    let a = expected(s, p, token_kinds::ACCU);
+    let b = expected(s, a, token_kinds::COLON);
     let d = accumulation(s, b);
-    expected(s, d, kinds::SEMICOLON)
+    expected(s, d, token_kinds::SEMICOLON)
 }
 
 pub fn rule_heading(s: &[u8], c: Cursor) -> Opened
@@ -265,7 +265,7 @@ pub fn rule_heading(s: &[u8], c: Cursor) -> Opened
             cursor: c,
             heading: h,
         },
-        kinds::RULEBLOCK,
+        token_kinds::RULEBLOCK,
     );
     let b = block_name(s, a);
     let d = algorithms(s, b);

@@ -20,10 +20,10 @@ use Rattle.model.specs.Rules.{Got, addRule, changeRule, withConclusion, withWei
 use Rattle.cursor.specs.declared.Cursor.{Cursor}
 use Rattle.cursor.specs.View.{seen, textOf, Fits, left, Step, fault}
 use Rattle.cursor.proofs.Laws.{enough, kind-seen, text-seen, block-seen, changed, unchanged, clash, judged-bad, judged-good, numbered, lost-is, lost-expect, lost-judged, lost-repeated}
-use Rattle.tables.specs.declared.Totals.{Totals}
-use Rattle.tables.specs.Stored.{ruleRow}
-use Rattle.tables.proofs.Lists.{updateLast-snoc}
-use Rattle.declared.specs.Book.{Describes, outputCount, termCount, first, among}
+use Rattle.block_tables.specs.declared.Totals.{Totals}
+use Rattle.block_tables.specs.Stored.{ruleRow}
+use Rattle.block_tables.proofs.Lists.{updateLast-snoc}
+use Rattle.symbol_table.specs.Book.{Describes, outputCount, termCount, first, among}
 use Rattle.condition_text.specs.Pending.{Adds}
 use Rattle.condition_text.proofs.Laws.{adds, words-put}
 use Rattle.rule_text.specs.declared.Concluded.{Concluded}

@@ -9,8 +9,8 @@ use Rattle.model.specs.Image.{conclusionWords}
 use Rattle.model.specs.Parse.{Part, withRules}
 use Rattle.model.specs.Rules.{withWeight}
 use Rattle.cursor.specs.View.{seen, Fits, left}
-use Rattle.tables.specs.declared.Totals.{Totals}
-use Rattle.tables.specs.Stored.{Stored, ruleRow}
+use Rattle.block_tables.specs.declared.Totals.{Totals}
+use Rattle.block_tables.specs.Stored.{Stored, ruleRow}
 use Rattle.condition_text.specs.Pending.{Adds}
 use Rattle.rule_text.specs.declared.Concluded.{Concluded}
 use Rattle.rule_text.specs.declared.Progress.{Progress}

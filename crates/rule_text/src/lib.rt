@@ -13,13 +13,13 @@ ghost use Rattle.model.specs.Parse.{refuse, expect, repeated, listed};
 ghost use Rattle.model.specs.Tokens.{decimal};
 ghost use Rattle.model.specs.Rules.{ruleNumber, concludedTerm, conclusion as conclusionOf, withWeight, weighted as weightedOf, ruleFrom, rule as ruleOf};
 ghost use Rattle.cursor.specs.View.{seen, textOf, Fits, left, Step, Moves};
-ghost use Rattle.declared.specs.Book.{Book, Describes, outputCount};
+ghost use Rattle.symbol_table.specs.Book.{Book, Describes, outputCount};
 ghost use Rattle.condition_text.specs.Pending.{Adds};
 ghost use Rattle.rule_text.specs.Progress.{Kept, Few, Rows, Concludes, Onward, Ends, Goes, Within, midst};
 use condition_text::Pending;
 use cursor::Cursor;
 use model::Degree;
-use tables::Totals;
+use block_tables::Totals;
 
 // A reading among rules, beside how many are kept.
 pub struct Progress {
@@ -66,7 +66,7 @@ fn rule_number(s: &[u8], rules: &[u32; 256], count: usize, c: Cursor) -> Numbere
     ensures within { λ r. ⌜ (left (now (s .entry)) (r .cursor) ≤ left (now (s .entry)) c)
         × Fits (now (s .entry)) (r .cursor) × (r .cursor .why ≡ 0 → r .number ≡ decimal (textOf (now (s .entry)) c)) ⌝ }
 {
-    let x = values::number_here(s, c);
+    let x = number_tokens::number_here(s, c);
     if x.fault != 0 {
         return Numbered {
             cursor: cursor::refuse(c, x.fault),
@@ -121,7 +121,7 @@ fn concluded_term(
         return not_concluded(p, w);
     }
     let v = 8 + o;
-    let j = declared::term_of(s, names, book, v, c);
+    let j = symbol_table::term_of(s, names, book, v, c);
     if book[v + 1] - book[v] <= j {
         return not_concluded(p, 5);
     }
@@ -155,7 +155,7 @@ fn conclusion(
     if w != 0 {
         return not_concluded(p, w);
     }
-    let o = declared::output_of(s, names, book, c);
+    let o = symbol_table::output_of(s, names, book, c);
     if book[16] <= o {
         return not_concluded(p, 5);
     }
@@ -163,7 +163,7 @@ fn conclusion(
         return not_concluded(p, 6);
     }
     let d = cursor::advance(s, c);
-    let e = cursor::expect(s, d, kinds::IS);
+    let e = cursor::expect(s, d, token_kinds::IS);
     let q = Concluded {
         cursor: e,
         count: p.count,
@@ -188,7 +188,7 @@ fn conclusion_list(
     ensures onward { λ r. ⌜ Onward (now (s .entry)) p r ⌝ }
 {
     let mut q = conclusion(s, names, book, conclusions, p);
-    while q.cursor.kind == kinds::COMMA {
+    while q.cursor.kind == token_kinds::COMMA {
         let c = q.cursor;
         let d = cursor::advance(s, c);
         let n = Concluded {
@@ -209,14 +209,14 @@ fn weighted(s: &[u8], c: Cursor) -> Weighed
     ensures within { λ r. ⌜ (left (now (s .entry)) (r .cursor) ≤ left (now (s .entry)) c)
         × Fits (now (s .entry)) (r .cursor) ⌝ }
 {
-    if c.kind != kinds::WITH {
+    if c.kind != token_kinds::WITH {
         return Weighed {
             cursor: c,
             weight: Degree(1000000),
         };
     }
     let d = cursor::advance(s, c);
-    let x = values::unit_here(s, d);
+    let x = number_tokens::unit_here(s, d);
     if x.fault != 0 {
         return Weighed {
             cursor: cursor::refuse(d, x.fault),
@@ -266,7 +266,7 @@ fn rule_given(
 {
     let c = p.cursor;
     let t = p.totals;
-    let d = cursor::expect(s, c, kinds::THEN);
+    let d = cursor::expect(s, c, token_kinds::THEN);
     let a = Concluded {
         cursor: d,
         count: t.conclusions,
@@ -275,7 +275,7 @@ fn rule_given(
     let e = q.cursor;
     let x = weighted(s, e);
     let f = x.cursor;
-    let g = cursor::expect(s, f, kinds::SEMICOLON);
+    let g = cursor::expect(s, f, token_kinds::SEMICOLON);
     let w = x.weight;
     let k = (q.count - t.conclusions) as u32;
     put_row(rules, t.rules, number, words, k, w.0);
@@ -311,8 +311,8 @@ fn rule_from(
     let t = p.totals;
     let n = rule_number(s, rules, t.rules, c);
     let d = n.cursor;
-    let e = cursor::expect(s, d, kinds::COLON);
-    let f = cursor::expect(s, e, kinds::IF);
+    let e = cursor::expect(s, d, token_kinds::COLON);
+    let f = cursor::expect(s, e, token_kinds::IF);
     let a = Pending {
         cursor: f,
         words: t.words,
@@ -369,7 +369,7 @@ fn rule(
 {
     let c = p.cursor;
     let t = p.totals;
-    if c.kind != kinds::RULE {
+    if c.kind != token_kinds::RULE {
         return refused(p, 2);
     }
     if 64 <= t.rules {
@@ -401,7 +401,7 @@ pub fn rules(
     ensures within { λ r. ⌜ Within (now (s .entry)) p r ⌝ }
 {
     let mut q = rule(s, names, book, rules, words, conclusions, p);
-    while q.cursor.kind == kinds::RULE {
+    while q.cursor.kind == token_kinds::RULE {
         q = rule(s, names, book, rules, words, conclusions, q);
     }
     q

@@ -256,13 +256,13 @@ fn word_kind(w: &[u8]) -> u8
     ensures within { λ r. ⌜ 0 < r ⌝ }
 {
     if !is_tidy(w) {
-        return kinds::WRONG;
+        return token_kinds::WRONG;
     }
     let k = keyword_at(w);
     if k < 43 {
-        return kinds::ACCU + k as u8;
+        return token_kinds::ACCU + k as u8;
     }
-    kinds::NAME
+    token_kinds::NAME
 }
 
 fn word_piece(rest: &[u8]) -> Piece
@@ -296,14 +296,14 @@ fn comment_piece(rest: &[u8]) -> Piece
     while i < rest.len() {
         if is_pair(rest, i, 42, 41) {
             return Piece {
-                kind: kinds::BLANK,
+                kind: token_kinds::BLANK,
                 more: i + 1,
             };
         }
         i += 1;
     }
     Piece {
-        kind: kinds::WRONG,
+        kind: token_kinds::WRONG,
         more: rest.len() - 1,
     }
 }
@@ -319,7 +319,7 @@ fn mark_piece(rest: &[u8]) -> Piece
     let c = rest[0];
     if is_signed(rest) {
         return Piece {
-            kind: kinds::NUMBER,
+            kind: token_kinds::NUMBER,
             more: number_part(rest, 1),
         };
     }
@@ -328,13 +328,13 @@ fn mark_piece(rest: &[u8]) -> Piece
     }
     if is_pair(rest, 0, 58, 61) {
         return Piece {
-            kind: kinds::ASSIGN,
+            kind: token_kinds::ASSIGN,
             more: 1,
         };
     }
     if is_pair(rest, 0, 46, 46) {
         return Piece {
-            kind: kinds::DOTS,
+            kind: token_kinds::DOTS,
             more: 1,
         };
     }
@@ -342,7 +342,7 @@ fn mark_piece(rest: &[u8]) -> Piece
         return Piece { kind: c, more: 0 };
     }
     Piece {
-        kind: kinds::WRONG,
+        kind: token_kinds::WRONG,
         more: 0,
     }
 }
@@ -356,7 +356,7 @@ fn first_piece(rest: &[u8]) -> Piece
     let c = rest[0];
     if is_blank(c) {
         return Piece {
-            kind: kinds::BLANK,
+            kind: token_kinds::BLANK,
             more: 0,
         };
     }
@@ -365,7 +365,7 @@ fn first_piece(rest: &[u8]) -> Piece
     }
     if is_digit(c) {
         return Piece {
-            kind: kinds::NUMBER,
+            kind: token_kinds::NUMBER,
             more: number_part(rest, 1),
         };
     }
@@ -382,7 +382,7 @@ pub fn next(s: &[u8], at: usize) -> Token
     while i < s.len() {
         let p = first_piece(&s[i..]);
         let e = i + 1 + p.more;
-        if p.kind != kinds::BLANK {
+        if p.kind != token_kinds::BLANK {
             return Token {
                 kind: p.kind,
                 start: i,
@@ -392,7 +392,7 @@ pub fn next(s: &[u8], at: usize) -> Token
         i = e;
     }
     Token {
-        kind: kinds::END,
+        kind: token_kinds::END,
         start: i,
         end: i,
     }

@@ -1,7 +1,7 @@
 use Prim.Native.Nat.{_-_, _≤_}
 use borrow.Author.Needs.{needs}
 use Rattle.model.specs.Image.{wordAt}
-use Rattle.conditions.specs.Machine.{stackOf}
+use Rattle.stored_conditions.specs.Machine.{stackOf}
 use Rattle.degrees.specs.Tables.{numbers}
 use Rattle.aggregation.specs.Stacks.{byDegrees, onStack, Small}
 use Rattle.aggregation.proofs.Steps as laws

@@ -1,7 +1,7 @@
 use mathlib.Core.Path.{ap, _∙_}
 use borrow.Author.Needs.{needs}
 use Rattle.block_text.proofs.Laws as laws
-use Rattle.reading.proofs.Laws as reading
+use Rattle.parse_state.proofs.Laws as reading
 use Rattle.block_text.specs.Block.{frontText}
 use Rattle.block_text.proofs.front.Statement.{statement}
 use Rattle.block_text.proofs.front.Tie as tie

@@ -7,7 +7,7 @@ use lib.Dec.{ltb}
 use Rattle.model.specs.Basic.{all}
 use Rattle.model.specs.Image.{tab}
 use Rattle.words.proofs.Places.{all-more, all-stop, all-end}
-use Rattle.declared.specs.Book.{first}
+use Rattle.symbol_table.specs.Book.{first}
 use Rattle.block_text.specs.Block.{haveTerms}
 use Rattle.block_text.proofs.have_terms.Statement.{statement}
 use Rattle.block_text.proofs.have_terms.Tie as tie

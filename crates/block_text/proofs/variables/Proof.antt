@@ -1,6 +1,6 @@
 use native.Mathlib.Omega.{arith}
 use Rattle.cursor.proofs.Laws.{steps}
-use Rattle.reading.proofs.Laws as reading
+use Rattle.parse_state.proofs.Laws as reading
 use Rattle.block_text.specs.Block.{variablesText}
 use Rattle.block_text.proofs.variables.Statement.{statement}
 use Rattle.block_text.proofs.variables.Tie as tie

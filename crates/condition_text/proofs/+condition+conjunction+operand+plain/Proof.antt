@@ -8,7 +8,7 @@ use Rattle.model.specs.Keywords.{AND, OR}
 use Rattle.model.specs.Rules.{chain, plain as plainOf, operand as operandOf, conditionWith, parenthesis}
 use Rattle.cursor.specs.View.{left}
 use Rattle.cursor.proofs.Laws.{kind-seen}
-use Rattle.declared.specs.Book.{Describes}
+use Rattle.symbol_table.specs.Book.{Describes}
 use Rattle.condition_text.specs.Pending.{Within}
 use Rattle.condition_text.proofs.Laws as laws
 use borrow.Fn.Kinds.{In}

@@ -1,5 +1,5 @@
 use native.Mathlib.Omega.{arith}
-use Rattle.reading.proofs.Laws as reading
+use Rattle.parse_state.proofs.Laws as reading
 use Rattle.model.specs.Declarations.{defuzzify}
 use Rattle.defuzzify_text.proofs.defuzzify_part.Statement.{statement}
 use Rattle.defuzzify_text.proofs.defuzzify_part.Tie as tie

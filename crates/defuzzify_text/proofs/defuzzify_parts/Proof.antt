@@ -1,7 +1,7 @@
 use native.Mathlib.Omega.{arith}
 use Rattle.model.specs.Declarations.{defuzzify}
 use Rattle.cursor.specs.View.{left}
-use Rattle.reading.proofs.Laws as reading
+use Rattle.parse_state.proofs.Laws as reading
 use Rattle.defuzzify_text.proofs.defuzzify_parts.Statement.{statement}
 use Rattle.defuzzify_text.proofs.defuzzify_parts.Tie as tie
 

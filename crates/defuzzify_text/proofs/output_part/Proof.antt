@@ -1,6 +1,6 @@
 use native.Mathlib.Omega.{arith}
 use Rattle.cursor.proofs.Laws.{steps}
-use Rattle.reading.proofs.Laws as reading
+use Rattle.parse_state.proofs.Laws as reading
 use Rattle.defuzzify_text.specs.Output.{partText}
 use Rattle.defuzzify_text.proofs.output_part.Statement.{statement}
 use Rattle.defuzzify_text.proofs.output_part.Tie as tie

@@ -2,7 +2,7 @@ use mathlib.Core.Path.{_≡_, refl, _∙_}
 use native.Mathlib.Omega.{arith}
 use Rattle.model.specs.Declarations.{outputTerm}
 use Rattle.cursor.specs.View.{left}
-use Rattle.reading.proofs.Laws as reading
+use Rattle.parse_state.proofs.Laws as reading
 use Rattle.defuzzify_text.proofs.output_terms.Statement.{statement}
 use Rattle.defuzzify_text.proofs.output_terms.Tie as tie
 

@@ -1,10 +1,10 @@
 use mathlib.Core.Path.{sym, _∙_}
 use native.Mathlib.Omega.{arith}
 use borrow.Author.Needs.{needs}
-use Rattle.values.proofs.Laws.{value-here}
+use Rattle.number_tokens.proofs.Laws.{value-here}
 use Rattle.defuzzify_text.proofs.Laws as laws
 use Rattle.cursor.proofs.Laws.{steps}
-use Rattle.reading.proofs.Laws as reading
+use Rattle.parse_state.proofs.Laws as reading
 use Rattle.defuzzify_text.proofs.range_from.Statement.{statement}
 use Rattle.defuzzify_text.proofs.range_from.Tie as tie
 

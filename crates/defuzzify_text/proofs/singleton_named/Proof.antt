@@ -3,7 +3,7 @@ use native.Mathlib.Omega.{arith}
 use borrow.Author.Needs.{needs}
 use Rattle.defuzzify_text.proofs.Laws as laws
 use Rattle.cursor.proofs.Laws.{steps}
-use Rattle.reading.proofs.Laws as reading
+use Rattle.parse_state.proofs.Laws as reading
 use Rattle.defuzzify_text.proofs.singleton_named.Statement.{statement}
 use Rattle.defuzzify_text.proofs.singleton_named.Tie as tie
 

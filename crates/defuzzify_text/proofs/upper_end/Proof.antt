@@ -1,7 +1,7 @@
 use mathlib.Core.Path.{sym, _∙_}
 use native.Mathlib.Omega.{arith}
 use borrow.Author.Needs.{needs}
-use Rattle.values.proofs.Laws.{value-here}
+use Rattle.number_tokens.proofs.Laws.{value-here}
 use Rattle.defuzzify_text.proofs.Laws as laws
 use Rattle.defuzzify_text.proofs.upper_end.Statement.{statement}
 use Rattle.defuzzify_text.proofs.upper_end.Tie as tie

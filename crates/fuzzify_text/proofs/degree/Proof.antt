@@ -3,7 +3,7 @@ use native.Mathlib.Omega.{arith}
 use borrow.Author.Needs.{needs}
 use Rattle.model.specs.Tokens.{unitOf}
 use Rattle.cursor.specs.View.{textOf}
-use Rattle.values.proofs.Laws.{value-here}
+use Rattle.number_tokens.proofs.Laws.{value-here}
 use Rattle.fuzzify_text.proofs.Laws as laws
 use Rattle.fuzzify_text.proofs.degree.Statement.{statement}
 use Rattle.fuzzify_text.proofs.degree.Tie as tie

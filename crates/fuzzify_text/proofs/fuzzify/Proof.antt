@@ -2,7 +2,7 @@ use mathlib.Core.Path.{refl}
 use native.Mathlib.Omega.{arith}
 use borrow.Author.Needs.{needs}
 use Rattle.model.specs.Declarations.{fuzzify}
-use Rattle.reading.proofs.Laws as reading
+use Rattle.parse_state.proofs.Laws as reading
 use Rattle.fuzzify_text.proofs.fuzzify.Statement.{statement}
 use Rattle.fuzzify_text.proofs.fuzzify.Tie as tie
 

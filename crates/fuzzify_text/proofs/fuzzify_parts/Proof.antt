@@ -3,7 +3,7 @@ use borrow.Author.Needs.{needs}
 use Rattle.model.specs.Keywords.{FUZZIFY}
 use Rattle.model.specs.Declarations.{fuzzify}
 use Rattle.cursor.specs.View.{left}
-use Rattle.reading.proofs.Laws as reading
+use Rattle.parse_state.proofs.Laws as reading
 use Rattle.fuzzify_text.proofs.fuzzify_parts.Statement.{statement}
 use Rattle.fuzzify_text.proofs.fuzzify_parts.Tie as tie
 

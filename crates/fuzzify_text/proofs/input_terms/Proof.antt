@@ -4,7 +4,7 @@ use borrow.Author.Needs.{needs}
 use Rattle.model.specs.Keywords.{TERM}
 use Rattle.model.specs.Declarations.{inputTerm}
 use Rattle.cursor.specs.View.{left}
-use Rattle.reading.proofs.Laws as reading
+use Rattle.parse_state.proofs.Laws as reading
 use Rattle.fuzzify_text.proofs.input_terms.Statement.{statement}
 use Rattle.fuzzify_text.proofs.input_terms.Tie as tie
 

@@ -5,7 +5,7 @@ use Rattle.model.specs.Keywords.{COMMA}
 use Rattle.model.specs.Parse.{expect, listed}
 use Rattle.model.specs.Declarations.{point}
 use Rattle.cursor.specs.View.{left}
-use Rattle.reading.proofs.Laws as reading
+use Rattle.parse_state.proofs.Laws as reading
 use Rattle.fuzzify_text.specs.Terms.{Open}
 use Rattle.fuzzify_text.proofs.points.Statement.{statement}
 use Rattle.fuzzify_text.proofs.points.Tie as tie

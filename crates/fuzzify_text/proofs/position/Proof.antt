@@ -5,7 +5,7 @@ use lib.IntN.{ℤ, pos}
 use Rattle.model.specs.Tokens.{valueOf}
 use Rattle.cursor.specs.View.{textOf}
 use Rattle.fuzzify_text.specs.Terms.{rises}
-use Rattle.values.proofs.Laws.{value-here}
+use Rattle.number_tokens.proofs.Laws.{value-here}
 use Rattle.fuzzify_text.proofs.Laws as laws
 use Rattle.fuzzify_text.proofs.position.Statement.{statement}
 use Rattle.fuzzify_text.proofs.position.Tie as tie

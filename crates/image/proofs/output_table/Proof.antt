@@ -4,7 +4,7 @@ use Prim.Native.Nat.{_+_, _*_, _-_, _≤_}
 use native.Mathlib.Omega.{arith}
 use lib.ListN.{length, getD}
 use Rattle.model.specs.Image.{nameWords}
-use Rattle.tables.specs.View.{no-output}
+use Rattle.block_tables.specs.View.{no-output}
 use Rattle.image.specs.Rows.{outputSize, outputWords, outputRows}
 use Rattle.image.proofs.Over.{Going, begins, goes, ends, retold}
 use Rattle.image.proofs.output_table.Statement.{statement}

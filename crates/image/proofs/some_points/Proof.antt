@@ -4,7 +4,7 @@ use mathlib.Core.List.{[], _∷_}
 use Prim.Native.Nat.{ℕ, _+_, _*_, _-_, _≤_}
 use native.Mathlib.Omega.{arith}
 use lib.ListN.{length, getD}
-use Rattle.tables.specs.View.{no-point}
+use Rattle.block_tables.specs.View.{no-point}
 use Rattle.image.specs.Rows.{pointRow, rows, onward}
 use Rattle.image.proofs.Over.{Going, begins, goes, ends, retold}
 use Rattle.image.proofs.some_points.Statement.{statement}

@@ -7,8 +7,8 @@ use lib.ListN.{length, getD}
 use lib.Seq.{slice}
 use Rattle.model.specs.Block.{Rule}
 use Rattle.model.specs.Image.{nameWords, words, image, endOf}
-use Rattle.tables.specs.View.{wholeView}
-use Rattle.tables.specs.Stored.{Stored}
+use Rattle.block_tables.specs.View.{wholeView}
+use Rattle.block_tables.specs.Stored.{Stored}
 use Rattle.image.specs.declared.Counts.{Counts}
 use Rattle.image.specs.Rows.{headWords, variableWords, entriesOf}
 use Rattle.image.proofs.Over.{joined, retold, from-start}

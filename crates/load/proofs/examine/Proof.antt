@@ -12,11 +12,11 @@ use Rattle.load.proofs.examine.Statement.{statement}
 use Rattle.load.proofs.examine.Tie as tie
 use Rattle.load.proofs.examine.Reads as reads
 use Rattle.load.proofs.examine.Lts as lts
-use Rattle.frame.proofs.Lists.{clash}
-use Rattle.frame.proofs.frame.Reads as frame-reads
+use Rattle.stored_tables.proofs.Lists.{clash}
+use Rattle.stored_tables.proofs.frame.Reads as frame-reads
 use Rattle.load.proofs.not_accepted.Reads as not-accepted-reads
-use Rattle.rules.proofs.rules_ok.Reads as rules-ok-reads
-use Rattle.variables.proofs.variables_ok.Reads as variables-ok-reads
+use Rattle.stored_rules.proofs.rules_ok.Reads as rules-ok-reads
+use Rattle.stored_variables.proofs.variables_ok.Reads as variables-ok-reads
 use Rattle.words.proofs.word.Reads as word-reads
 
 small : (c : tie.After-word) → (k : ℕ) → getD (c .before .before .args .img .now) k 0 < 256

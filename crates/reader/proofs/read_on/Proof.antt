@@ -4,7 +4,7 @@ use borrow.Author.Needs.{needs}
 use Rattle.reader.proofs.Laws as laws
 use lib.ListN.{length}
 use Rattle.model.specs.Outcome.{lengthIn, bufferAfter}
-use Rattle.tables.specs.View.{blockView}
+use Rattle.block_tables.specs.View.{blockView}
 use Rattle.rule_heading.specs.Opening.{headed}
 use Rattle.rule_text.specs.Progress.{holding}
 use Rattle.reader.proofs.read_on.Statement.{statement}

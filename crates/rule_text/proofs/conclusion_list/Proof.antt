@@ -7,7 +7,7 @@ use Rattle.model.specs.Block.{Block, Rule}
 use Rattle.model.specs.Parse.{listed}
 use Rattle.cursor.specs.View.{seen, left}
 use Rattle.cursor.proofs.Laws.{enough}
-use Rattle.declared.specs.Book.{Describes}
+use Rattle.symbol_table.specs.Book.{Describes}
 use Rattle.rule_text.specs.Progress.{Onward, midst, gives}
 use native.Mathlib.Omega.{arith}
 use borrow.Author.Needs.{needs}

@@ -5,7 +5,7 @@ use native.Mathlib.Omega.{arith}
 use Rattle.model.specs.Block.{Block, Rule}
 use Rattle.cursor.specs.View.{left}
 use Rattle.cursor.proofs.Laws.{enough}
-use Rattle.declared.specs.Book.{Describes}
+use Rattle.symbol_table.specs.Book.{Describes}
 use Rattle.rule_text.specs.Progress.{Kept, Within, holding}
 use borrow.Author.Needs.{needs}
 use Rattle.rule_text.proofs.Laws as laws

@@ -1,0 +1,30 @@
+use mathlib.Core.Path.{_≡_}
+use borrow.Author.Needs.{needs}
+use Rattle.block_symbols.proofs.Laws as laws
+use lib.ListN.{length}
+use Rattle.block_symbols.specs.Firsts.{termsAt}
+use Rattle.block_symbols.proofs.book_of.Statement.{statement}
+use Rattle.block_symbols.proofs.book_of.Tie as tie
+
+with-inputs-requires : tie.Need-with-inputs-requires
+with-inputs-requires c κs = search needs
+
+with-outputs-requires : tie.Need-with-outputs-requires
+with-outputs-requires c κs = search needs
+
+array-write-r : tie.Need-array-write-r
+array-write-r c = search needs
+
+array-write-r-2 : tie.Need-array-write-r-2
+array-write-r-2 c = search needs
+
+returns : tie.Need-returns
+returns c = let a = c .before .before .before .before .args in
+    let l : length (c .with-outputs .result) ≡ 17 = search needs in
+    let f = c .with-outputs .ensures (termsAt (a .t)) (c .before .before .with-inputs .ensures .0 (termsAt (a .t)) (laws.rows-in (a .t))) (laws.rows-out (a .t)) in
+    ((λ s g. laws.is-book (a .t) (c .with-outputs .result) l f s g), λ s b g x y. laws.describes (a .t) (c .with-outputs .result) l f s g b x y)
+
+pub book-of-spec : {M : Type 1} → statement M
+book-of-spec =
+    tie.close
+    (tie.spec with-inputs-requires with-outputs-requires array-write-r array-write-r-2 returns)

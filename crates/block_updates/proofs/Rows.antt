@@ -1,0 +1,92 @@
+-- RANGE and DEFAULT of an output.
+use mathlib.Core.Path.{_≡_, refl, ap, _∙_}
+use mathlib.Core.Bool.{true}
+use mathlib.Core.List.{List, []}
+use Prim.Native.Nat.{ℕ, _+_, _<_}
+use native.Mathlib.Nat.{zero-add}
+use native.Mathlib.Omega.{arith}
+use lib.ListN.{set, length-set}
+use lib.Seq.{slice, getD-set-same, getD-set-other}
+use Rattle.model.specs.Block.{Output as Output′}
+use Rattle.model.specs.Image.{tab}
+use Rattle.model.specs.Declarations.{changeOutput, withRange, withDefault}
+use Rattle.model.specs.declared.Pair.the-variants.{MinMax as min-max}
+use Rattle.model.specs.declared.Activation.the-variants.{Min as by-min}
+use Rattle.model.specs.declared.Accumulation.the-variants.{Max as by-max}
+use Rattle.lookup.specs.Names.{nameOf}
+use Rattle.model.specs.declared.Crisp.{Crisp}
+use Rattle.block_tables.specs.declared.Output.{Output}
+use Rattle.block_tables.specs.declared.Tables.{Tables}
+use Rattle.block_tables.specs.View.{no-output, outputRow, pointView, termView, inputView, singletonView, rangeView, defaultView, outputView, inputsView, blockView, Holds}
+use Rattle.block_updates.specs.Changes.{Changes}
+use Rattle.block_updates.proofs.Tabs.{tab-update, kept}
+use Rattle.block_updates.proofs.Views.{singleton-same, output-same}
+
+-- ROWS: another row for output o, with as many terms
+abbrev pub withRow : Tables → ℕ → Output → Tables
+withRow t o v = record {
+  start = t .start;
+  end = t .end;
+  «input_count» = t .«input_count»;
+  «output_count» = t .«output_count»;
+  names = t .names;
+  inputs = t .inputs;
+  outputs = set (t .outputs) o v;
+  counts = t .counts;
+  points = t .points;
+  singletons = t .singletons;
+}
+
+module _ (s : List ℕ) (t : Tables) (o : ℕ) (v : Output) (f : Output′ → Output′) (b : o < t .«output_count») (e : v .terms ≡ outputRow t o .terms) (g : Holds s t)
+    (c : record { name = nameOf s (t .names) (8 + o); terms = outputView s t o .terms; range = rangeView v; default = defaultView v } ≡ f (outputView s t o)) where
+  row-same : outputRow (withRow t o v) o ≡ v
+  row-same = let q = g .outputCount in getD-set-same (t .outputs) o v no-output (omega (arith, g .outputs-size))
+
+  row-view : outputView s (withRow t o v) o ≡ f (outputView s t o)
+  unfolding outputView singletonView
+  row-view =
+      let q = ap (λ (w : Output). tab (singletonView s t o) (w .terms) 0) row-same ∙ ap (λ (n : ℕ). tab (singletonView s t o) n 0) e in
+      (λ x. record { name = nameOf s (t .names) (8 + o); terms = q x; range = rangeView (row-same x); default = defaultView (row-same x) }) ∙ c
+
+  others : (m : ℕ) → (m ≡ o → ⊥) → outputView s (withRow t o v) m ≡ outputView s t m
+  others m d = output-same s t (withRow t o v) m refl (getD-set-other (t .outputs) o m v no-output d) (λ j h. singleton-same s t (withRow t o v) m j refl refl)
+
+  pub row-changed : Changes s t (withRow t o v) (changeOutput f o)
+  unfolding blockView changeOutput inputView termView pointView
+  row-changed =
+      let r = tab-update f (outputView s t) (outputView s (withRow t o v)) (t .«output_count») 0 o (simp zero-add row-view) (λ m h d. simp zero-add (others m d)) b in
+      record {
+        view = λ x. record { name = slice (t .start) (t .end) s; inputs = inputsView s t; outputs = r x; ruleBlock = []; pair = min-max; act = by-min; accu = by-max; rules = [] };
+        holds = record {
+          order = g .order;
+          inside = g .inside;
+          placed = g .placed;
+          inputCount = g .inputCount;
+          outputCount = g .outputCount;
+          inputTerms = g .inputTerms;
+          outputTerms = kept (λ (w : Output). w .terms) 7 (t .outputs) o v no-output (let q = g .outputTerms o in omega (arith, e)) (g .outputTerms);
+          pointCounts = g .pointCounts;
+          names-size = g .names-size;
+          inputs-size = g .inputs-size;
+          outputs-size = simp length-set (g .outputs-size);
+          counts-size = g .counts-size;
+          points-size = g .points-size;
+          singletons-size = g .singletons-size;
+        };
+      }
+
+abbrev pub ranged : Output → Crisp → Crisp → Output
+ranged v x y = record { terms = v .terms; ranged = true; least = x; most = y; numbered = v .numbered; default = v .default }
+
+pub range-set : (s : List ℕ) (t : Tables) (o : ℕ) (x y : Crisp) → o < t .«output_count» → Holds s t
+    → Changes s t (withRow t o (ranged (outputRow t o) x y)) (changeOutput (withRange (record { least = x .0; most = y .0 })) o)
+unfolding outputView
+range-set s t o x y b g = row-changed s t o (ranged (outputRow t o) x y) (withRange (record { least = x .0; most = y .0 })) b refl g refl
+
+abbrev pub defaulted : Output → Crisp → Output
+defaulted v x = record { terms = v .terms; ranged = v .ranged; least = v .least; most = v .most; numbered = true; default = x }
+
+pub default-set : (s : List ℕ) (t : Tables) (o : ℕ) (x : Crisp) → o < t .«output_count» → Holds s t
+    → Changes s t (withRow t o (defaulted (outputRow t o) x)) (changeOutput (withDefault (x .0)) o)
+unfolding outputView
+default-set s t o x b g = row-changed s t o (defaulted (outputRow t o) x) (withDefault (x .0)) b refl g refl

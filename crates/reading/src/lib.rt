@@ -1,8 +1,0 @@
-// A text in the midst of its declarations: where reading stands, and the tables so far.
-use cursor::Cursor;
-use tables::Tables;
-
-pub struct Reading {
-    pub cursor: Cursor,
-    pub tables: Tables,
-}

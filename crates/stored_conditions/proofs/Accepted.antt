@@ -1,0 +1,92 @@
+-- The machine on forms and depths accepts exactly the words of a condition that can be written.
+use mathlib.Core.Path.{_≡_, refl, sym, ap, _∙_}
+use mathlib.Core.List.{List, [], _∷_}
+use mathlib.Core.Bool.{Bool, true, false, _&&_}
+use mathlib.Core.Option.{Option, none, some}
+use Prim.Native.Nat.{ℕ, _≤_}
+use native.Mathlib.Omega.{arith}
+use borrow.Author.Tests.{le-leb, leb-true}
+use lib.Dec.{leb}
+use Rattle.model.specs.Basic.{same}
+use Rattle.model.specs.Bounds.{depthLimit}
+use Rattle.model.specs.Block.{Condition, term, neg, two}
+use Rattle.model.specs.Parentheses.{form, besideNot, leftOf, rightOf, depth}
+use Rattle.model.specs.WellFormed.{termsBelow}
+use Rattle.model.specs.Image.{postfix, treeOf}
+use Rattle.words.proofs.Places.{both, and-i, same-eq, same-refl}
+use Rattle.stored_conditions.specs.Machine.{fold, pass}
+use Rattle.stored_conditions.specs.Shapes.{shape, negatedShape, joinedShape, shapes, isOne, accepts}
+use Rattle.stored_conditions.specs.Stored.{isCondition}
+use Rattle.stored_conditions.proofs.Trees.{tree-postfix}
+use Rattle.stored_conditions.proofs.Room.{opened-ge}
+use Rattle.stored_conditions.proofs.Passes.{Allowed, allowed-fine, pass-postfix, pass-one}
+
+fold-shape : (m : ℕ) (c : Condition) → fold (shapes m) c ≡ shape (form c) (depth c)
+unfolding fold negatedShape joinedShape form depth
+fold-shape m (term t) = refl
+fold-shape m (neg c) = ap negatedShape (fold-shape m c)
+fold-shape m (two o a b) = rw (fold-shape m a, fold-shape m b) refl
+
+fine-shape : (m : ℕ) (c : Condition) → depth c ≤ 8 → leb (fold (shapes m) c .depth) 8 ≡ true
+fine-shape m c d = rw (fold-shape m c) (le-leb (depth c) 8 d)
+
+allowed : (m : ℕ) (c : Condition) → termsBelow m c ≡ true → depth c ≤ 8 → Allowed (shapes m) c
+unfolding Allowed termsBelow depth
+allowed m (term t) k d = (k, refl)
+allowed m (neg c) k d = (allowed m c k (omega (arith, opened-ge besideNot (form c) (depth c))), fine-shape m (neg c) d)
+allowed m (two o a b) k d =
+    let q = both (termsBelow m a) (termsBelow m b) k in (
+      (
+        allowed m a (q .0) (omega (arith, opened-ge (leftOf o) (form a) (depth a))),
+        allowed m b (q .1) (omega (arith, opened-ge (rightOf o) (form b) (depth b))),
+      ),
+      fine-shape m (two o a b) d,
+    )
+
+allowed-terms : (m : ℕ) (c : Condition) → Allowed (shapes m) c → termsBelow m c ≡ true
+unfolding Allowed termsBelow
+allowed-terms m (term t) k = k .0
+allowed-terms m (neg c) k = allowed-terms m c (k .0)
+allowed-terms m (two o a b) k = and-i _ _ (allowed-terms m a (k .0 .0)) (allowed-terms m b (k .0 .1))
+
+allowed-depth : (m : ℕ) (c : Condition) → Allowed (shapes m) c → leb (depth c) depthLimit ≡ true
+allowed-depth m c k = rw (fold-shape m c) at (allowed-fine (shapes m) c k)
+
+-- what isCondition says
+pub condition-in : (m : ℕ) (ws : List ℕ) → isCondition m ws ≡ true → (ws ≡ postfix (treeOf ws)) × (termsBelow m (treeOf ws) ≡ true) × (depth (treeOf ws) ≤ 8)
+condition-in m ws e =
+    let p = both (same ws (postfix (treeOf ws))) _ e in
+    let q = both (termsBelow m (treeOf ws)) _ (p .1) in
+    (same-eq ws _ (p .0), q .0, leb-true _ 8 (q .1))
+
+pub condition-postfix : (m : ℕ) (c : Condition) → isCondition m (postfix c) ≡ termsBelow m c && leb (depth c) depthLimit
+condition-postfix m c = rw (tree-postfix c) (simp (same-refl (postfix c)))
+
+one-in : {A : Type 0} (s : Option (List A)) → isOne s ≡ true → (x : A) × (s ≡ some (x ∷ []))
+one-in none e = absurd (let z : _≡_ {A = ℕ} 0 1 = cc in omega arith)
+one-in (some []) e = absurd (let z : _≡_ {A = ℕ} 0 1 = cc in omega arith)
+one-in (some (x ∷ [])) e = (x, refl)
+one-in (some (x ∷ y ∷ l)) e = absurd (let z : _≡_ {A = ℕ} 0 1 = cc in omega arith)
+
+accepts-in : (m : ℕ) (ws : List ℕ) → accepts m ws ≡ true → isCondition m ws ≡ true
+unfolding accepts
+accepts-in m ws e =
+    let o = one-in (pass (shapes m) ws (some [])) e in
+    let r = pass-one (shapes m) ws (o .0) (o .1) in
+    ap (isCondition m) (r .1) ∙ condition-postfix m (r .0) ∙ and-i _ _ (allowed-terms m (r .0) (r .2)) (allowed-depth m (r .0) (r .2))
+
+accepts-out : (m : ℕ) (ws : List ℕ) → isCondition m ws ≡ true → accepts m ws ≡ true
+unfolding accepts
+accepts-out m ws e =
+    let r = condition-in m ws e in
+    let c = treeOf ws in
+    ap (λ (l : List ℕ). isOne (pass (shapes m) l (some []))) (r .0) ∙ ap isOne (pass-postfix (shapes m) c (allowed m c (r .1) (r .2)) (r .2))
+
+iff : (a b : Bool) → (a ≡ true → b ≡ true) → (b ≡ true → a ≡ true) → a ≡ b
+iff true b f g = sym (f refl)
+iff false true f g = g refl
+iff false false f g = refl
+
+-- THE THEOREM
+pub accepts-is : (m : ℕ) (ws : List ℕ) → accepts m ws ≡ isCondition m ws
+accepts-is m ws = iff _ _ (accepts-in m ws) (accepts-out m ws)

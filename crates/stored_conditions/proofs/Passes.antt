@@ -1,0 +1,171 @@
+-- A pass over the words of a condition leaves its meaning; and words that leave one meaning are those of a condition.
+use mathlib.Core.Path.{_≡_, refl, sym, ap, _∙_}
+use mathlib.Core.List.{List, [], _∷_, _++_, append-assoc, append-nil, map}
+use mathlib.Core.Bool.{Bool, true, false}
+use mathlib.Core.Option.{Option, none, some}
+use Prim.Native.Nat.{ℕ, suc, _+_, _-_, _≤_, _<_}
+use native.Mathlib.Omega.{arith}
+use borrow.Author.Tests.{lt-ltb, le-leb, eqb-true, leb-true}
+use lib.Dec.{leb, ltb, eqb}
+use lib.ListN.{length}
+use Rattle.model.specs.Block.{Op, and, or, Condition, term, neg, two}
+use Rattle.model.specs.Parentheses.{depth}
+use Rattle.model.specs.Image.{postfix, opWord, tab}
+use Rattle.stored_conditions.specs.Machine.{Meaning, fold, room, added, unary, binary, step, turn, pass}
+use Rattle.stored_conditions.proofs.Room.{Fits, fits, fits-left, fits-right, fits-neg, fits-one}
+
+module _ {A : Type 0} (g : Meaning A) where
+  -- every term is known, and every subtree may stand on the stack
+  unfoldable pub Allowed : Condition → Type 0
+  Allowed (term t) = (g .known t ≡ true) × (g .fine (g .leaf t) ≡ true)
+  Allowed (neg c) = Allowed c × (g .fine (fold g (neg c)) ≡ true)
+  Allowed (two o a b) = (Allowed a × Allowed b) × (g .fine (fold g (two o a b)) ≡ true)
+
+  pub allowed-fine : (c : Condition) → Allowed c → g .fine (fold g c) ≡ true
+  unfolding Allowed fold
+  allowed-fine (term t) h = h .1
+  allowed-fine (neg c) h = h .1
+  allowed-fine (two o a b) h = h .1
+
+  -- A CONDITION'S WORDS
+  added-ok : (x : A) (st : List A) → g .fine x ≡ true → length st < room → added g x st ≡ some (x ∷ st)
+  unfolding added
+  added-ok x st e h = simp (e, lt-ltb (length st) room h)
+
+  step-term : (t : ℕ) (st : List A) → g .known t ≡ true → step g (16 + t) st ≡ added g (g .leaf t) st
+  unfolding step
+  step-term t st e = let q : 16 + t - 16 ≡ t = omega arith in simp (le-leb 16 (16 + t) (omega arith), q, e)
+
+  step-two : (o : Op) (st : List A) → step g (opWord o) st ≡ binary g o st
+  unfolding step
+  step-two and st = refl
+  step-two or st = refl
+
+  step-neg : (st : List A) → step g 0 st ≡ unary g st
+  unfolding step
+  step-neg st = refl
+
+  pass-on : (c : Condition) (rest : List ℕ) (st : List A) → Allowed c → Fits c (length st) → pass g (postfix c ++ rest) (some st) ≡ pass g rest (some (fold g c ∷ st))
+  unfolding pass turn postfix fold Allowed unary binary
+  pass-on (term t) rest st (k, f) h = ap (pass g rest) (step-term t st k ∙ added-ok (g .leaf t) st f (fits-one (term t) _ h))
+  pass-on (neg c) rest st (k, f) h =
+      rw append-assoc (pass-on c (0 ∷ rest) st k (fits-neg c _ h)
+      ∙ ap (pass g rest) (step-neg (fold g c ∷ st) ∙ added-ok (g .no (fold g c)) st f (fits-one (neg c) _ h)))
+  pass-on (two o a b) rest st ((ka, kb), f) h =
+      simp append-assoc (pass-on a (postfix b ++ (opWord o ∷ rest)) st ka (fits-left o a b _ h)
+      ∙ pass-on b (opWord o ∷ rest) (fold g a ∷ st) kb (fits-right o a b _ h)
+      ∙ ap (pass g rest) (step-two o (fold g b ∷ fold g a ∷ st) ∙ added-ok (g .join o (fold g a) (fold g b)) st f (fits-one (two o a b) _ h)))
+
+  pub pass-postfix : (c : Condition) → Allowed c → depth c ≤ 8 → pass g (postfix c) (some []) ≡ some (fold g c ∷ [])
+  unfolding pass
+  pass-postfix c k d = rw (append-nil (postfix c)) at (pass-on c [] [] k (fits c d))
+
+  -- WHAT IS ACCEPTED
+  -- the words behind a stack of trees, the top last
+  unfoldable words : List Condition → List ℕ
+  words [] = []
+  words (c ∷ cs) = words cs ++ postfix c
+
+  unfoldable AllAllowed : List Condition → Type 0
+  AllAllowed [] = Unit {0}
+  AllAllowed (c ∷ cs) = Allowed c × AllAllowed cs
+
+  none-some : (x : List A) → _≡_ {A = Option (List A)} none (some x) → ⊥
+  none-some x e = let z : _≡_ {A = ℕ} 0 1 = cc in omega arith
+
+  added-in : (x : A) (st st′ : List A) → added g x st ≡ some st′ → (g .fine x ≡ true) × (st′ ≡ x ∷ st)
+  unfolding added
+  added-in x st st′ e = go (g .fine x) (ltb (length st) room) refl refl
+    where
+      go : (b₁ b₂ : Bool) → g .fine x ≡ b₁ → ltb (length st) room ≡ b₂ → (g .fine x ≡ true) × (st′ ≡ x ∷ st)
+      go true true e₁ e₂ = let q = simp (e₁, e₂) at e in (e₁, cc)
+      go true false e₁ e₂ = absurd (none-some st′ (simp (e₁, e₂) at e))
+      go false b₂ e₁ e₂ = absurd (none-some st′ (simp e₁ at e))
+
+  -- the words ws on top of the trees cs leave the stack st
+  unfoldable Made : List Condition → List ℕ → List A → Type 0
+  Made cs ws st = (ds : List Condition) × (st ≡ map (fold g) ds) × AllAllowed ds × (words ds ≡ words cs ++ ws)
+
+  unary-in : (cs : List Condition) (st : List A) → AllAllowed cs → unary g (map (fold g) cs) ≡ some st → Made cs (0 ∷ []) st
+  unfolding unary AllAllowed Made words postfix Allowed fold
+  unary-in [] st gs e = absurd (none-some st e)
+  unary-in (c ∷ cs) st (k, gs) e =
+      let q = added-in (g .no (fold g c)) (map (fold g) cs) st e in
+      (neg c ∷ cs, q .1, ((k, q .0), gs), simp append-assoc)
+
+  binary-in : (o : Op) (cs : List Condition) (st : List A) → AllAllowed cs → binary g o (map (fold g) cs) ≡ some st → Made cs (opWord o ∷ []) st
+  unfolding binary AllAllowed Made words postfix Allowed fold
+  binary-in o [] st gs e = absurd (none-some st e)
+  binary-in o (b ∷ []) st gs e = absurd (none-some st e)
+  binary-in o (b ∷ a ∷ cs) st (kb, (ka, gs)) e =
+      let q = added-in (g .join o (fold g a) (fold g b)) (map (fold g) cs) st e in
+      (two o a b ∷ cs, q .1, (((ka, kb), q .0), gs), simp append-assoc)
+
+  step-in : (w : ℕ) (cs : List Condition) (st : List A) → AllAllowed cs → step g w (map (fold g) cs) ≡ some st → Made cs (w ∷ []) st
+  unfolding step AllAllowed Made words postfix Allowed fold
+  step-in w cs st gs e = go (leb 16 w) (g .known (w - 16)) (eqb w 0) (eqb w 1) (eqb w 2) refl refl refl refl refl
+    where
+      go : (b₁ b₂ b₃ b₄ b₅ : Bool) → leb 16 w ≡ b₁ → g .known (w - 16) ≡ b₂ → eqb w 0 ≡ b₃ → eqb w 1 ≡ b₄ → eqb w 2 ≡ b₅ → Made cs (w ∷ []) st
+      go true true b₃ b₄ b₅ e₁ e₂ e₃ e₄ e₅ =
+          let q = added-in (g .leaf (w - 16)) (map (fold g) cs) st (simp (e₁, e₂) at e) in
+          let s : 16 + (w - 16) ≡ w = omega (arith, leb-true 16 w e₁) in
+          (term (w - 16) ∷ cs, q .1, ((e₂, q .0), gs), rw s refl)
+      go true false b₃ b₄ b₅ e₁ e₂ e₃ e₄ e₅ = absurd (none-some st (simp (e₁, e₂) at e))
+      go false b₂ true b₄ b₅ e₁ e₂ e₃ e₄ e₅ = rw (eqb-true w 0 e₃) (unary-in cs st gs (simp (e₁, e₃) at e))
+      go false b₂ false true b₅ e₁ e₂ e₃ e₄ e₅ = rw (eqb-true w 1 e₄) (binary-in and cs st gs (simp (e₁, e₃, e₄) at e))
+      go false b₂ false false true e₁ e₂ e₃ e₄ e₅ = rw (eqb-true w 2 e₅) (binary-in or cs st gs (simp (e₁, e₃, e₄, e₅) at e))
+      go false b₂ false false false e₁ e₂ e₃ e₄ e₅ = absurd (none-some st (simp (e₁, e₃, e₄, e₅) at e))
+
+  pass-none : (ws : List ℕ) → pass g ws none ≡ none
+  unfolding pass turn
+  pass-none [] = refl
+  pass-none (w ∷ ws) = pass-none ws
+
+  pass-in : (ws : List ℕ) (cs : List Condition) (st : List A) → AllAllowed cs → pass g ws (some (map (fold g) cs)) ≡ some st → Made cs ws st
+  unfolding pass turn Made
+  pass-in [] cs st gs e = (cs, cc, gs, sym (append-nil (words cs)))
+  pass-in (w ∷ ws) cs st gs e = go (λ ds gd. pass-in ws ds st gd) (step g w (map (fold g) cs)) refl e
+    where
+      go : ((ds : List Condition) → AllAllowed ds → pass g ws (some (map (fold g) ds)) ≡ some st → Made ds ws st)
+          → (s : Option (List A)) → step g w (map (fold g) cs) ≡ s → pass g ws s ≡ some st → Made cs (w ∷ ws) st
+      go ih none q f = absurd (none-some st (sym (pass-none ws) ∙ f))
+      go ih (some s) q f =
+          let m = step-in w cs s gs q in
+          let r = ih (m .0) (m .2) (rw (m .1) at f) in
+          (r .0, r .1, r .2, r .3 ∙ ap (λ (l : List ℕ). l ++ ws) (m .3) ∙ append-assoc (words cs) (w ∷ []) ws)
+
+  pub pass-one : (ws : List ℕ) (x : A) → pass g ws (some []) ≡ some (x ∷ []) → (c : Condition) × (ws ≡ postfix c) × Allowed c
+  unfolding AllAllowed words Made
+  pass-one ws x e = go (pass-in ws [] (x ∷ []) tt e)
+    where
+      go : Made [] ws (x ∷ []) → (c : Condition) × (ws ≡ postfix c) × Allowed c
+      go ([], q, gs, p) = absurd (let z : _≡_ {A = ℕ} 0 1 = cc in omega arith)
+      go (c ∷ [], q, gs, p) = (c, sym p, gs .0)
+      go (c ∷ d ∷ l, q, gs, p) = absurd (let z : _≡_ {A = ℕ} 0 1 = cc in omega arith)
+
+  -- A PASS OVER n WORDS OF f FROM d ON, i of them read
+  module _ (f : ℕ → ℕ) (d n i : ℕ) where
+    unfoldable pub Left : Option (List A) → Type 0
+    Left s = pass g (tab f (n - i) (d + i)) s ≡ pass g (tab f n d) (some [])
+
+    pub left-end : (s : Option (List A)) → n ≤ i → Left s → s ≡ pass g (tab f n d) (some [])
+    unfolding Left pass tab
+    left-end s h p = let q : n - i ≡ 0 = omega arith in rw q at p
+
+    pub left-none : Left none → pass g (tab f n d) (some []) ≡ none
+    unfolding Left
+    left-none p = sym p ∙ pass-none (tab f (n - i) (d + i))
+
+  pub left-start : (f : ℕ → ℕ) (d n : ℕ) → Left f d n 0 (some [])
+  unfolding Left
+  left-start f d n =
+      let q : n - 0 ≡ n = omega arith in
+      let k : d + 0 ≡ d = omega arith in
+      rw (q, k) refl
+
+  pub left-turn : (f : ℕ → ℕ) (d n i w : ℕ) (s s′ : Option (List A)) → i < n → w ≡ f (d + i) → s′ ≡ turn g w s → Left f d n i s → Left f d n (i + 1) s′
+  unfolding Left pass tab
+  left-turn f d n i w s s′ h e t p =
+      let q : n - i ≡ suc (n - (i + 1)) = omega arith in
+      let k : d + (i + 1) ≡ suc (d + i) = omega arith in
+      rw (t, e, k) (rw q at p)

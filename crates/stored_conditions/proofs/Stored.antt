@@ -1,0 +1,42 @@
+-- Conditions where they stand in an image.
+use mathlib.Core.Path.{_≡_, refl, sym, ap, _∙_}
+use mathlib.Core.Bool.{true, _&&_}
+use Prim.Native.Nat.{ℕ, zero, suc, _+_, _≤_}
+use native.Mathlib.Omega.{arith}
+use lib.Dec.{leb}
+use lib.ListN.{length}
+use Rattle.model.specs.Bounds.{depthLimit}
+use Rattle.model.specs.Block.{Condition, size}
+use Rattle.model.specs.Parentheses.{depth}
+use Rattle.model.specs.WellFormed.{termsBelow}
+use Rattle.model.specs.Image.{postfix, treeOf, tab}
+use Rattle.words.proofs.Places.{At, tab-at, length-tab}
+use Rattle.stored_conditions.specs.Stored.{isCondition, conditionStored}
+use Rattle.stored_conditions.proofs.Trees.{tree-postfix, length-postfix}
+use Rattle.stored_conditions.proofs.Accepted.{condition-in, condition-postfix}
+
+-- places counted from o on
+pub tab-from : {A : Type 0} (w : ℕ → A) (o n i : ℕ) → tab (λ k. w (o + k)) n i ≡ tab w n (o + i)
+unfolding tab
+tab-from w o zero i = refl
+tab-from w o (suc n) i =
+    let q : o + suc i ≡ suc (o + i) = omega arith in
+    rw (tab-from w o n (suc i), q) refl
+
+module _ (w : ℕ → ℕ) (d : ℕ) where
+  pub stored-in : (n m : ℕ) → conditionStored w d n m ≡ true
+      → (tab w n d ≡ postfix (treeOf (tab w n d))) × (size (treeOf (tab w n d)) ≡ n) × (termsBelow m (treeOf (tab w n d)) ≡ true) × (depth (treeOf (tab w n d)) ≤ depthLimit)
+  unfolding conditionStored
+  stored-in n m e =
+      let r = condition-in m (tab w n d) e in
+      (r .0, sym (length-postfix _) ∙ sym (ap length (r .0)) ∙ length-tab w n d, r .1, r .2)
+
+  words-at : (c : Condition) → At w d (postfix c) → tab w (size c) d ≡ postfix c
+  words-at c h = ap (λ (n : ℕ). tab w n d) (sym (length-postfix c)) ∙ tab-at w d (postfix c) h
+
+  pub tree-at : (c : Condition) → At w d (postfix c) → treeOf (tab w (size c) d) ≡ c
+  tree-at c h = ap treeOf (words-at c h) ∙ tree-postfix c
+
+  pub stored-at : (m : ℕ) (c : Condition) → At w d (postfix c) → conditionStored w d (size c) m ≡ termsBelow m c && leb (depth c) depthLimit
+  unfolding conditionStored
+  stored-at m c h = ap (isCondition m) (words-at c h) ∙ condition-postfix m c

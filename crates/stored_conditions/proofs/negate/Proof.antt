@@ -1,0 +1,62 @@
+use mathlib.Core.Path.{_∙_}
+use native.Mathlib.Omega.{arith}
+use Prim.Native.Nat.{_<_}
+use borrow.Author.Needs.{needs}
+use Rattle.stored_conditions.specs.Machine.{unary, stackOf}
+use Rattle.stored_conditions.proofs.Steps as laws
+use Rattle.stored_conditions.proofs.negate.Statement.{statement}
+use Rattle.stored_conditions.proofs.negate.Tie as tie
+use Rattle.stored_conditions.proofs.negate.Reads as reads
+use Rattle.stored_conditions.proofs.negate.Lts as lts
+use Rattle.stored_conditions.proofs.fail.Reads as fail-reads
+use Rattle.stored_conditions.proofs.negated_form.Reads as negated-form-reads
+use Rattle.stored_conditions.proofs.opening.Reads as opening-reads
+use Rattle.stored_conditions.proofs.push.Reads as push-reads
+
+fail-requires : tie.Need-fail-requires
+fail-requires c κs = search needs
+
+returns : tie.Need-returns
+unfolding unary stackOf
+returns c = ((λ m. simp (c .before .if1 .taken) (c .fail .ensures .0)), search needs)
+
+sub-a : tie.Need-sub-a
+sub-a c = search needs
+
+mul-a : tie.Need-mul-a
+mul-a c = search needs
+
+element-copy-out-a : tie.Need-element-copy-out-a
+element-copy-out-a c = search needs
+
+opening-requires : tie.Need-opening-requires
+opening-requires c κs = search needs
+
+sub-push : tie.Need-sub-push
+sub-push c = search needs
+
+negated-form-requires : tie.Need-negated-form-requires
+negated-form-requires c κs = search needs
+
+push-requires : tie.Need-push-requires
+push-requires c κs = search needs
+
+returns-2 : tie.Need-returns-2
+returns-2 c =
+    let h : 0 < c .before .before .before .before .before .args .t1 .height = omega arith in
+    ((λ m. c .push .ensures .0 m ∙ laws.negate-is m _ _ _ _ h (c .before .negated-form .ensures) (c .before .before .opening .ensures)), search needs)
+
+pub negate-spec : {M : Type 1} → statement M
+negate-spec =
+    tie.close
+    (tie.spec
+    fail-requires
+    returns
+    sub-a
+    mul-a
+    element-copy-out-a
+    opening-requires
+    sub-push
+    negated-form-requires
+    push-requires
+    returns-2)

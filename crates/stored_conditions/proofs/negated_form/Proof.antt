@@ -1,0 +1,14 @@
+use borrow.Author.Tests.{eq-eqb, ne-eqb}
+use Rattle.stored_conditions.proofs.negated_form.Statement.{statement}
+use Rattle.stored_conditions.proofs.negated_form.Tie as tie
+use Rattle.stored_conditions.proofs.negated_form.Reads as reads
+use Rattle.stored_conditions.proofs.negated_form.Lts as lts
+
+returns : tie.Need-returns
+returns c = simp (eq-eqb _ _ (c .if1 .taken))
+
+returns-2 : tie.Need-returns-2
+returns-2 c = simp (ne-eqb _ _ (c .if1 .left))
+
+pub negated-form-spec : {M : Type 1} → statement M
+negated-form-spec = tie.close (tie.spec returns returns-2)

@@ -1,0 +1,106 @@
+-- The names of one table, and of two tables one after the other, are distinct where their words are.
+use mathlib.Core.Path.{_≡_, refl, sym, ap, _∙_}
+use mathlib.Core.List.{List, [], _∷_, _++_, map}
+use mathlib.Core.Bool.{Bool, true, false, _&&_, not}
+use Prim.Native.Nat.{ℕ, zero, suc, _+_, _*_, _-_, _≤_, _<_}
+use native.Mathlib.Omega.{arith}
+use native.Mathlib.Numerals.{add-one}
+use native.Mathlib.Nat.{mul-le-mul-left}
+use Rattle.model.specs.Basic.{all, distinct, same}
+use Rattle.model.specs.Tokens.{sameName}
+use Rattle.model.specs.Image.{tab, nameAt}
+use Rattle.stored_names.specs.Stored.{nameStored, wordsIn, absent, apart}
+use Rattle.stored_names.proofs.Stored.{same-names}
+
+-- an entry's place, for any width up to 11
+pub entry : (i s : ℕ) → i ≤ 4294967295 → s ≤ 11 → i * s ≤ 47244640245
+entry i s h g = omega (arith, mul-le-mul-left i g)
+
+-- WALKS: what is left from i up to e, one entry a turn
+step : (e i : ℕ) → i < e → e - i ≡ suc (e - (i + 1))
+step e i h = omega arith
+
+module _ {A : Type 0} (eq : A → A → Bool) (f : ℕ → A) (e i : ℕ) where
+  pub distinct-more : i < e → absent eq (f i) (tab f (e - (i + 1)) (i + 1)) ≡ true → distinct eq (tab f (e - i) i) ≡ distinct eq (tab f (e - (i + 1)) (i + 1))
+  unfolding distinct tab
+  distinct-more h q = rw (step e i h) (simp (rw add-one at q, add-one))
+
+  pub distinct-stop : i < e → absent eq (f i) (tab f (e - (i + 1)) (i + 1)) ≡ false → distinct eq (tab f (e - i) i) ≡ false
+  unfolding distinct tab
+  distinct-stop h q = rw (step e i h) (simp (rw add-one at q, add-one))
+
+  pub distinct-end : e ≤ i → distinct eq (tab f (e - i) i) ≡ true
+  unfolding distinct tab
+  distinct-end h = let g : e - i ≡ 0 = omega arith in rw g
+
+-- LISTS
+pub map-tab : {A B : Type 0} (g : A → B) (f : ℕ → A) (n i : ℕ) → map g (tab f n i) ≡ tab (λ k. g (f k)) n i
+unfolding tab
+map-tab g f zero i = refl
+map-tab {B = B} g f (suc n) i = ap {B = List B} (λ l. g (f i) ∷ l) (map-tab g f n (suc i))
+
+and-assoc : (a b c : Bool) → (a && b) && c ≡ a && (b && c)
+and-assoc true b c = refl
+and-assoc false b c = refl
+
+pub all-append : {A : Type 0} (g : A → Bool) (xs ys : List A) → all g (xs ++ ys) ≡ all g xs && all g ys
+unfolding all
+all-append g [] ys = refl
+all-append g (x ∷ xs) ys = ap (λ (b : Bool). g x && b) (all-append g xs ys) ∙ sym (and-assoc (g x) (all g xs) (all g ys))
+
+crossed : (a b c d e : Bool) → (a && b) && (c && (d && e)) ≡ (a && c) && ((b && d) && e)
+crossed true true true d e = refl
+crossed true true false d e = refl
+crossed true false true d e = refl
+crossed true false false d e = refl
+crossed false b c d e = refl
+
+pub distinct-append : {A : Type 0} (eq : A → A → Bool) (xs ys : List A) → distinct eq (xs ++ ys) ≡ distinct eq xs && (apart eq xs ys && distinct eq ys)
+unfolding distinct all
+distinct-append eq [] ys = refl
+distinct-append eq (x ∷ xs) ys =
+    (λ j. all-append (λ y. not (eq x y)) xs ys j && distinct-append eq xs ys j)
+    ∙ crossed (absent eq x xs) (absent eq x ys) (distinct eq xs) (apart eq xs ys) (distinct eq ys)
+
+-- NAMES
+-- the name of entry i of a table from place o on, s words an entry
+abbrev pub nameIn : (ℕ → ℕ) → ℕ → ℕ → ℕ → List ℕ
+nameIn w o s i = nameAt w (o + i * s)
+
+-- n entries from i on begin with a stored name
+abbrev pub Stored : (ℕ → ℕ) → ℕ → ℕ → ℕ → ℕ → Type 0
+Stored w o s n i = (k : ℕ) → i ≤ k → k < i + n → nameStored w (o + k * s) ≡ true
+
+module _ (w : ℕ → ℕ) where
+  first : (o s n i : ℕ) → Stored w o s (suc n) i → nameStored w (o + i * s) ≡ true
+  first o s n i h = h i (omega arith) (omega arith)
+
+  later : (o s n i : ℕ) → Stored w o s (suc n) i → Stored w o s n (suc i)
+  later o s n i h k a b = h k (omega arith) (omega arith)
+
+  pub absent-names : (p o s n i : ℕ) → nameStored w p ≡ true → Stored w o s n i
+      → absent same (tab w 4 p) (tab (wordsIn w o s) n i) ≡ absent sameName (nameAt w p) (tab (nameIn w o s) n i)
+  unfolding all tab
+  absent-names p o s zero i g h = refl
+  absent-names p o s (suc n) i g h =
+      λ j. not (same-names w p (o + i * s) g (first o s n i h) j) && absent-names p o s n (suc i) g (later o s n i h) j
+
+  pub distinct-names : (o s n i : ℕ) → Stored w o s n i → distinct same (tab (wordsIn w o s) n i) ≡ distinct sameName (tab (nameIn w o s) n i)
+  unfolding distinct tab
+  distinct-names o s zero i h = refl
+  distinct-names o s (suc n) i h =
+      λ j. absent-names (o + i * s) o s n (suc i) (first o s n i h) (later o s n i h) j && distinct-names o s n (suc i) (later o s n i h) j
+
+  pub apart-names : (o s n i q t m l : ℕ) → Stored w o s n i → Stored w q t m l
+      → apart same (tab (wordsIn w o s) n i) (tab (wordsIn w q t) m l) ≡ apart sameName (tab (nameIn w o s) n i) (tab (nameIn w q t) m l)
+  unfolding all tab
+  apart-names o s zero i q t m l h g = refl
+  apart-names o s (suc n) i q t m l h g =
+      λ j. absent-names (o + i * s) q t m l (first o s n i h) g j && apart-names o s n (suc i) q t m l (later o s n i h) g j
+
+  pub joined-names : (o s n q t m : ℕ) → Stored w o s n 0 → Stored w q t m 0
+      → distinct sameName (tab (nameIn w o s) n 0 ++ tab (nameIn w q t) m 0)
+      ≡ distinct same (tab (wordsIn w o s) n 0) && (apart same (tab (wordsIn w o s) n 0) (tab (wordsIn w q t) m 0) && distinct same (tab (wordsIn w q t) m 0))
+  joined-names o s n q t m h g =
+      distinct-append sameName (tab (nameIn w o s) n 0) (tab (nameIn w q t) m 0)
+      ∙ (λ j. sym (distinct-names o s n 0 h) j && (sym (apart-names o s n 0 q t m 0 h g) j && sym (distinct-names q t m 0 g) j))

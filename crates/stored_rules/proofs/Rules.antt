@@ -1,0 +1,210 @@
+-- The walk over the rules passes exactly where their tables are right and the rules good.
+use mathlib.Core.Path.{_≡_, refl, sym, ap, _∙_}
+use mathlib.Core.List.{List, [], _∷_, map}
+use mathlib.Core.Bool.{Bool, true, _&&_, not}
+use Prim.Native.Nat.{ℕ, zero, suc, _+_, _*_, _≤_}
+use native.Mathlib.Omega.{arith}
+use borrow.Author.Tests.{eq-eqb, eqb-true, le-leb, leb-true}
+use lib.Dec.{leb, eqb}
+use lib.ListN.{length}
+use Rattle.model.specs.Basic.{every, all, same, between, distinct, isEmpty}
+use Rattle.model.specs.Bounds.{ruleLimit, wordLimit, conclusionLimit}
+use Rattle.model.specs.Block.{Rule, size}
+use Rattle.model.specs.WellFormed.{conditionOk, ruleOk}
+use Rattle.model.specs.Image.{tab, postfix, conclusionAt, ruleAt, decode}
+use Rattle.words.proofs.Places.{both, and-i, passed, pass, length-tab, same-eq}
+use Rattle.stored_conditions.specs.Stored.{isCondition, conditionStored}
+use Rattle.layout.specs.Rows.{rowsOk}
+use Rattle.layout.specs.Tables.{ruleRow, ruleNext, sums, wordCount, conclusionCount, inputTermsIn, wordsIn, conclusionsIn, ruleRows, conditionExact, conditionRows}
+use Rattle.layout.specs.Groups.{frameOk, rulesOk}
+use Rattle.layout.proofs.RowLaws.{stood}
+use Rattle.layout.proofs.TableLaws.{map-tab}
+use Rattle.layout.proofs.Parts.{wordFirst, conclusionFirst, rule-words-row, rule-conclusions-row}
+use Rattle.layout.proofs.Whole.{length-postfix, rules-count, words-count, conclusions-count}
+use Rattle.layout.proofs.Bytes.{tests-equal}
+use Rattle.stored_rules.specs.Walk.{ruleNumber, ruleStored, rowStored, rulesWalk}
+use Rattle.stored_rules.proofs.Outputs.{input-terms}
+
+-- words counted from the start of their table
+tab-plus : (w : ℕ → ℕ) (o n p : ℕ) → tab (λ k. w (o + k)) n p ≡ tab w n (o + p)
+unfolding tab
+tab-plus w o zero p = refl
+tab-plus w o (suc n) p =
+    let e : o + suc p ≡ suc (o + p) = omega arith in
+    ap (λ (l : List ℕ). w (o + p) ∷ l) (tab-plus w o n (suc p) ∙ ap (tab w n) e)
+
+some-are : {A : Type 0} (f : ℕ → A) (n i : ℕ) → not (isEmpty (tab f n i)) ≡ leb 1 n
+unfolding tab
+some-are f zero i = refl
+some-are f (suc n) i = sym (le-leb 1 (suc n) (omega arith))
+
+module _ (w : ℕ → ℕ) where
+  -- A ROW
+  exact-size : (i : ℕ) → conditionExact w i ≡ true → size (ruleAt w i .condition) ≡ wordCount w i
+  unfolding conditionExact
+  exact-size i h =
+      let c = ruleAt w i .condition in
+      sym (length-postfix c) ∙ ap length (sym (same-eq (tab (λ k. w (w 14 + k)) (wordCount w i) (wordFirst w i)) (postfix c) h)) ∙ length-tab (λ k. w (w 14 + k)) (wordCount w i) (wordFirst w i)
+
+  conclusions-size : (i : ℕ) → length (ruleAt w i .conclusions) ≡ conclusionCount w i
+  unfolding ruleAt
+  conclusions-size i = length-tab (conclusionAt w) (conclusionCount w i) (conclusionFirst w i)
+
+  row-stands : (i n k : ℕ) → conditionExact w i ≡ true → wordFirst w i ≡ n → conclusionFirst w i ≡ k
+      → same (tab w 6 (w 13 + i * 6)) (ruleRow (n, k) (ruleAt w i)) ≡ true
+  unfolding ruleAt
+  row-stands i n k x e f =
+      let o = w 13 + i * 6 in
+      stood w o 6 (ruleRow (n, k) (ruleAt w i)) refl (
+        refl,
+        (
+          ap w (omega arith) ∙ e,
+          (
+            ap w (omega arith) ∙ sym (exact-size i x),
+            (ap w (omega arith) ∙ f, (ap w (omega arith) ∙ sym (conclusions-size i), (ap w (omega arith), tt))),
+          ),
+        ),
+      )
+
+  next-are : (i n k : ℕ) → conditionExact w i ≡ true → ruleNext (n, k) (ruleAt w i) ≡ (n + wordCount w i, k + conclusionCount w i)
+  next-are i n k x = λ j. (n + exact-size i x j, k + conclusions-size i j)
+
+  abbrev rows : ℕ → ℕ → ℕ × ℕ → Bool
+  rows r i σ = rowsOk ruleRow ruleNext (ruleAt w) w (w 13) 6 r i σ
+
+  -- the tests of the code, where there are m input terms
+  abbrev pub tests : ℕ → List Bool
+  tests m =
+      between 1 ruleLimit (w 6)
+      ∷ leb (w 7) wordLimit
+      ∷ leb (w 8) conclusionLimit
+      ∷ rulesWalk w m (w 6) 0 0 0
+      ∷ distinct eqb (tab (ruleNumber w) (w 6) 0)
+      ∷ []
+
+  numbers-are : map (λ (r : Rule). r .number) (decode w .rules) ≡ tab (ruleNumber w) (w 6) 0
+  unfolding decode ruleAt
+  numbers-are = map-tab (λ (r : Rule). r .number) (ruleAt w) (w 6) 0
+
+  module _ (frame : frameOk w ≡ true) (m : ℕ) (terms : m ≡ inputTermsIn w) where
+    condition-stored : (i : ℕ) → conditionStored w (w 14 + wordFirst w i) (wordCount w i) m ≡ conditionExact w i && conditionOk (decode w) (ruleAt w i .condition)
+    unfolding conditionStored conditionExact conditionOk ruleAt
+    condition-stored i = λ j. isCondition ((terms ∙ sym (input-terms w frame)) j) (sym (tab-plus w (w 14) (wordCount w i) (wordFirst w i)) j)
+
+    rule-in : (i : ℕ) → ruleStored w m i ≡ true → (conditionExact w i ≡ true) × (ruleOk (decode w) (ruleAt w i) ≡ true)
+    unfolding ruleStored ruleOk ruleAt
+    rule-in i h =
+        let s = passed _ h in
+        let c = both (conditionExact w i) (conditionOk (decode w) (ruleAt w i .condition)) (sym (condition-stored i) ∙ s .1 .1 .1 .1 .1 .0) in
+        let k = both (leb 1 (conclusionCount w i)) (leb (conclusionCount w i) conclusionLimit) (s .1 .1 .0) in
+        (c .0, pass _ (s .0, (c .1, (some-are (conclusionAt w) (conclusionCount w i) (conclusionFirst w i) ∙ k .0, (s .1 .1 .1 .0, (s .1 .0, tt))))))
+
+    rule-out : (i : ℕ) → wordCount w i ≤ wordLimit → conclusionCount w i ≤ conclusionLimit
+        → conditionExact w i ≡ true → ruleOk (decode w) (ruleAt w i) ≡ true → ruleStored w m i ≡ true
+    unfolding ruleStored ruleOk ruleAt
+    rule-out i n k x h =
+        let s = passed _ h in
+        let some = sym (some-are (conclusionAt w) (conclusionCount w i) (conclusionFirst w i)) ∙ s .1 .1 .0 in
+        pass _ (
+          s .0,
+          (s .1 .1 .1 .1 .0, (and-i _ _ some (le-leb _ _ k), (s .1 .1 .1 .0, (le-leb _ _ n, (condition-stored i ∙ and-i _ _ x (s .1 .0), tt))))),
+        )
+
+    -- THE WALK
+    -- r rules from the i-th on, after n condition words and k conclusions
+    record Walked (r i n k : ℕ) : Type 0 where
+      pub table : rows r i (n, k) ≡ true
+      pub exact : all (conditionExact w) (tab (λ j. j) r i) ≡ true
+      pub good : all (ruleOk (decode w)) (tab (ruleAt w) r i) ≡ true
+      pub words : n + sums (wordCount w) r i ≡ w 7
+      pub conclusions′ : k + sums (conclusionCount w) r i ≡ w 8
+
+    walk-in : (r i n k : ℕ) → rulesWalk w m r i n k ≡ true → Walked r i n k
+    unfolding rulesWalk rowStored rowsOk all tab sums
+    walk-in zero i n k h =
+        let b = both (eqb n (w 7)) (eqb k (w 8)) h in
+        record { table = refl; exact = refl; good = refl; words = omega (arith, eqb-true n (w 7) (b .0)); conclusions′ = omega (arith, eqb-true k (w 8) (b .1)) }
+    walk-in (suc r) i n k h =
+        let b = both (rowStored w m i n k) (rulesWalk w m r (suc i) (n + wordCount w i) (k + conclusionCount w i)) h in
+        let s = passed _ (b .0) in
+        let c = rule-in i (s .1 .1 .0) in
+        let z = walk-in r (suc i) (n + wordCount w i) (k + conclusionCount w i) (b .1) in
+        record {
+          table = and-i _ _ (row-stands i n k (c .0) (eqb-true _ _ (s .0)) (eqb-true _ _ (s .1 .0))) (ap (rows r (suc i)) (next-are i n k (c .0)) ∙ z .table);
+          exact = and-i _ _ (c .0) (z .exact);
+          good = and-i _ _ (c .1) (z .good);
+          words = omega (arith, z .words);
+          conclusions′ = omega (arith, z .conclusions′);
+        }
+
+    walk-out : w 7 ≤ wordLimit → w 8 ≤ conclusionLimit → (r i n k : ℕ) → Walked r i n k → rulesWalk w m r i n k ≡ true
+    unfolding rulesWalk rowStored rowsOk all tab sums
+    walk-out a b zero i n k z = and-i _ _ (eq-eqb n (w 7) (omega (arith, z .words))) (eq-eqb k (w 8) (omega (arith, z .conclusions′)))
+    walk-out a b (suc r) i n k z =
+        let t = both (same (tab w 6 (w 13 + i * 6)) (ruleRow (n, k) (ruleAt w i))) (rows r (suc i) (ruleNext (n, k) (ruleAt w i))) (z .table) in
+        let x = both (conditionExact w i) (all (conditionExact w) (tab (λ j. j) r (suc i))) (z .exact) in
+        let g = both (ruleOk (decode w) (ruleAt w i)) (all (ruleOk (decode w)) (tab (ruleAt w) r (suc i))) (z .good) in
+        and-i _ _
+        (pass _ (
+          eq-eqb _ _ (rule-words-row w i (n, k) (t .0) .0),
+          (eq-eqb _ _ (rule-conclusions-row w i (n, k) (t .0) .0), (rule-out i (omega (arith, z .words)) (omega (arith, z .conclusions′)) (x .0) (g .0), tt)),
+        ))
+        (walk-out a b r (suc i) (n + wordCount w i) (k + conclusionCount w i) (record {
+          table = ap (rows r (suc i)) (sym (next-are i n k (x .0))) ∙ t .1;
+          exact = x .1;
+          good = g .1;
+          words = omega (arith, z .words);
+          conclusions′ = omega (arith, z .conclusions′);
+        }))
+
+    -- THE WHOLE
+    to : rulesOk w ≡ true → every (tests m) ≡ true
+    unfolding rulesOk ruleRows conditionRows decode
+    to h =
+        let s = passed _ h in
+        let q = s .1 .1 .1 .1 in
+        let n : w 7 ≡ wordsIn w = eqb-true _ _ (s .1 .1 .0) in
+        let k : w 8 ≡ conclusionsIn w = eqb-true _ _ (s .1 .1 .1 .0) in
+        let z : Walked (w 6) 0 0 0 = record { table = s .0; exact = s .1 .0; good = q .1 .0; words = omega (arith, n); conclusions′ = omega (arith, k) } in
+        let a : leb (w 7) wordLimit ≡ true = ap (λ (x : ℕ). leb x wordLimit) (n ∙ sym (words-count w (s .0) (s .1 .0))) ∙ q .1 .1 .1 .0 in
+        let b : leb (w 8) conclusionLimit ≡ true = ap (λ (x : ℕ). leb x conclusionLimit) (k ∙ sym (conclusions-count w (s .0))) ∙ q .1 .1 .1 .1 .0 in
+        pass _ (
+          ap (between 1 ruleLimit) (sym (rules-count w)) ∙ q .0,
+          (a, (b, (walk-out (leb-true _ _ a) (leb-true _ _ b) (w 6) 0 0 0 z, (ap (distinct eqb) (sym numbers-are) ∙ q .1 .1 .0, tt)))),
+        )
+
+    from : every (tests m) ≡ true → rulesOk w ≡ true
+    unfolding rulesOk ruleRows conditionRows decode
+    from h =
+        let s = passed _ h in
+        let z = walk-in (w 6) 0 0 0 (s .1 .1 .1 .0) in
+        let n : w 7 ≡ wordsIn w = omega (arith, z .words) in
+        let k : w 8 ≡ conclusionsIn w = omega (arith, z .conclusions′) in
+        pass _ (
+          z .table,
+          (
+            z .exact,
+            (
+              eq-eqb _ _ n,
+              (
+                eq-eqb _ _ k,
+                (
+                  ap (between 1 ruleLimit) (rules-count w) ∙ s .0,
+                  (
+                    z .good,
+                    (
+                      ap (distinct eqb) numbers-are ∙ s .1 .1 .1 .1 .0,
+                      (
+                        ap (λ (x : ℕ). leb x wordLimit) (words-count w (z .table) (z .exact) ∙ sym n) ∙ s .1 .0,
+                        (ap (λ (x : ℕ). leb x conclusionLimit) (conclusions-count w (z .table) ∙ sym k) ∙ s .1 .1 .0, tt),
+                      ),
+                    ),
+                  ),
+                ),
+              ),
+            ),
+          ),
+        )
+
+    pub rules-words : rulesOk w ≡ every (tests m)
+    rules-words = tests-equal (rulesOk w) (every (tests m)) to from

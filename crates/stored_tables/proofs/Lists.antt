@@ -1,0 +1,47 @@
+-- Lists of tests, and what a comparison of a number that was read says of the word that it is.
+use mathlib.Core.Path.{_≡_, refl, sym, _∙_}
+use mathlib.Core.List.{List, [], _∷_, _++_}
+use mathlib.Core.Bool.{Bool, true, false, _&&_}
+use Prim.Native.Nat.{ℕ, zero, suc, _*_, _≤_, _<_}
+use native.Mathlib.Omega.{arith}
+use lib.Dec.{leb, eqb}
+use lib.ListN.{getD}
+use borrow.Author.Tests.{eq-eqb, ne-eqb, le-leb, lt-leb}
+use Rattle.model.specs.Basic.{every}
+use Rattle.layout.specs.Tables.{headerOk}
+use Rattle.stored_tables.specs.Tests.{offsetTests, codeTests}
+
+pub clash : {X : Type 0} → false ≡ true → X
+clash h = let z : _≡_ {A = ℕ} 0 1 = cc in absurd (omega arith)
+
+pub fails : (bs : List Bool) (k : ℕ) → getD bs k true ≡ false → every bs ≡ false
+unfolding every
+fails [] k h = h
+fails (b ∷ bs) zero h = rw h
+fails (true ∷ bs) (suc k) h = fails bs k h
+fails (false ∷ bs) (suc k) h = refl
+
+every-append : (xs ys : List Bool) → every (xs ++ ys) ≡ every xs && every ys
+unfolding every
+every-append [] ys = refl
+every-append (true ∷ xs) ys = every-append xs ys
+every-append (false ∷ xs) ys = refl
+
+pub header-spelt : (w : ℕ → ℕ) → every (offsetTests w) && every (codeTests w) ≡ headerOk w
+unfolding headerOk
+header-spelt w =
+    let e : w 7 * 1 ≡ w 7 = omega arith in
+    sym (every-append (offsetTests w) (codeTests w)) ∙ rw e
+
+module _ (r x m : ℕ) (e : r ≡ x) where
+  pub equal : r ≡ m → eqb x m ≡ true
+  equal h = eq-eqb x m (sym e ∙ h)
+
+  pub differs : (r ≡ m → ⊥) → eqb x m ≡ false
+  differs h = ne-eqb x m (λ q. h (e ∙ q))
+
+  pub within : r ≤ m → leb x m ≡ true
+  within h = le-leb x m (omega arith)
+
+  pub over : m < r → leb x m ≡ false
+  over h = lt-leb x m (omega arith)

@@ -1,0 +1,28 @@
+use mathlib.Core.Path.{ap}
+use Prim.Native.Nat.{ℕ}
+use lib.Dec.{eqb}
+use Rattle.stored_tables.specs.Tests.{defaultTest}
+use Rattle.stored_tables.proofs.Lists.{equal, differs}
+use borrow.Author.Needs.{needs}
+use Rattle.stored_tables.proofs.default_ok.Statement.{statement}
+use Rattle.stored_tables.proofs.default_ok.Tie as tie
+
+word-requires : tie.Need-word-requires
+word-requires c κs = search needs
+
+add-word : tie.Need-add-word
+add-word c = search needs
+
+word-requires-2 : tie.Need-word-requires-2
+word-requires-2 c κs = search needs
+
+returns : tie.Need-returns
+unfolding defaultTest
+returns c = simp (equal _ _ _ (c .before .before .word .ensures .0) (c .before .if1 .taken)) (ap (λ (k : ℕ). eqb k 0) (c .word2 .ensures .0))
+
+returns-2 : tie.Need-returns-2
+unfolding defaultTest
+returns-2 c = simp (differs _ _ _ (c .before .word .ensures .0) (c .if1 .left)) (ap (λ (k : ℕ). eqb k 1) (c .before .word .ensures .0))
+
+pub default-ok-spec : {M : Type 1} → statement M
+default-ok-spec = tie.close (tie.spec word-requires add-word word-requires-2 returns returns-2)

@@ -1,0 +1,21 @@
+use mathlib.Core.Path.{sym, _∙_}
+use borrow.Author.Tests.{not-true, not-false}
+use Rattle.stored_tables.proofs.Lists.{header-spelt}
+use borrow.Author.Needs.{needs}
+use Rattle.stored_tables.proofs.header_ok.Statement.{statement}
+use Rattle.stored_tables.proofs.header_ok.Tie as tie
+
+offsets-ok-requires : tie.Need-offsets-ok-requires
+offsets-ok-requires c κs = search needs
+
+returns : tie.Need-returns
+returns c = sym (sym (header-spelt _) ∙ simp (sym (c .before .offsets-ok .ensures) ∙ not-true _ (c .if1 .taken)))
+
+codes-ok-requires : tie.Need-codes-ok-requires
+codes-ok-requires c κs = search needs
+
+returns-2 : tie.Need-returns-2
+returns-2 c = c .codes-ok .ensures ∙ sym (sym (header-spelt _) ∙ simp (sym (c .before .before .offsets-ok .ensures) ∙ not-false _ (c .before .if1 .left)))
+
+pub header-ok-spec : {M : Type 1} → statement M
+header-ok-spec = tie.close (tie.spec offsets-ok-requires returns codes-ok-requires returns-2)

@@ -1,0 +1,33 @@
+use mathlib.Core.Path.{sym, _∙_}
+use borrow.Author.Tests.{not-true, not-false}
+use Rattle.words.proofs.Places.{pass}
+use Rattle.stored_tables.proofs.Lists.{fails, equal, differs}
+use Rattle.stored_tables.specs.Tests.{termTest}
+use borrow.Author.Needs.{needs}
+use Rattle.stored_tables.proofs.term_row.Statement.{statement}
+use Rattle.stored_tables.proofs.term_row.Tie as tie
+
+name-exact-requires : tie.Need-name-exact-requires
+name-exact-requires c κs = search needs
+
+returns : tie.Need-returns
+unfolding termTest
+returns c = sym (fails _ 0 (sym (c .before .name-exact .ensures) ∙ not-true _ (c .if1 .taken)))
+
+add-word : tie.Need-add-word
+add-word c = search needs
+
+word-requires : tie.Need-word-requires
+word-requires c κs = search needs
+
+returns-2 : tie.Need-returns-2
+unfolding termTest
+returns-2 c = sym (fails _ 1 (differs _ _ _ (c .before .word .ensures .0) (c .if2 .taken)))
+
+returns-3 : tie.Need-returns-3
+unfolding termTest
+returns-3 c = sym (pass _ (sym (c .before .before .before .name-exact .ensures) ∙ not-false _ (c .before .before .if1 .left), (equal _ _ _ (c .before .word .ensures .0) (c .if2 .left), tt)))
+
+pub term-row-spec : {M : Type 1} → statement M
+term-row-spec =
+    tie.close (tie.spec name-exact-requires returns add-word word-requires returns-2 returns-3)

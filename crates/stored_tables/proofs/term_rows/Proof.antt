@@ -1,0 +1,100 @@
+use borrow.Author.Needs.{needs}
+use borrow.Author.Tests.{not-true, not-false}
+use mathlib.Core.Path.{refl, sym, ap, _∙_}
+use Prim.Native.Nat.{ℕ, _+_, _*_, _-_, _≤_}
+use native.Mathlib.Nat.{zero-add}
+use Rattle.model.specs.Image.{wordAt, termAt}
+use Rattle.layout.specs.Tables.{sums, termCount, termNext, termRow}
+use Rattle.stored_tables.specs.Tests.{termTest, termRowsTo}
+use Rattle.stored_tables.proofs.Lists.{clash}
+use Rattle.stored_tables.proofs.RowTests.{term-row, term-next}
+use Rattle.stored_tables.proofs.Loops.{Rest, Count, rows-start, rows-more, rows-stop, rows-end, count-start, count-more, count-end, seen}
+use Rattle.stored_tables.proofs.term_rows.Statement.{statement}
+use Rattle.stored_tables.proofs.term_rows.Tie as tie
+
+abbrev Inv-loop : tie.InvT-loop
+Inv-loop img n start p₀ i₀ p i =
+    (i ≤ n)
+    × ((p ≤ i * 4294967295)
+    × (Rest termRow termNext (termAt (wordAt img)) (wordAt img) ((wordAt img) 11) 6 n i p (termRowsTo (wordAt img) n)
+    × Count (termCount (wordAt img)) n i p (0 + sums (termCount (wordAt img)) n 0)))
+
+abbrev μ-loop : tie.MeasureT-loop
+μ-loop img n start p₀ i₀ p i = n - i
+
+word-requires : tie.Need-word-requires Inv-loop μ-loop
+word-requires c κs = search needs
+
+loop-holds : tie.Need-loop-holds Inv-loop μ-loop
+loop-holds c =
+    let w = wordAt (c .before .before .args .img .now) in
+    (search needs, (search needs, (rows-start termRow termNext (termAt w) w (w 11) 6 0 _ _ (refl), count-start (termCount w) 0 _ _ (refl))))
+
+mul-o : tie.Need-mul-o Inv-loop μ-loop
+mul-o c = search needs
+
+add-o : tie.Need-add-o Inv-loop μ-loop
+add-o c = search needs
+
+term-row-requires : tie.Need-term-row-requires Inv-loop μ-loop
+term-row-requires c κs = search needs
+
+returns : tie.Need-returns Inv-loop μ-loop
+returns c =
+    let w = wordAt (c .before .before .before .before .before .before .args .img .now) in
+    let l = c .before .before .before .loop in
+    let es = c .before .before .before .before .word .ensures .0 in
+    let t = seen (λ (k : ℕ). termTest w (k + l .i * 6) (l .p)) _ _ _ _ _ es (c .before .term-row .ensures) (not-true _ (c .if1 .taken)) (term-row w (l .i) (l .p)) in
+    ((rows-stop termRow termNext (termAt w) w (w 11) 6 _ (l .i) (l .p) _ (c .before .before .loop-test .taken) t (l .inv .1 .1 .0), (λ q. clash q)), search needs)
+
+add-word : tie.Need-add-word Inv-loop μ-loop
+add-word c = search needs
+
+word-requires-2 : tie.Need-word-requires-2 Inv-loop μ-loop
+word-requires-2 c κs = search needs
+
+add-p : tie.Need-add-p Inv-loop μ-loop
+add-p c = search needs
+
+add-i : tie.Need-add-i Inv-loop μ-loop
+add-i c = search needs
+
+loop-less : tie.Need-loop-less Inv-loop μ-loop
+loop-less c = search needs
+
+loop-again : tie.Need-loop-again Inv-loop μ-loop
+loop-again c =
+    let w = wordAt (c .before .before .before .before .before .before .before .args .img .now) in
+    let l = c .before .before .before .before .loop in
+    let es = c .before .before .before .before .before .word .ensures .0 in
+    let x = c .word2 .ensures .0 ∙ ap (λ (k : ℕ). w (k + l .i * 6 + 5)) es in
+    let h = c .before .before .before .loop-test .taken in
+    let t = seen (λ (k : ℕ). termTest w (k + l .i * 6) (l .p)) _ _ _ _ _ es (c .before .before .term-row .ensures) (not-false _ (c .before .if1 .left)) (term-row w (l .i) (l .p)) in
+    let n = term-next w (l .i) (l .p) ∙ ap (λ (k : ℕ). l .p + k) (sym x) in
+    (search needs, (search needs, (rows-more termRow termNext (termAt w) w (w 11) 6 _ (l .i) (l .p) _ _ h t n (l .inv .1 .1 .0), count-more (termCount w) _ (l .i) (l .p) _ _ h x (l .inv .1 .1 .1))))
+
+returns-2 : tie.Need-returns-2 Inv-loop μ-loop
+returns-2 c =
+    let w = wordAt (c .before .before .before .before .args .img .now) in
+    let l = c .before .loop in
+    ((rows-end termRow termNext (termAt w) w (w 11) 6 _ (l .i) (l .p) _ (c .loop-test .left) (l .inv .1 .1 .0), (λ q. count-end (termCount w) _ (l .i) (l .p) _ (c .loop-test .left) (l .inv .1 .1 .1) ∙ zero-add _)), search needs)
+
+pub term-rows-spec : {M : Type 1} → statement M
+term-rows-spec =
+    tie.close
+    (tie.spec
+    Inv-loop
+    μ-loop
+    word-requires
+    loop-holds
+    mul-o
+    add-o
+    term-row-requires
+    returns
+    add-word
+    word-requires-2
+    add-p
+    add-i
+    loop-less
+    loop-again
+    returns-2)
