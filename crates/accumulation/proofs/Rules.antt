@@ -21,7 +21,7 @@ use Rattle.words.proofs.Places.{both, and-i, passed, length-tab}
 use Rattle.stored_conditions.specs.Stored.{isCondition, conditionStored}
 use Rattle.stored_conditions.proofs.Stored.{tab-from}
 use Rattle.layout.specs.Tables.{inputTermsIn, conditionRows, conditionExact}
-use Rattle.layout.specs.Groups.{Sound, frameOk, variablesOk, rulesOk}
+use Rattle.layout.specs.Groups.{Sound, tablesOk, variablesOk, rulesOk}
 use Rattle.layout.proofs.Parts.{inputTerms-are}
 
 -- by the number that the code matches
@@ -60,7 +60,7 @@ terms-few (v ∷ vs) (suc o) e =
 
 module _ (w : ℕ → ℕ) (ok : Sound w) where
   input-terms : length (inputTerms (decode w)) ≡ inputTermsIn w
-  unfolding frameOk
+  unfolding tablesOk
   input-terms = ap length (inputTerms-are w (passed _ (ok .frame) .1 .0)) ∙ length-tab (termAt w) (inputTermsIn w) 0
 
   pub rules-few : w 6 ≤ 64

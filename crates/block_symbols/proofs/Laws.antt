@@ -1,4 +1,4 @@
--- What the book says of the tables.
+-- What the symbols says of the tables.
 use mathlib.Core.Path.{_≡_, refl, sym, ap, _∙_}
 use mathlib.Core.Bool.{Bool, true, false}
 use mathlib.Core.List.{List}
@@ -16,7 +16,7 @@ use Rattle.words.proofs.Places.{length-tab}
 use Rattle.block_tables.specs.declared.Tables.{Tables}
 use Rattle.block_tables.specs.View.{inputRow, outputRow, inputView, outputView, termView, singletonView, inputsView, outputsView, Holds}
 use Rattle.block_updates.proofs.Lookups as lookups
-use Rattle.symbol_table.specs.Book.{Book, Describes, first, among}
+use Rattle.symbol_table.specs.Symbols.{Symbols, Describes, first, among}
 use Rattle.block_symbols.specs.Firsts.{termsAt, sums, Firsts}
 use Rattle.block_symbols.proofs.Sums as sum
 
@@ -96,8 +96,8 @@ module _ (t : Tables) (r : List ℕ) (l : length r ≡ 17) (f : Firsts (termsAt 
         by false y true = g .outputTerms (v - 8)
         by false y false = omega arith
 
-    pub is-book : Book s (t .names) whole
-    is-book = record {
+    pub is-symbols : Symbols s (t .names) whole
+    is-symbols = record {
       placed = g .placed;
       inputs = let q = g .inputCount in omega (arith, inputs-are);
       outputs = let q = g .outputCount in omega (arith, outputs-are);

@@ -18,6 +18,6 @@ unfoldable pub sums : (ℕ → ℕ) → ℕ → ℕ
 sums c zero = 0
 sums c (suc v) = sums c v + c v
 
--- up to place n, the book has the sums of c
-pub record Firsts (c : ℕ → ℕ) (n : ℕ) (book : List ℕ) : Type 0 where
-  pub first : (v : ℕ) → v ≤ n → getD book v 0 ≡ sums c v
+-- up to place n, the symbols has the sums of c
+pub record Firsts (c : ℕ → ℕ) (n : ℕ) (symbols : List ℕ) : Type 0 where
+  pub first : (v : ℕ) → v ≤ n → getD symbols v 0 ≡ sums c v

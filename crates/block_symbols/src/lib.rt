@@ -1,4 +1,4 @@
-// The book of a text's tables: where the terms of each variable start, and how many inputs and outputs there are.
+// The symbols of a text's tables: where the terms of each variable start, and how many inputs and outputs there are.
 ghost use mathlib.Core.Path.{_≡_};
 ghost use mathlib.Core.List.{List};
 ghost use Prim.Native.Nat.{ℕ, _+_, _≤_, _<_};
@@ -7,7 +7,7 @@ ghost use lib.ListN.{getD};
 ghost use Rattle.model.specs.Basic.{if_then_else_};
 ghost use Rattle.model.specs.Block.{Block};
 ghost use Rattle.block_tables.specs.View.{no-input, no-output, inputsView, outputsView, Holds};
-ghost use Rattle.symbol_table.specs.Book.{Book, Describes};
+ghost use Rattle.symbol_table.specs.Symbols.{Symbols, Describes};
 ghost use Rattle.block_symbols.specs.Firsts.{Firsts};
 use block_tables::Input;
 use block_tables::Output;
@@ -24,13 +24,13 @@ fn among(i: usize, n: usize, terms: usize) -> usize
     0
 }
 
-fn with_inputs(book: [usize; 17], rows: [Input; 8], n: usize) -> [usize; 17]
-    requires { ⌜ (getD book 0 0 ≡ 0) × ((i : ℕ) → getD rows i no-input .terms ≤ 7) ⌝ }
+fn with_inputs(symbols: [usize; 17], rows: [Input; 8], n: usize) -> [usize; 17]
+    requires { ⌜ (getD symbols 0 0 ≡ 0) × ((i : ℕ) → getD rows i no-input .terms ≤ 7) ⌝ }
     ensures { λ r. ⌜ ((c : ℕ → ℕ) → ((i : ℕ) → i < 8 → c i ≡ (if ltb i n then getD rows i no-input .terms else 0))
         → Firsts c 8 r) ⌝ }
     ensures small { λ r. ⌜ getD r 8 0 ≤ 56 ⌝ }
 {
-    let mut r = book;
+    let mut r = symbols;
     let mut i = 0;
     while i < 8 {
         let v = rows[i];
@@ -41,12 +41,12 @@ fn with_inputs(book: [usize; 17], rows: [Input; 8], n: usize) -> [usize; 17]
     r
 }
 
-fn with_outputs(book: [usize; 17], rows: [Output; 6], n: usize) -> [usize; 17]
-    requires { ⌜ (getD book 8 0 ≤ 56) × ((i : ℕ) → getD rows i no-output .terms ≤ 7) ⌝ }
-    ensures { λ r. ⌜ ((c : ℕ → ℕ) → Firsts c 8 book
+fn with_outputs(symbols: [usize; 17], rows: [Output; 6], n: usize) -> [usize; 17]
+    requires { ⌜ (getD symbols 8 0 ≤ 56) × ((i : ℕ) → getD rows i no-output .terms ≤ 7) ⌝ }
+    ensures { λ r. ⌜ ((c : ℕ → ℕ) → Firsts c 8 symbols
         → ((i : ℕ) → i < 6 → c (8 + i) ≡ (if ltb i n then getD rows i no-output .terms else 0)) → Firsts c 14 r) ⌝ }
 {
-    let mut r = book;
+    let mut r = symbols;
     let mut i = 0;
     while i < 6 {
         let v = rows[i];
@@ -57,10 +57,10 @@ fn with_outputs(book: [usize; 17], rows: [Output; 6], n: usize) -> [usize; 17]
     r
 }
 
-pub fn book_of(t: Tables) -> [usize; 17]
+pub fn symbols_of(t: Tables) -> [usize; 17]
     requires { ⌜ ((i : ℕ) → getD (t .inputs) i no-input .terms ≤ 7)
         × ((o : ℕ) → getD (t .outputs) o no-output .terms ≤ 7) ⌝ }
-    ensures { λ r. ⌜ ((s : List ℕ) → Holds s t → Book s (t .names) r) ⌝ }
+    ensures { λ r. ⌜ ((s : List ℕ) → Holds s t → Symbols s (t .names) r) ⌝ }
     ensures describes { λ r. ⌜ ((s : List ℕ) (b : Block) → Holds s t → b .inputs ≡ inputsView s t
         → b .outputs ≡ outputsView s t → Describes s (t .names) r b) ⌝ }
 {

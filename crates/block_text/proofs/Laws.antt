@@ -23,7 +23,7 @@ use Rattle.cursor.specs.declared.Cursor.{Cursor}
 use Rattle.cursor.specs.View.{seen, Step, fault}
 use Rattle.cursor.proofs.Laws.{kind-seen, block-seen, lost-kind, judged-bad}
 use Rattle.parse_state.specs.Reads.{view}
-use Rattle.symbol_table.specs.Book.{Describes, first, inputCount, outputCount}
+use Rattle.symbol_table.specs.Symbols.{Describes, first, inputCount, outputCount}
 use Rattle.block_text.specs.Block.{backText, haveTerms, Ends}
 
 -- THE EMPTY TABLES
@@ -90,26 +90,26 @@ above x y = by (ltb x y) refl
     by true q = let w = ltb-true x y q in q ∙ sym (lt-ltb 0 (y - x) (omega arith))
     by false q = let w = ltb-false x y q in q ∙ sym (le-ltb 0 (y - x) (omega arith))
 
-pub have-start : (book : List ℕ) (v n : ℕ) → all (λ j. ltb (first book j) (first book (j + 1))) (tab (λ j. j) (v + n - v) v) ≡ haveTerms book v n
+pub have-start : (symbols : List ℕ) (v n : ℕ) → all (λ j. ltb (first symbols j) (first symbols (j + 1))) (tab (λ j. j) (v + n - v) v) ≡ haveTerms symbols v n
 unfolding haveTerms
-have-start book v n = all-start (λ j. ltb (first book j) (first book (j + 1))) (λ j. j) v n
+have-start symbols v n = all-start (λ j. ltb (first symbols j) (first symbols (j + 1))) (λ j. j) v n
 
-module _ (s names book : List ℕ) (b : Block) (d : Describes s names book b) where
-  inputs-there : all (λ v. not (isEmpty (v .terms))) (b .inputs) ≡ haveTerms book 0 (inputCount book)
+module _ (s names symbols : List ℕ) (b : Block) (d : Describes s names symbols b) where
+  inputs-there : all (λ v. not (isEmpty (v .terms))) (b .inputs) ≡ haveTerms symbols 0 (inputCount symbols)
   unfolding haveTerms termsOf
   inputs-there =
-      parts-by (λ (v : block.Input). v .terms) (λ k. ltb (first book k) (first book (k + 1))) (b .inputs) 0
-      (λ i h. let z : 0 + i ≡ i = omega arith in ap (λ (k : ℕ). ltb (first book k) (first book (k + 1))) z ∙ above (first book i) (first book (i + 1)) ∙ ap (ltb 0) (sym (d .terms i (omega (arith, d .inputs)))))
-      ∙ ap (λ (n : ℕ). all (λ k. ltb (first book k) (first book (k + 1))) (tab (λ k. k) n 0)) (d .inputs)
+      parts-by (λ (v : block.Input). v .terms) (λ k. ltb (first symbols k) (first symbols (k + 1))) (b .inputs) 0
+      (λ i h. let z : 0 + i ≡ i = omega arith in ap (λ (k : ℕ). ltb (first symbols k) (first symbols (k + 1))) z ∙ above (first symbols i) (first symbols (i + 1)) ∙ ap (ltb 0) (sym (d .terms i (omega (arith, d .inputs)))))
+      ∙ ap (λ (n : ℕ). all (λ k. ltb (first symbols k) (first symbols (k + 1))) (tab (λ k. k) n 0)) (d .inputs)
 
-  outputs-there : all (λ v. not (isEmpty (v .terms))) (b .outputs) ≡ haveTerms book 8 (outputCount book)
+  outputs-there : all (λ v. not (isEmpty (v .terms))) (b .outputs) ≡ haveTerms symbols 8 (outputCount symbols)
   unfolding haveTerms singletonsOf
   outputs-there =
-      parts-by (λ (v : block.Output). v .terms) (λ k. ltb (first book k) (first book (k + 1))) (b .outputs) 8
-      (λ o h. above (first book (8 + o)) (first book (8 + o + 1)) ∙ ap (ltb 0) (sym (d .singletons o (omega (arith, d .outputs)))))
-      ∙ ap (λ (n : ℕ). all (λ k. ltb (first book k) (first book (k + 1))) (tab (λ k. k) n 8)) (d .outputs)
+      parts-by (λ (v : block.Output). v .terms) (λ k. ltb (first symbols k) (first symbols (k + 1))) (b .outputs) 8
+      (λ o h. above (first symbols (8 + o)) (first symbols (8 + o + 1)) ∙ ap (ltb 0) (sym (d .singletons o (omega (arith, d .outputs)))))
+      ∙ ap (λ (n : ℕ). all (λ k. ltb (first symbols k) (first symbols (k + 1))) (tab (λ k. k) n 8)) (d .outputs)
 
-  pub parts-there : partsThere b ≡ haveTerms book 0 (inputCount book) && haveTerms book 8 (outputCount book)
+  pub parts-there : partsThere b ≡ haveTerms symbols 0 (inputCount symbols) && haveTerms symbols 8 (outputCount symbols)
   unfolding partsThere
   parts-there = λ j. inputs-there j && outputs-there j
 

@@ -6,11 +6,11 @@ use Prim.Native.Nat.{ℕ, _+_}
 use lib.Dec.{ltb}
 use Rattle.model.specs.Basic.{_▸_, all}
 use Rattle.model.specs.Keywords.{END, NAME, DEFUZZIFY, END-RULEBLOCK, END-VAR, FUNCTION-BLOCK, FUZZIFY, VAR-INPUT, VAR-OUTPUT}
-use Rattle.model.specs.Parse.{Parse, Part, expect, repeated, withName, named}
+use Rattle.model.specs.Parse.{Parse, Part, expect, repeated, withName, ownName}
 use Rattle.model.specs.Declarations.{inputDeclaration, outputDeclaration, fuzzify, defuzzify}
 use Rattle.model.specs.Image.{tab}
 use Rattle.model.specs.Reader.{endOfBlock}
-use Rattle.symbol_table.specs.Book.{first}
+use Rattle.symbol_table.specs.Symbols.{first}
 
 unfoldable pub variablesText : Part
 variablesText r =
@@ -19,7 +19,7 @@ variablesText r =
 
 unfoldable pub frontText : Part
 frontText r =
-    r ▸ expect FUNCTION-BLOCK ▸ named withName ▸ variablesText
+    r ▸ expect FUNCTION-BLOCK ▸ ownName withName ▸ variablesText
     ▸ (λ q. repeated FUZZIFY fuzzify (fuzzify q)) ▸ (λ q. repeated DEFUZZIFY defuzzify (defuzzify q))
 
 unfoldable pub backText : Part
@@ -27,7 +27,7 @@ backText r = r ▸ expect END-RULEBLOCK ▸ endOfBlock ▸ expect END
 
 -- each of n variables from v on has a term
 unfoldable pub haveTerms : List ℕ → ℕ → ℕ → Bool
-haveTerms book v n = all (λ k. ltb (first book k) (first book (k + 1))) (tab (λ k. k) n v)
+haveTerms symbols v n = all (λ k. ltb (first symbols k) (first symbols (k + 1))) (tab (λ k. k) n v)
 
 -- two readings have the same outcome
 pub record Ends (r q : Parse) : Type 0 where

@@ -8,12 +8,12 @@ ghost use Rattle.model.specs.Reader.{start, partsThere};
 ghost use Rattle.block_tables.specs.View.{blockView, Holds};
 ghost use Rattle.cursor.specs.View.{seen, Fits};
 ghost use Rattle.parse_state.specs.Reads.{view, Good, Reads};
-ghost use Rattle.symbol_table.specs.Book.{Describes, inputCount, outputCount};
+ghost use Rattle.symbol_table.specs.Symbols.{Describes, inputCount, outputCount};
 ghost use Rattle.block_text.specs.Block.{variablesText, frontText, backText, haveTerms, Ends};
 use cursor::Cursor;
 use model::Crisp;
 use model::Degree;
-use parse_state::Reading;
+use parse_state::ParseState;
 use block_tables::Input;
 use block_tables::Output;
 use block_tables::Point;
@@ -54,7 +54,7 @@ fn empty_tables() -> Tables
     }
 }
 
-fn variables(s: &[u8], p: Reading) -> Reading
+fn variables(s: &[u8], p: ParseState) -> ParseState
     requires { ⌜ Good (now s) p ⌝ }
     ensures { λ r. ⌜ Reads variablesText (now (s .entry)) p r ⌝ }
 {
@@ -75,7 +75,7 @@ fn variables(s: &[u8], p: Reading) -> Reading
 }
 
 // From the first token up to the rule block.
-pub fn front(s: &[u8]) -> Reading
+pub fn front(s: &[u8]) -> ParseState
     ensures { λ r. ⌜ view (now (s .entry)) r ≡ frontText (start (now (s .entry))) ⌝ }
     ensures good { λ r. ⌜ Good (now (s .entry)) r ⌝ }
 {
@@ -84,7 +84,7 @@ pub fn front(s: &[u8]) -> Reading
     let t = empty_tables();
     let a = declaration_text::block_name(
         s,
-        Reading {
+        ParseState {
             cursor: d,
             tables: t,
         },
@@ -95,14 +95,14 @@ pub fn front(s: &[u8]) -> Reading
 }
 
 // Whether each of n variables from v on has a term.
-fn have_terms(book: &[usize; 17], v: usize, n: usize) -> bool
+fn have_terms(symbols: &[usize; 17], v: usize, n: usize) -> bool
     requires { ⌜ v + n ≤ 14 ⌝ }
-    ensures { λ r. ⌜ r ≡ haveTerms (now (book .entry)) v n ⌝ }
+    ensures { λ r. ⌜ r ≡ haveTerms (now (symbols .entry)) v n ⌝ }
 {
     let e = v + n;
     let mut k = v;
     while k < e {
-        if book[k + 1] <= book[k] {
+        if symbols[k + 1] <= symbols[k] {
             return false;
         }
         k += 1;
@@ -111,12 +111,12 @@ fn have_terms(book: &[usize; 17], v: usize, n: usize) -> bool
 }
 
 // Whether every variable has its part.
-pub fn is_complete(book: &[usize; 17]) -> bool
-    requires { ⌜ (inputCount (now book) ≤ 8) × (outputCount (now book) ≤ 6) ⌝ }
-    ensures { λ r. ⌜ ((s names : List ℕ) (b : Block) → Describes s names (now (book .entry)) b → r ≡ partsThere b) ⌝ }
+pub fn is_complete(symbols: &[usize; 17]) -> bool
+    requires { ⌜ (inputCount (now symbols) ≤ 8) × (outputCount (now symbols) ≤ 6) ⌝ }
+    ensures { λ r. ⌜ ((s names : List ℕ) (b : Block) → Describes s names (now (symbols .entry)) b → r ≡ partsThere b) ⌝ }
 {
-    if have_terms(book, 0, book[15]) {
-        return have_terms(book, 8, book[16]);
+    if have_terms(symbols, 0, symbols[15]) {
+        return have_terms(symbols, 8, symbols[16]);
     }
     false
 }

@@ -15,11 +15,11 @@ use Rattle.model.specs.Image.{postfix, opWord}
 use Rattle.model.specs.Keywords.{CLOSE, IS}
 use Rattle.model.specs.Parse.{Parse, Part, kind, text, refuse, advance, judged, expect, aName, emptyBlock}
 use Rattle.model.specs.Declarations.{inputOf, termOf, isInput, isTerm}
-use Rattle.model.specs.Rules.{Got, got, word, termNamed, termHere, subcondition, negated, closed, chainOn, chain, conditionWith, parenthesis}
+use Rattle.model.specs.Rules.{ConditionRead, conditionRead, word, conditionTerm, termOrNot, subcondition, negatedRead, closed, chainOn, chain, conditionWith, parenthesis}
 use Rattle.cursor.specs.declared.Cursor.{Cursor}
 use Rattle.cursor.specs.View.{seen, textOf, Fits, left, Step, fault}
 use Rattle.cursor.proofs.Laws.{enough, kind-seen, text-seen, block-seen, words-seen, lost-kind, lost-refuse, lost-expect, judged-bad, judged-good, numbered}
-use Rattle.symbol_table.specs.Book.{Describes, inputCount, termCount, first, among}
+use Rattle.symbol_table.specs.Symbols.{Describes, inputCount, termCount, first, among}
 use Rattle.condition_text.specs.declared.Pending.{Pending}
 use Rattle.condition_text.specs.Pending.{Room, Adds, Reads, Within, Stops, Counts, Puts}
 
@@ -29,12 +29,12 @@ at p d = record { cursor = d; words = p .words; put = p .put }
 -- A REFUSED READING
 module _ (s : List ℕ) (d : Cursor) (g : Fits s d) (h : d .why ≡ 0 → ⊥) where
   module _ (b : Block) (n : ℕ) where
-    term-stays : (i : ℕ) → termHere i (seen s d b n) .parse ≡ seen s d b n
-    unfolding termHere termNamed judged
+    term-stays : (i : ℕ) → termOrNot i (seen s d b n) .parse ≡ seen s d b n
+    unfolding termOrNot conditionTerm judged
     term-stays i = simp (kind-seen, lost-kind s d g h) (lost-refuse s d g h b n 2)
 
-    pub here-stays : (i : ℕ) → termHere i (expect IS (seen s d b n)) .parse ≡ seen s d b n
-    here-stays i = ap (λ (r : Parse). termHere i r .parse) (lost-expect s d g h b n IS (λ z. omega arith)) ∙ term-stays i
+    pub here-stays : (i : ℕ) → termOrNot i (expect IS (seen s d b n)) .parse ≡ seen s d b n
+    here-stays i = ap (λ (r : Parse). termOrNot i r .parse) (lost-expect s d g h b n IS (λ z. omega arith)) ∙ term-stays i
 
 -- no token follows a refusal
 pub refused-left : (s : List ℕ) (w : ℕ) (c d : Cursor) → c .why ≡ 0 → Step (refuse w) s c d → left s d ≡ 0
@@ -127,19 +127,19 @@ words-put {m} {n} {ws} {old} {new} a h =
     ap (λ (l : List ℕ). take n l) (a .said ∙ sets-eq ws old m (omega arith))
     ∙ take-at (take m old ++ ws) (drop (m + length ws) old) n k
 
-pub from : {s : List ℕ} {b : Block} {p q r : Pending} {g : Got} {old new : List ℕ} → q .put ≡ p .put → Reads s b q r g old new → Reads s b p r g old new
+pub from : {s : List ℕ} {b : Block} {p q r : Pending} {g : ConditionRead} {old new : List ℕ} → q .put ≡ p .put → Reads s b q r g old new → Reads s b p r g old new
 from {s} {b} {p} {q} {r} {g} {old} {new} e a = record { seen = a .seen; adds = λ h. rw e at (a .adds h) }
 
 -- nothing is said of the words of a refused reading
-pub refuses : {s : List ℕ} {b : Block} {p r : Pending} {g : Got} {old new : List ℕ} (w : ℕ) → Stops p r → Step (refuse w) s (p .cursor) (r .cursor) → g .parse ≡ refuse w (seen s (p .cursor) b (p .words)) → Reads s b p r g old new
+pub refuses : {s : List ℕ} {b : Block} {p r : Pending} {g : ConditionRead} {old new : List ℕ} (w : ℕ) → Stops p r → Step (refuse w) s (p .cursor) (r .cursor) → g .parse ≡ refuse w (seen s (p .cursor) b (p .words)) → Reads s b p r g old new
 refuses {s} {b} {p} w z a e = record { seen = rw (z .words) (a .reads b (p .words)) ∙ sym e; adds = λ h. absurd (z .why h) }
 
 -- a word behind what was read
-pub negates : {s : List ℕ} {b : Block} {p m r : Pending} {g : Got} {old mid new : List ℕ} → Reads s b p m g old mid → Puts m r 0 mid new → Reads s b p r (negated g) old new
+pub negates : {s : List ℕ} {b : Block} {p m r : Pending} {g : ConditionRead} {old mid new : List ℕ} → Reads s b p m g old mid → Puts m r 0 mid new → Reads s b p r (negatedRead g) old new
 unfolding postfix
 negates {s} {b} a u = record { seen = put-seen s b u ∙ a .seen; adds = λ h. let e = rw (u .cursor) at h in adds (a .adds e) (u .adds e) }
 
-pub closes : {s : List ℕ} {b : Block} {p m : Pending} {d : Cursor} {g : Got} {old new : List ℕ} → Reads s b p m g old new → Step (expect CLOSE) s (m .cursor) d → Reads s b p (at m d) (closed g) old new
+pub closes : {s : List ℕ} {b : Block} {p m : Pending} {d : Cursor} {g : ConditionRead} {old new : List ℕ} → Reads s b p m g old new → Step (expect CLOSE) s (m .cursor) d → Reads s b p (at m d) (closed g) old new
 closes {s} {b} {p} {m} a e = record { seen = e .reads b (m .words) ∙ ap (expect CLOSE) (a .seen); adds = λ h. a .adds (e .sticky h) }
 
 -- THE COUNTED TOKEN
@@ -153,7 +153,7 @@ module _ (s : List ℕ) (c d : Cursor) (n : ℕ) (b : Block) where
   word-full h a = simp (words-seen, le-ltb _ _ h) (a .reads b n)
 
 -- NAMES
-module _ (s names book : List ℕ) (b : Block) (D : Describes s names book b) (c : Cursor) (n : ℕ) where
+module _ (s names symbols : List ℕ) (b : Block) (D : Describes s names symbols b) (c : Cursor) (n : ℕ) where
   abbrev here : Parse
   here = seen s c b n
 
@@ -162,61 +162,61 @@ module _ (s names book : List ℕ) (b : Block) (D : Describes s names book b) (c
   named e ok next = judged-good here next (aName here []) ((ok, 5) ∷ []) refl (sym e)
 
   module _ (w : ℕ) (e : w ≡ fault (aName here [])) (h : w ≡ 0 → ⊥) where
-    pub term-fault : (i : ℕ) → termNamed i here .parse ≡ refuse w here
-    unfolding termNamed
+    pub term-fault : (i : ℕ) → conditionTerm i here .parse ≡ refuse w here
+    unfolding conditionTerm
     term-fault i = judged-bad here (advance here) w (aName here []) ((isTerm i (text here) (here .block), 5) ∷ []) (sym e) h
 
     pub input-fault : (d : Cursor) → Step (refuse w) s c d → (d .why ≡ 0 → ⊥) → subcondition here .parse ≡ refuse w here
     unfolding subcondition
     input-fault d a z =
-        ap (λ (r : Parse). termHere (inputOf (text here) (here .block)) (expect IS r) .parse)
+        ap (λ (r : Parse). termOrNot (inputOf (text here) (here .block)) (expect IS r) .parse)
         (judged-bad here (word here) w (aName here []) ((isInput (text here) (here .block), 5) ∷ []) (sym e) h ∙ sym (a .reads b n))
         ∙ here-stays s d (a .fits) z b n (inputOf (text here) (here .block)) ∙ a .reads b n
 
-  module _ (e : 0 ≡ fault (aName here [])) (i : ℕ) (f : i ≡ among s names (textOf s c) (inputCount book) 0) where
+  module _ (e : 0 ≡ fault (aName here [])) (i : ℕ) (f : i ≡ among s names (textOf s c) (inputCount symbols) 0) where
     the-input : inputOf (text here) b ≡ i
     the-input = simp text-seen (D .input (textOf s c) ∙ sym f)
 
-    pub input-unknown : (d : Cursor) → inputCount book ≤ i → Step (refuse 5) s c d → (d .why ≡ 0 → ⊥) → subcondition here .parse ≡ refuse 5 here
+    pub input-unknown : (d : Cursor) → inputCount symbols ≤ i → Step (refuse 5) s c d → (d .why ≡ 0 → ⊥) → subcondition here .parse ≡ refuse 5 here
     unfolding subcondition
     input-unknown d h a z =
         let q : isInput (text here) (here .block) ≡ false = simp (the-input, block-seen, D .inputs) (le-ltb _ _ h) in
-        ap (λ (r : Parse). termHere (inputOf (text here) (here .block)) (expect IS r) .parse)
+        ap (λ (r : Parse). termOrNot (inputOf (text here) (here .block)) (expect IS r) .parse)
         (named e (isInput (text here) (here .block)) (word here) ∙ simp q (sym (a .reads b n)))
         ∙ here-stays s d (a .fits) z b n (inputOf (text here) (here .block)) ∙ a .reads b n
 
-    pub input-known : i < inputCount book → termHere i (expect IS (word here)) ≡ subcondition here
+    pub input-known : i < inputCount symbols → termOrNot i (expect IS (word here)) ≡ subcondition here
     unfolding subcondition
     input-known h =
         let q : isInput (text here) (here .block) ≡ true = simp (the-input, block-seen, D .inputs) (lt-ltb _ _ h) in
         let x : inputOf (text here) (here .block) ≡ i = simp block-seen the-input in
-        sym (ap (λ (r : Parse). termHere (inputOf (text here) (here .block)) (expect IS r)) (named e (isInput (text here) (here .block)) (word here) ∙ simp q)
-        ∙ ap (λ (j : ℕ). termHere j (expect IS (word here))) x)
+        sym (ap (λ (r : Parse). termOrNot (inputOf (text here) (here .block)) (expect IS r)) (named e (isInput (text here) (here .block)) (word here) ∙ simp q)
+        ∙ ap (λ (j : ℕ). termOrNot j (expect IS (word here))) x)
 
-  module _ (e : 0 ≡ fault (aName here [])) (i : ℕ) (g : i < inputCount book) (j : ℕ) (f : j ≡ among s names (textOf s c) (termCount book i) (14 + i * 7)) where
+  module _ (e : 0 ≡ fault (aName here [])) (i : ℕ) (g : i < inputCount symbols) (j : ℕ) (f : j ≡ among s names (textOf s c) (termCount symbols i) (14 + i * 7)) where
     the-term : termOf i (text here) b ≡ j
     the-term = simp text-seen (D .term (textOf s c) i g ∙ sym f)
 
-    pub term-unknown : termCount book i ≤ j → termNamed i here .parse ≡ refuse 5 here
-    unfolding termNamed
+    pub term-unknown : termCount symbols i ≤ j → conditionTerm i here .parse ≡ refuse 5 here
+    unfolding conditionTerm
     term-unknown h =
         let q : isTerm i (text here) (here .block) ≡ false = simp (the-term, block-seen, D .terms i g) (le-ltb _ _ h) in
         named e (isTerm i (text here) (here .block)) (advance here) ∙ simp q
 
-    pub term-known : j < termCount book i → termNamed i here .parse ≡ advance here
-    unfolding termNamed
+    pub term-known : j < termCount symbols i → conditionTerm i here .parse ≡ advance here
+    unfolding conditionTerm
     term-known h =
         let q : isTerm i (text here) (here .block) ≡ true = simp (the-term, block-seen, D .terms i g) (lt-ltb _ _ h) in
         named e (isTerm i (text here) (here .block)) (advance here) ∙ simp q
 
-    pub term-words : (w : ℕ) → w ≡ 16 + first book i + j → w ∷ [] ≡ postfix (termNamed i here .tree)
-    unfolding termNamed postfix
+    pub term-words : (w : ℕ) → w ≡ 16 + first symbols i + j → w ∷ [] ≡ postfix (conditionTerm i here .tree)
+    unfolding conditionTerm postfix
     term-words w h =
-        let q : w ≡ 16 + (first book i + j) = omega arith in
+        let q : w ≡ 16 + (first symbols i + j) = omega arith in
         simp (the-term, block-seen, D .inputFirst i g) (ap (λ (x : ℕ). x ∷ []) q)
 
 -- the term's word behind those that are put
-pub names-term : {s : List ℕ} {b : Block} {p r : Pending} {d : Cursor} {g : Got} {w : ℕ} {old new : List ℕ}
+pub names-term : {s : List ℕ} {b : Block} {p r : Pending} {d : Cursor} {g : ConditionRead} {w : ℕ} {old new : List ℕ}
     → Step advance s (p .cursor) d → Puts (at p d) r w old new → g .parse ≡ advance (seen s (p .cursor) b (p .words)) → w ∷ [] ≡ postfix (g .tree) → Reads s b p r g old new
 names-term {s} {b} {p} {r} {d} {g} {w} {old} {new} a u e f = record {
   seen = put-seen s b u ∙ a .reads b (p .words) ∙ sym e;
@@ -224,7 +224,7 @@ names-term {s} {b} {p} {r} {d} {g} {w} {old} {new} a u e f = record {
 }
 
 -- PARENTHESES
-pub paren-none : (d : ℕ) → d ≡ 0 → (r : Parse) → parenthesis d r ≡ got (refuse 6 r) (term 0)
+pub paren-none : (d : ℕ) → d ≡ 0 → (r : Parse) → parenthesis d r ≡ conditionRead (refuse 6 r) (term 0)
 unfolding parenthesis
 paren-none zero e r = refl
 paren-none (suc d) e r = absurd (omega arith)
@@ -235,28 +235,28 @@ paren-more zero n r = absurd (n refl)
 paren-more (suc d) n r = simp sub-one
 
 -- part {k part}: at p, with the words l, the loop that began at p₀ with l₀ still has its answer before it, and a tree for the words so far
-abbrev pub Going : (Parse → Got) → ℕ → Op → List ℕ → Block → Pending → List ℕ → Pending → List ℕ → Type 0
+abbrev pub Going : (Parse → ConditionRead) → ℕ → Op → List ℕ → Block → Pending → List ℕ → Pending → List ℕ → Type 0
 Going part k o s b p₀ l₀ p l =
     (n : ℕ) (t₀ : Condition) → left s (p₀ .cursor) < n →
     (f : ℕ) × (t : Condition) × (left s (p .cursor) < f)
-    × (chainOn f part k o (got (seen s (p .cursor) b (p .words)) t) ≡ chainOn n part k o (got (seen s (p₀ .cursor) b (p₀ .words)) t₀))
+    × (chainOn f part k o (conditionRead (seen s (p .cursor) b (p .words)) t) ≡ chainOn n part k o (conditionRead (seen s (p₀ .cursor) b (p₀ .words)) t₀))
     × ((m : ℕ) (old : List ℕ) → (p₀ .cursor .why ≡ 0 → Adds m (p₀ .put) (postfix t₀) old l₀) → p .cursor .why ≡ 0 → Adds m (p .put) (postfix t) old l)
 
-module _ (part : Parse → Got) (k : ℕ) (o : Op) (s : List ℕ) (b : Block) where
+module _ (part : Parse → ConditionRead) (k : ℕ) (o : Op) (s : List ℕ) (b : Block) where
   abbrev view : Pending → Parse
   view p = seen s (p .cursor) b (p .words)
 
   pub begins : (p : Pending) (l : List ℕ) → Going part k o s b p l p l
   begins p l n t₀ h = (n, t₀, h, refl, λ m old a. a)
 
-  one-more : (f : ℕ) (g : Got) → kind (g .parse) ≡ k → chainOn (suc f) part k o g ≡ chainOn f part k o (got (part (word (g .parse)) .parse) (two o (g .tree) (part (word (g .parse)) .tree)))
+  one-more : (f : ℕ) (g : ConditionRead) → kind (g .parse) ≡ k → chainOn (suc f) part k o g ≡ chainOn f part k o (conditionRead (part (word (g .parse)) .parse) (two o (g .tree) (part (word (g .parse)) .tree)))
   unfolding chainOn
-  one-more f g e = λ i. elim (eq-eqb (kind (g .parse)) k e i) as (λ x. Got) [ true ↦ chainOn f part k o (got (part (word (g .parse)) .parse) (two o (g .tree) (part (word (g .parse)) .tree))) | false ↦ g ]
+  one-more f g e = λ i. elim (eq-eqb (kind (g .parse)) k e i) as (λ x. ConditionRead) [ true ↦ chainOn f part k o (conditionRead (part (word (g .parse)) .parse) (two o (g .tree) (part (word (g .parse)) .tree))) | false ↦ g ]
 
-  no-more : (f : ℕ) (g : Got) → (kind (g .parse) ≡ k → ⊥) → chainOn f part k o g ≡ g
+  no-more : (f : ℕ) (g : ConditionRead) → (kind (g .parse) ≡ k → ⊥) → chainOn f part k o g ≡ g
   unfolding chainOn
   no-more zero g e = refl
-  no-more (suc f) g e = λ i. elim (ne-eqb (kind (g .parse)) k e i) as (λ x. Got) [ true ↦ chainOn f part k o (got (part (word (g .parse)) .parse) (two o (g .tree) (part (word (g .parse)) .tree))) | false ↦ g ]
+  no-more (suc f) g e = λ i. elim (ne-eqb (kind (g .parse)) k e i) as (λ x. ConditionRead) [ true ↦ chainOn f part k o (conditionRead (part (word (g .parse)) .parse) (two o (g .tree) (part (word (g .parse)) .tree))) | false ↦ g ]
 
   -- q is p with its token counted, m what part reads from there, r that with the word put
   pub goes : (p₀ p q m r : Pending) (l₀ l mid new : List ℕ) → Going part k o s b p₀ l₀ p l → p .cursor .kind ≡ k → p .cursor .why ≡ 0
@@ -272,17 +272,17 @@ module _ (part : Parse → Got) (k : ℕ) (o : Op) (s : List ℕ) (b : Block) wh
           let y′ : m .cursor .why ≡ 0 = rw (u .cursor) at y in
           adds (G n t₀ h .4 i old x z) (adds (rw w at (a .adds y′)) (u .adds y′))
 
-      go : (f : ℕ) → left s (p .cursor) < f → chainOn f part k o (got (view p) (G n t₀ h .1)) ≡ chainOn n part k o (got (view p₀) t₀)
-          → (f : ℕ) × (t : Condition) × (left s (r .cursor) < f) × (chainOn f part k o (got (view r) t) ≡ chainOn n part k o (got (view p₀) t₀))
+      go : (f : ℕ) → left s (p .cursor) < f → chainOn f part k o (conditionRead (view p) (G n t₀ h .1)) ≡ chainOn n part k o (conditionRead (view p₀) t₀)
+          → (f : ℕ) × (t : Condition) × (left s (r .cursor) < f) × (chainOn f part k o (conditionRead (view r) t) ≡ chainOn n part k o (conditionRead (view p₀) t₀))
           × ((i : ℕ) (old : List ℕ) → (p₀ .cursor .why ≡ 0 → Adds i (p₀ .put) (postfix t₀) old l₀) → r .cursor .why ≡ 0 → Adds i (r .put) (postfix t) old new)
       go zero x y = absurd (omega arith)
       go (suc f) x y = (
         f,
         tree,
         omega arith,
-        ap (λ (x : Parse). chainOn f part k o (got x tree)) (put-seen s b u ∙ a .seen)
-            ∙ ap (λ (x : Parse). chainOn f part k o (got (part x .parse) (two o (G n t₀ h .1) (part x .tree)))) v
-            ∙ sym (one-more f (got (view p) (G n t₀ h .1)) (kind-seen s (p .cursor) b (p .words) ∙ e)) ∙ y,
+        ap (λ (x : Parse). chainOn f part k o (conditionRead x tree)) (put-seen s b u ∙ a .seen)
+            ∙ ap (λ (x : Parse). chainOn f part k o (conditionRead (part x .parse) (two o (G n t₀ h .1) (part x .tree)))) v
+            ∙ sym (one-more f (conditionRead (view p) (G n t₀ h .1)) (kind-seen s (p .cursor) b (p .words) ∙ e)) ∙ y,
         whole,
       )
 
@@ -291,6 +291,6 @@ module _ (part : Parse → Got) (k : ℕ) (o : Op) (s : List ℕ) (b : Block) wh
   stops e p₀ p old l₀ l G n r lt =
       let z = enough s (e .cursor) b (e .words) in
       let g = G (suc (length (view e .rest))) (part (view e) .tree) (omega arith) in
-      subst (λ (x : Got). Reads s b e p x old l)
-      (sym (no-more (g .0) (got (view p) (g .1)) (λ z. n (sym (kind-seen s (p .cursor) b (p .words)) ∙ z))) ∙ g .3 ∙ ap (λ (x : Parse). chainOn (suc (length (view e .rest))) part k o (got x (part (view e) .tree))) (r .seen))
+      subst (λ (x : ConditionRead). Reads s b e p x old l)
+      (sym (no-more (g .0) (conditionRead (view p) (g .1)) (λ z. n (sym (kind-seen s (p .cursor) b (p .words)) ∙ z))) ∙ g .3 ∙ ap (λ (x : Parse). chainOn (suc (length (view e .rest))) part k o (conditionRead x (part (view e) .tree))) (r .seen))
       (record { seen = refl; adds = g .4 (e .put) old (r .adds) })

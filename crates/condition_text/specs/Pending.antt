@@ -5,7 +5,7 @@ use Prim.Native.Nat.{ℕ, _+_, _≤_, _<_}
 use lib.ListN.{length, take}
 use lib.Seq.{sets}
 use Rattle.model.specs.Block.{Block}
-use Rattle.model.specs.Rules.{Got}
+use Rattle.model.specs.Rules.{ConditionRead}
 use Rattle.model.specs.Image.{postfix}
 use Rattle.cursor.specs.View.{seen, Fits, left}
 use Rattle.condition_text.specs.declared.Pending.{Pending}
@@ -22,7 +22,7 @@ pub record Adds (m n : ℕ) (ws old new : List ℕ) : Type 0 where
   pub said : new ≡ sets old m ws
 
 -- in block b, the rules read g from p on, and where they do not refuse, its words are put
-pub record Reads (s : List ℕ) (b : Block) (p r : Pending) (g : Got) (old new : List ℕ) : Type 0 where
+pub record Reads (s : List ℕ) (b : Block) (p r : Pending) (g : ConditionRead) (old new : List ℕ) : Type 0 where
   pub seen : seen s (r .cursor) b (r .words) ≡ g .parse
   pub adds : r .cursor .why ≡ 0 → Adds (p .put) (r .put) (postfix (g .tree)) old new
 

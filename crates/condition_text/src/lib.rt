@@ -6,9 +6,9 @@ ghost use Prim.Native.Nat.{ℕ, _≤_, _<_};
 ghost use Rattle.model.specs.Block.{Block, and};
 ghost use Rattle.model.specs.Keywords.{AND};
 ghost use Rattle.model.specs.Parse.{refuse};
-ghost use Rattle.model.specs.Rules.{word, termNamed, termHere, subcondition as subconditionOf, chain, plain as plainOf, operand as operandOf, conditionWith, parenthesis};
+ghost use Rattle.model.specs.Rules.{word, conditionTerm, termOrNot, subcondition as subconditionOf, chain, plain as plainOf, operand as operandOf, conditionWith, parenthesis};
 ghost use Rattle.cursor.specs.View.{seen, Fits, Step};
-ghost use Rattle.symbol_table.specs.Book.{Book, Describes, inputCount};
+ghost use Rattle.symbol_table.specs.Symbols.{Symbols, Describes, inputCount};
 ghost use Rattle.condition_text.specs.Pending.{Room, Reads, Within, Stops, Counts, Puts};
 use cursor::Cursor;
 
@@ -74,14 +74,14 @@ fn put(words: &mut [u32; 640], p: Pending, w: u32) -> Pending
 fn term_named(
     s: &[u8],
     names: &[usize; 224],
-    book: &[usize; 17],
+    symbols: &[usize; 17],
     words: &mut [u32; 640],
     p: Pending,
     i: usize,
 ) -> Pending
-    requires { ⌜ Room (now s) p × Book (now s) (now names) (now book) × (i < inputCount (now book))
+    requires { ⌜ Room (now s) p × Symbols (now s) (now names) (now symbols) × (i < inputCount (now symbols))
         × (p .cursor .why ≡ 0 → p .put < p .words) ⌝ }
-    ensures { λ r. ⌜ ((b : Block) → Describes (now (s .entry)) (now (names .entry)) (now (book .entry)) b
+    ensures { λ r. ⌜ ((b : Block) → Describes (now (s .entry)) (now (names .entry)) (now (symbols .entry)) b
         → Reads (now (s .entry)) b p r (termNamed i (seen (now (s .entry)) (p .cursor) b (p .words)))
         (now (words .entry)) (now (words .exit))) ⌝ }
     ensures within { λ r. ⌜ Within (now (s .entry)) 1 p r (now (words .entry)) (now (words .exit)) ⌝ }
@@ -91,8 +91,8 @@ fn term_named(
     if w != 0 {
         return refused(p, w);
     }
-    let j = symbol_table::term_of(s, names, book, i, c);
-    if book[i + 1] - book[i] <= j {
+    let j = symbol_table::term_of(s, names, symbols, i, c);
+    if symbols[i + 1] - symbols[i] <= j {
         return refused(p, 5);
     }
     let d = cursor::advance(s, c);
@@ -103,7 +103,7 @@ fn term_named(
             words: p.words,
             put: p.put,
         },
-        (16 + book[i] + j) as u32,
+        (16 + symbols[i] + j) as u32,
     )
 }
 
@@ -111,24 +111,24 @@ fn term_named(
 fn term_here(
     s: &[u8],
     names: &[usize; 224],
-    book: &[usize; 17],
+    symbols: &[usize; 17],
     words: &mut [u32; 640],
     p: Pending,
     i: usize,
 ) -> Pending
-    requires { ⌜ Room (now s) p × Book (now s) (now names) (now book) × (i < inputCount (now book))
+    requires { ⌜ Room (now s) p × Symbols (now s) (now names) (now symbols) × (i < inputCount (now symbols))
         × (p .cursor .why ≡ 0 → p .put < p .words) ⌝ }
-    ensures { λ r. ⌜ ((b : Block) → Describes (now (s .entry)) (now (names .entry)) (now (book .entry)) b
+    ensures { λ r. ⌜ ((b : Block) → Describes (now (s .entry)) (now (names .entry)) (now (symbols .entry)) b
         → Reads (now (s .entry)) b p r (termHere i (seen (now (s .entry)) (p .cursor) b (p .words)))
         (now (words .entry)) (now (words .exit))) ⌝ }
     ensures within { λ r. ⌜ Within (now (s .entry)) 1 p r (now (words .entry)) (now (words .exit)) ⌝ }
 {
     let c = p.cursor;
     if c.kind != token_kinds::NOT {
-        return term_named(s, names, book, words, p, i);
+        return term_named(s, names, symbols, words, p, i);
     }
     let q = count(s, p);
-    let r = term_named(s, names, book, words, q, i);
+    let r = term_named(s, names, symbols, words, q, i);
     put(words, r, 0)
 }
 
@@ -136,12 +136,12 @@ fn term_here(
 fn subcondition(
     s: &[u8],
     names: &[usize; 224],
-    book: &[usize; 17],
+    symbols: &[usize; 17],
     words: &mut [u32; 640],
     p: Pending,
 ) -> Pending
-    requires { ⌜ Room (now s) p × Book (now s) (now names) (now book) ⌝ }
-    ensures { λ r. ⌜ ((b : Block) → Describes (now (s .entry)) (now (names .entry)) (now (book .entry)) b
+    requires { ⌜ Room (now s) p × Symbols (now s) (now names) (now symbols) ⌝ }
+    ensures { λ r. ⌜ ((b : Block) → Describes (now (s .entry)) (now (names .entry)) (now (symbols .entry)) b
         → Reads (now (s .entry)) b p r (subconditionOf (seen (now (s .entry)) (p .cursor) b (p .words)))
         (now (words .entry)) (now (words .exit))) ⌝ }
     ensures within { λ r. ⌜ Within (now (s .entry)) 0 p r (now (words .entry)) (now (words .exit)) ⌝ }
@@ -151,8 +151,8 @@ fn subcondition(
     if w != 0 {
         return refused(p, w);
     }
-    let i = symbol_table::input_of(s, names, book, c);
-    if book[15] <= i {
+    let i = symbol_table::input_of(s, names, symbols, c);
+    if symbols[15] <= i {
         return refused(p, 5);
     }
     let q = count(s, p);
@@ -161,7 +161,7 @@ fn subcondition(
     term_here(
         s,
         names,
-        book,
+        symbols,
         words,
         Pending {
             cursor: e,
@@ -176,20 +176,20 @@ fn subcondition(
 fn plain(
     s: &[u8],
     names: &[usize; 224],
-    book: &[usize; 17],
+    symbols: &[usize; 17],
     words: &mut [u32; 640],
     p: Pending,
     depth: usize,
 ) -> Pending
-    requires { ⌜ Room (now s) p × Book (now s) (now names) (now book) ⌝ }
-    ensures { λ r. ⌜ ((b : Block) → Describes (now (s .entry)) (now (names .entry)) (now (book .entry)) b
+    requires { ⌜ Room (now s) p × Symbols (now s) (now names) (now symbols) ⌝ }
+    ensures { λ r. ⌜ ((b : Block) → Describes (now (s .entry)) (now (names .entry)) (now (symbols .entry)) b
         → Reads (now (s .entry)) b p r (plainOf (parenthesis depth) (seen (now (s .entry)) (p .cursor) b (p .words)))
         (now (words .entry)) (now (words .exit))) ⌝ }
     ensures within { λ r. ⌜ Within (now (s .entry)) 0 p r (now (words .entry)) (now (words .exit)) ⌝ }
 {
     let c = p.cursor;
     if c.kind != token_kinds::OPEN {
-        return subcondition(s, names, book, words, p);
+        return subcondition(s, names, symbols, words, p);
     }
     if depth == 0 {
         return refused(p, 6);
@@ -198,7 +198,7 @@ fn plain(
     let q = condition(
         s,
         names,
-        book,
+        symbols,
         words,
         Pending {
             cursor: d,
@@ -219,23 +219,23 @@ fn plain(
 fn operand(
     s: &[u8],
     names: &[usize; 224],
-    book: &[usize; 17],
+    symbols: &[usize; 17],
     words: &mut [u32; 640],
     p: Pending,
     depth: usize,
 ) -> Pending
-    requires { ⌜ Room (now s) p × Book (now s) (now names) (now book) ⌝ }
-    ensures { λ r. ⌜ ((b : Block) → Describes (now (s .entry)) (now (names .entry)) (now (book .entry)) b
+    requires { ⌜ Room (now s) p × Symbols (now s) (now names) (now symbols) ⌝ }
+    ensures { λ r. ⌜ ((b : Block) → Describes (now (s .entry)) (now (names .entry)) (now (symbols .entry)) b
         → Reads (now (s .entry)) b p r (operandOf (parenthesis depth) (seen (now (s .entry)) (p .cursor) b (p .words)))
         (now (words .entry)) (now (words .exit))) ⌝ }
     ensures within { λ r. ⌜ Within (now (s .entry)) 0 p r (now (words .entry)) (now (words .exit)) ⌝ }
 {
     let c = p.cursor;
     if c.kind != token_kinds::NOT {
-        return plain(s, names, book, words, p, depth);
+        return plain(s, names, symbols, words, p, depth);
     }
     let q = count(s, p);
-    let r = plain(s, names, book, words, q, depth);
+    let r = plain(s, names, symbols, words, q, depth);
     put(words, r, 0)
 }
 
@@ -243,22 +243,22 @@ fn operand(
 fn conjunction(
     s: &[u8],
     names: &[usize; 224],
-    book: &[usize; 17],
+    symbols: &[usize; 17],
     words: &mut [u32; 640],
     p: Pending,
     depth: usize,
 ) -> Pending
-    requires { ⌜ Room (now s) p × Book (now s) (now names) (now book) ⌝ }
-    ensures { λ r. ⌜ ((b : Block) → Describes (now (s .entry)) (now (names .entry)) (now (book .entry)) b
+    requires { ⌜ Room (now s) p × Symbols (now s) (now names) (now symbols) ⌝ }
+    ensures { λ r. ⌜ ((b : Block) → Describes (now (s .entry)) (now (names .entry)) (now (symbols .entry)) b
         → Reads (now (s .entry)) b p r
         (chain (operandOf (parenthesis depth)) AND and (seen (now (s .entry)) (p .cursor) b (p .words)))
         (now (words .entry)) (now (words .exit))) ⌝ }
     ensures within { λ r. ⌜ Within (now (s .entry)) 0 p r (now (words .entry)) (now (words .exit)) ⌝ }
 {
-    let mut q = operand(s, names, book, words, p, depth);
+    let mut q = operand(s, names, symbols, words, p, depth);
     while q.cursor.kind == token_kinds::AND {
         let n = count(s, q);
-        let m = operand(s, names, book, words, n, depth);
+        let m = operand(s, names, symbols, words, n, depth);
         q = put(words, m, 1);
     }
     q
@@ -268,22 +268,22 @@ fn conjunction(
 pub fn condition(
     s: &[u8],
     names: &[usize; 224],
-    book: &[usize; 17],
+    symbols: &[usize; 17],
     words: &mut [u32; 640],
     p: Pending,
     depth: usize,
 ) -> Pending
-    requires { ⌜ Room (now s) p × Book (now s) (now names) (now book) ⌝ }
-    ensures { λ r. ⌜ ((b : Block) → Describes (now (s .entry)) (now (names .entry)) (now (book .entry)) b
+    requires { ⌜ Room (now s) p × Symbols (now s) (now names) (now symbols) ⌝ }
+    ensures { λ r. ⌜ ((b : Block) → Describes (now (s .entry)) (now (names .entry)) (now (symbols .entry)) b
         → Reads (now (s .entry)) b p r
         (conditionWith (parenthesis depth) (seen (now (s .entry)) (p .cursor) b (p .words)))
         (now (words .entry)) (now (words .exit))) ⌝ }
     ensures within { λ r. ⌜ Within (now (s .entry)) 0 p r (now (words .entry)) (now (words .exit)) ⌝ }
 {
-    let mut q = conjunction(s, names, book, words, p, depth);
+    let mut q = conjunction(s, names, symbols, words, p, depth);
     while q.cursor.kind == token_kinds::OR {
         let n = count(s, q);
-        let m = conjunction(s, names, book, words, n, depth);
+        let m = conjunction(s, names, symbols, words, n, depth);
         q = put(words, m, 2);
     }
     q

@@ -10,7 +10,7 @@ use Rattle.model.specs.Basic.{if_then_else_}
 use Rattle.model.specs.Block.{Block}
 use Rattle.model.specs.Bounds.{inputLimit}
 use Rattle.model.specs.Keywords.{COLON, SEMICOLON, REAL}
-use Rattle.model.specs.Parse.{Checks, text, refuse, advance, change, expect, listed, aName, named, withName}
+use Rattle.model.specs.Parse.{Checks, text, refuse, advance, change, expect, listed, aName, ownName, withName}
 use Rattle.model.specs.Declarations.{inputOf, outputOf, isInput, isOutput, addInput, intFrom, variable, inputType, inputCount, inputDeclaration}
 use Rattle.cursor.specs.declared.Cursor.{Cursor}
 use Rattle.cursor.specs.View.{seen, textOf, Fits, Step, fault}
@@ -19,7 +19,7 @@ use Rattle.block_tables.specs.declared.Tables.{Tables}
 use Rattle.block_tables.specs.View.{blockView, Holds}
 use Rattle.block_updates.specs.Changes.{Changes}
 use Rattle.block_updates.proofs.Lookups as lookups
-use Rattle.parse_state.specs.declared.Reading.{Reading}
+use Rattle.parse_state.specs.declared.ParseState.{ParseState}
 use Rattle.parse_state.specs.Reads.{view, Reads}
 use Rattle.parse_state.proofs.Laws as reading
 use Rattle.declaration_text.specs.Declares.{Declares, newChecks}
@@ -86,12 +86,12 @@ module _ (add : List ℕ → Block → Block) (count : Block → ℕ) (limit : �
 
 -- THE NAME, THE TYPE
 module _ (s : List ℕ) (c : Cursor) (t : Tables) (d : Cursor) where
-  pub name-bad : (w : ℕ) → w ≡ fault (aName (seen s c (blockView s t) 0) []) → Holds s t → (w ≡ 0 → ⊥) → Step (refuse w) s c d → Reads (named withName) s (reading.at c t) (reading.at d t)
-  unfolding named view
+  pub name-bad : (w : ℕ) → w ≡ fault (aName (seen s c (blockView s t) 0) []) → Holds s t → (w ≡ 0 → ⊥) → Step (refuse w) s c d → Reads (ownName withName) s (reading.at c t) (reading.at d t)
+  unfolding ownName view
   name-bad w f g h q = reading.refuses (aName (view s (reading.at c t)) []) _ refl w (sym f) h g q
 
-  pub name-good : (u : Tables) → 0 ≡ fault (aName (seen s c (blockView s t) 0) []) → Fits s c → (c .kind ≡ 0 → ⊥) → Changes s t u (withName (textOf s c)) → Step advance s c d → Reads (named withName) s (reading.at c t) (reading.at d u)
-  unfolding named view numbered
+  pub name-good : (u : Tables) → 0 ≡ fault (aName (seen s c (blockView s t) 0) []) → Fits s c → (c .kind ≡ 0 → ⊥) → Changes s t u (withName (textOf s c)) → Step advance s c d → Reads (ownName withName) s (reading.at c t) (reading.at d u)
+  unfolding ownName view numbered
   name-good u f g k x q =
       reading.passes (aName (view s (reading.at c t)) []) _ refl refl (sym f)
       (reading.next (reading.changes s c t u (withName (textOf s c)) g k x) (reading.step u (x .holds) q))
@@ -107,7 +107,7 @@ module _ (s : List ℕ) (c : Cursor) (t : Tables) (d : Cursor) where
   unfolding inputType
   type-real n g k q = reading.also (reading.step t g q) (sym (simp (reading.kind-view, ne-eqb _ _ k)))
 
-pub declaration-is : (s : List ℕ) (p : Reading)
+pub declaration-is : (s : List ℕ) (p : ParseState)
     → expect SEMICOLON (inputType (p .tables .«input_count») (expect COLON (listed (variable addInput inputCount inputLimit) (view s p)))) ≡ inputDeclaration (view s p)
 unfolding inputDeclaration
 declaration-is s p =

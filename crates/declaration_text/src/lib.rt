@@ -3,7 +3,7 @@ ghost use mathlib.Core.Path.{_≡_};
 ghost use mathlib.Core.Bool.{true};
 ghost use Prim.Native.Nat.{ℕ, _≤_, _<_};
 ghost use Rattle.model.specs.Block.{Block};
-ghost use Rattle.model.specs.Parse.{named, withName, listed, repeated};
+ghost use Rattle.model.specs.Parse.{ownName, withName, listed, repeated};
 ghost use Rattle.model.specs.Keywords.{NAME};
 ghost use Rattle.model.specs.Bounds.{inputLimit, outputLimit};
 ghost use Rattle.model.specs.Declarations.{variable, addInput, addOutput, inputCount, outputCount, inputType, inputDeclaration, outputDeclaration};
@@ -12,12 +12,12 @@ ghost use Rattle.cursor.specs.View.{seen, Fits, Moves, fault};
 ghost use Rattle.parse_state.specs.Reads.{Good, Reads};
 ghost use Rattle.declaration_text.specs.Declares.{Declares, newChecks};
 use cursor::Cursor;
-use parse_state::Reading;
+use parse_state::ParseState;
 
 // The block's name.
-pub fn block_name(s: &[u8], p: Reading) -> Reading
+pub fn block_name(s: &[u8], p: ParseState) -> ParseState
     requires { ⌜ Good (now s) p ⌝ }
-    ensures { λ r. ⌜ Reads (named withName) (now (s .entry)) p r ⌝ }
+    ensures { λ r. ⌜ Reads (ownName withName) (now (s .entry)) p r ⌝ }
 {
     let c = p.cursor;
     let w = cursor::name_fault(c);
@@ -30,7 +30,7 @@ pub fn block_name(s: &[u8], p: Reading) -> Reading
     let t = p.tables;
     let u = block_updates::set_name(t, c.start, c.end);
     let d = cursor::advance(s, c);
-    Reading {
+    ParseState {
         cursor: d,
         tables: u,
     }
@@ -67,7 +67,7 @@ fn new_fault(
 }
 
 // One input more.
-fn input(s: &[u8], p: Reading) -> Reading
+fn input(s: &[u8], p: ParseState) -> ParseState
     requires { ⌜ Good (now s) p ⌝ }
     ensures { λ r. ⌜ Reads (variable addInput inputCount inputLimit) (now (s .entry)) p r ⌝ }
     ensures moves { λ r. ⌜ Moves (now (s .entry)) (p .cursor) (r .cursor) ⌝ }
@@ -78,21 +78,21 @@ fn input(s: &[u8], p: Reading) -> Reading
     let w = new_fault(s, &t.names, n, t.output_count, n < 8, c);
     if w != 0 {
         let d = cursor::refuse(c, w);
-        return Reading {
+        return ParseState {
             cursor: d,
             tables: t,
         };
     }
     let u = block_updates::add_input(t, c.start, c.end);
     let d = cursor::advance(s, c);
-    Reading {
+    ParseState {
         cursor: d,
         tables: u,
     }
 }
 
 // One output more.
-fn output(s: &[u8], p: Reading) -> Reading
+fn output(s: &[u8], p: ParseState) -> ParseState
     requires { ⌜ Good (now s) p ⌝ }
     ensures { λ r. ⌜ Reads (variable addOutput outputCount outputLimit) (now (s .entry)) p r ⌝ }
     ensures moves { λ r. ⌜ Moves (now (s .entry)) (p .cursor) (r .cursor) ⌝ }
@@ -103,20 +103,20 @@ fn output(s: &[u8], p: Reading) -> Reading
     let w = new_fault(s, &t.names, t.input_count, n, n < 6, c);
     if w != 0 {
         let d = cursor::refuse(c, w);
-        return Reading {
+        return ParseState {
             cursor: d,
             tables: t,
         };
     }
     let u = block_updates::add_output(t, c.start, c.end);
     let d = cursor::advance(s, c);
-    Reading {
+    ParseState {
         cursor: d,
         tables: u,
     }
 }
 
-fn inputs(s: &[u8], p: Reading) -> Reading
+fn inputs(s: &[u8], p: ParseState) -> ParseState
     requires { ⌜ Good (now s) p ⌝ }
     ensures { λ r. ⌜ Reads (listed (variable addInput inputCount inputLimit)) (now (s .entry)) p r ⌝ }
     ensures moves { λ r. ⌜ Moves (now (s .entry)) (p .cursor) (r .cursor) ⌝ }
@@ -131,7 +131,7 @@ fn inputs(s: &[u8], p: Reading) -> Reading
     q
 }
 
-fn outputs(s: &[u8], p: Reading) -> Reading
+fn outputs(s: &[u8], p: ParseState) -> ParseState
     requires { ⌜ Good (now s) p ⌝ }
     ensures { λ r. ⌜ Reads (listed (variable addOutput outputCount outputLimit)) (now (s .entry)) p r ⌝ }
     ensures moves { λ r. ⌜ Moves (now (s .entry)) (p .cursor) (r .cursor) ⌝ }
@@ -147,7 +147,7 @@ fn outputs(s: &[u8], p: Reading) -> Reading
 }
 
 // REAL, or INT for the inputs from n on.
-fn input_type(s: &[u8], p: Reading, n: usize) -> Reading
+fn input_type(s: &[u8], p: ParseState, n: usize) -> ParseState
     requires { ⌜ Good (now s) p ⌝ }
     ensures { λ r. ⌜ Reads (inputType n) (now (s .entry)) p r ⌝ }
 {
@@ -156,7 +156,7 @@ fn input_type(s: &[u8], p: Reading, n: usize) -> Reading
         let t = p.tables;
         let u = block_updates::set_int(t, n);
         let d = cursor::advance(s, c);
-        return Reading {
+        return ParseState {
             cursor: d,
             tables: u,
         };
@@ -167,7 +167,7 @@ fn input_type(s: &[u8], p: Reading, n: usize) -> Reading
     r
 }
 
-fn input_declaration(s: &[u8], p: Reading) -> Reading
+fn input_declaration(s: &[u8], p: ParseState) -> ParseState
     requires { ⌜ Good (now s) p ⌝ }
     ensures { λ r. ⌜ Reads inputDeclaration (now (s .entry)) p r ⌝ }
     ensures moves { λ r. ⌜ Moves (now (s .entry)) (p .cursor) (r .cursor) ⌝ }
@@ -184,7 +184,7 @@ fn input_declaration(s: &[u8], p: Reading) -> Reading
     r
 }
 
-fn output_declaration(s: &[u8], p: Reading) -> Reading
+fn output_declaration(s: &[u8], p: ParseState) -> ParseState
     requires { ⌜ Good (now s) p ⌝ }
     ensures { λ r. ⌜ Reads outputDeclaration (now (s .entry)) p r ⌝ }
     ensures moves { λ r. ⌜ Moves (now (s .entry)) (p .cursor) (r .cursor) ⌝ }
@@ -198,7 +198,7 @@ fn output_declaration(s: &[u8], p: Reading) -> Reading
     q
 }
 
-pub fn input_declarations(s: &[u8], p: Reading) -> Reading
+pub fn input_declarations(s: &[u8], p: ParseState) -> ParseState
     requires { ⌜ Good (now s) p ⌝ }
     ensures { λ r. ⌜ Reads (λ q. repeated NAME inputDeclaration (inputDeclaration q)) (now (s .entry)) p r ⌝ }
 {
@@ -209,7 +209,7 @@ pub fn input_declarations(s: &[u8], p: Reading) -> Reading
     q
 }
 
-pub fn output_declarations(s: &[u8], p: Reading) -> Reading
+pub fn output_declarations(s: &[u8], p: ParseState) -> ParseState
     requires { ⌜ Good (now s) p ⌝ }
     ensures { λ r. ⌜ Reads (λ q. repeated NAME outputDeclaration (outputDeclaration q)) (now (s .entry)) p r ⌝ }
 {

@@ -4,7 +4,7 @@ use Prim.Native.Nat.{ℕ, _-_, _≤_}
 use lib.ListN.{getD}
 use Rattle.model.specs.Bounds.{M}
 use Rattle.model.specs.Image.{decode}
-use Rattle.model.specs.Evaluation.{answersFrom}
+use Rattle.model.specs.Evaluation.{outputAnswers}
 use Rattle.model.specs.declared.Answer.{Answer}
 use Rattle.model.specs.declared.Crisp.{Crisp}
 use Rattle.model.specs.declared.Degree.{Degree}
@@ -18,4 +18,4 @@ HeightsOk hs = (k : ℕ) → getD hs k (record { 0 = 0 }) .0 ≤ M
 
 -- model's answers, by the heights and the held figures that the code holds
 abbrev pub answersBy : (ℕ → ℕ) → List Degree → ℕ → List Crisp → List Answer
-answersBy w hs m was = answersFrom (heightOf hs m) m (decode w .outputs) (map (λ c. c .0) was)
+answersBy w hs m was = outputAnswers (heightOf hs m) m (decode w .outputs) (map (λ c. c .0) was)

@@ -3,7 +3,7 @@ ghost use mathlib.Core.Path.{_≡_};
 ghost use mathlib.Core.List.{map};
 ghost use Prim.Native.Nat.{_+_, _≤_, _<_};
 ghost use Rattle.model.specs.Image.{wordAt, tab, singletonAt, outputAt};
-ghost use Rattle.model.specs.Evaluation.{unfired, answerOf, noAnswer, padded, heldOf};
+ghost use Rattle.model.specs.Evaluation.{unfired, outputAnswer, noAnswer, padded, heldOf};
 ghost use Rattle.centre.specs.Centre.{positions, heights};
 ghost use Rattle.layout.specs.Tables.{inputTermsIn, outputCount};
 ghost use Rattle.layout.specs.Groups.{Sound};
@@ -84,7 +84,7 @@ fn without_rule(img: &[u8], i: usize, held: Crisp) -> Answer
 // The answer of output i by the heights of the output terms, of which m is the first.
 fn answer(img: &[u8], i: usize, hs: [Degree; 42], m: usize, held: Crisp) -> Answer
     requires { ⌜ Sound (wordAt (now img)) × (i < wordAt (now img) 3) × (m ≡ inputTermsIn (wordAt (now img))) × HeightsOk hs ⌝ }
-    ensures { λ r. ⌜ r ≡ answerOf (outputAt (wordAt (now (img .entry))) i) (tab (heightOf hs m) (outputCount (wordAt (now (img .entry))) i) (outputFirst (wordAt (now (img .entry))) i)) (held .0) ⌝ }
+    ensures { λ r. ⌜ r ≡ outputAnswer (outputAt (wordAt (now (img .entry))) i) (tab (heightOf hs m) (outputCount (wordAt (now (img .entry))) i) (outputFirst (wordAt (now (img .entry))) i)) (held .0) ⌝ }
 {
     let row = word(img, 10) + i * 11;
     let first = word(img, row + 4);

@@ -16,7 +16,7 @@ use Rattle.model.specs.Block.{Block, Output, inRange, singletonsOf, rangeOf}
 use Rattle.model.specs.Keywords.{NUMBER, ASSIGN, DOTS, OPEN, CLOSE, SEMICOLON, TERM}
 use Rattle.model.specs.Tokens.{valueOf, sameName}
 use Rattle.model.specs.Parse.{Parse, Checks, text, is, refuse, advance, change, expect, aName, aCrisp, valueHere}
-use Rattle.model.specs.Declarations.{singletonOf, isSingleton, isOutput, outputOf, crisp, upperEnd, rangeFrom, range, figure, singletonNamed, outputTerm, defaultValue, defuzzifyOf, defuzzifyNamed, changeOutput, withRange, withSingleton, withDefault}
+use Rattle.model.specs.Declarations.{singletonOf, isSingleton, isOutput, outputOf, lowerEnd, upperEnd, rangeBody, rangePart, figure, singletonBody, outputTerm, defaultValue, defuzzifyOf, defuzzifyVariable, changeOutput, withRange, withSingleton, withDefault}
 use Rattle.cursor.specs.declared.Cursor.{Cursor}
 use Rattle.cursor.specs.View.{seen, textOf, Fits, Step, fault}
 use Rattle.cursor.proofs.Laws.{text-seen, block-seen, fault-bad, fault-good, numbered, lost-expect, lost-judged}
@@ -26,7 +26,7 @@ use Rattle.block_tables.specs.declared.Output.{Output as Row}
 use Rattle.block_tables.specs.View.{outputRow, rangeView, outputsView, blockView, Holds}
 use Rattle.block_updates.specs.Changes.{Changes}
 use Rattle.block_updates.proofs.Lookups as lookups
-use Rattle.parse_state.specs.declared.Reading.{Reading}
+use Rattle.parse_state.specs.declared.ParseState.{ParseState}
 use Rattle.parse_state.specs.Reads.{view, Good, Reads}
 use Rattle.parse_state.proofs.Laws as reading
 use Rattle.defuzzify_text.specs.Output.{ReadsFor, HasSingletons, figureChecks, termChecks, methodText, partText}
@@ -97,11 +97,11 @@ module _ (s : List ℕ) (c d : Cursor) (t : Tables) (o : ℕ) where
       }
 
   -- after a refusal nothing follows
-  pub range-lost : (w : ℕ) → w ≡ fault (aCrisp (seen s c (blockView s t) 0) []) → (w ≡ 0 → ⊥) → Holds s t → (d .why ≡ 0 → ⊥) → Step (refuse w) s c d → ReadsFor (rangeFrom o) s (reading.at c t) (reading.at d t)
-  unfolding rangeFrom crisp upperEnd view
+  pub range-lost : (w : ℕ) → w ≡ fault (aCrisp (seen s c (blockView s t) 0) []) → (w ≡ 0 → ⊥) → Holds s t → (d .why ≡ 0 → ⊥) → Step (refuse w) s c d → ReadsFor (rangeBody o) s (reading.at c t) (reading.at d t)
+  unfolding rangeBody lowerEnd upperEnd view
   range-lost w e h g l q =
       let b : Block = blockView s t in
-      let x = reading.refuses {part = crisp} (aCrisp r []) (advance r) refl w (sym e) h g q in
+      let x = reading.refuses {part = lowerEnd} (aCrisp r []) (advance r) refl w (sym e) h g q in
       let ok = q .fits in
       record {
         reads = reading.also x
@@ -113,8 +113,8 @@ module _ (s : List ℕ) (c d : Cursor) (t : Tables) (o : ℕ) where
         count = refl;
       }
 
-  pub is-crisp : 0 ≡ fault (aCrisp (seen s c (blockView s t) 0) []) → Holds s t → Step advance s c d → Reads crisp s (reading.at c t) (reading.at d t)
-  unfolding crisp view numbered
+  pub is-crisp : 0 ≡ fault (aCrisp (seen s c (blockView s t) 0) []) → Holds s t → Step advance s c d → Reads lowerEnd s (reading.at c t) (reading.at d t)
+  unfolding lowerEnd view numbered
   is-crisp e g q = reading.passes (aCrisp r []) (advance r) refl refl (sym e) (reading.step t g q) refl
 
   -- NUMBERS FOR AN OUTPUT
@@ -138,10 +138,10 @@ module _ (s : List ℕ) (c d : Cursor) (t : Tables) (o : ℕ) where
       count = n;
     }
 
-pub range-is : (s : List ℕ) (p : Reading) (o : ℕ) (x : ℤ) → x ≡ valueOf (textOf s (p .cursor))
-    → expect SEMICOLON (expect CLOSE (upperEnd o x (expect DOTS (crisp (view s p))))) ≡ rangeFrom o (view s p)
-unfolding rangeFrom
-range-is s p o x e = ap (λ (z : ℤ). expect SEMICOLON (expect CLOSE (upperEnd o z (expect DOTS (crisp (view s p)))))) (e ∙ ap valueOf (sym (reading.text-view s p)))
+pub range-is : (s : List ℕ) (p : ParseState) (o : ℕ) (x : ℤ) → x ≡ valueOf (textOf s (p .cursor))
+    → expect SEMICOLON (expect CLOSE (upperEnd o x (expect DOTS (lowerEnd (view s p))))) ≡ rangeBody o (view s p)
+unfolding rangeBody
+range-is s p o x e = ap (λ (z : ℤ). expect SEMICOLON (expect CLOSE (upperEnd o z (expect DOTS (lowerEnd (view s p)))))) (e ∙ ap valueOf (sym (reading.text-view s p)))
 
 -- TERMS
 module _ (s names : List ℕ) (c : Cursor) (o n : ℕ) (b : Block) (m : ℕ) (h : HasSingletons s names o n b) where
@@ -169,13 +169,13 @@ module _ (s : List ℕ) (c : Cursor) (t : Tables) (o : ℕ) where
   abbrev q : Parse
   q = view s (reading.at c t)
 
-  pub named-none : (d : Cursor) (w : ℕ) → w ≡ fault (termChecks o (seen s c (blockView s t) 0)) → (w ≡ 0 → ⊥) → Holds s t → Step (refuse w) s c d → ReadsFor (singletonNamed o) s (reading.at c t) (reading.at d t)
-  unfolding singletonNamed view
+  pub named-none : (d : Cursor) (w : ℕ) → w ≡ fault (termChecks o (seen s c (blockView s t) 0)) → (w ≡ 0 → ⊥) → Holds s t → Step (refuse w) s c d → ReadsFor (singletonBody o) s (reading.at c t) (reading.at d t)
+  unfolding singletonBody view
   named-none d w e h g p = record { reads = reading.refuses (termChecks o q) _ refl w (sym e) h g p; count = refl }
 
-  pub named-some : (r : Reading) → 0 ≡ fault (termChecks o (seen s c (blockView s t) 0))
-      → ReadsFor (λ z. expect SEMICOLON (figure (λ x. withSingleton (record { name = textOf s c; at = x })) o (expect ASSIGN (advance z)))) s (reading.at c t) r → ReadsFor (singletonNamed o) s (reading.at c t) r
-  unfolding singletonNamed view numbered
+  pub named-some : (r : ParseState) → 0 ≡ fault (termChecks o (seen s c (blockView s t) 0))
+      → ReadsFor (λ z. expect SEMICOLON (figure (λ x. withSingleton (record { name = textOf s c; at = x })) o (expect ASSIGN (advance z)))) s (reading.at c t) r → ReadsFor (singletonBody o) s (reading.at c t) r
+  unfolding singletonBody view numbered
   named-some r e x = record {
     reads = reading.passes (termChecks o q) _ refl refl (sym e) (x .reads)
         (ap (λ (w : List ℕ). expect SEMICOLON (figure (λ z. withSingleton (record { name = w; at = z })) o (expect ASSIGN (advance q)))) (sym (reading.text-view s (reading.at c t))));
@@ -203,7 +203,7 @@ module _ (s : List ℕ) (c : Cursor) (t : Tables) (o : ℕ) where
   unfolding outputTerm
   term-full d h b l g p = record { reads = reading.refuses termGiven _ refl 6 (given-so h b false (le-ltb _ _ l)) (λ z. omega arith) g p; count = refl }
 
-  pub term-more : (d : Cursor) (r : Reading) → c .kind ≡ 163 → o < t .«output_count» → outputRow t o .terms < 7 → Holds s t → Step advance s c d → ReadsFor (singletonNamed o) s (reading.at d t) r → ReadsFor (outputTerm o) s (reading.at c t) r
+  pub term-more : (d : Cursor) (r : ParseState) → c .kind ≡ 163 → o < t .«output_count» → outputRow t o .terms < 7 → Holds s t → Step advance s c d → ReadsFor (singletonBody o) s (reading.at d t) r → ReadsFor (outputTerm o) s (reading.at c t) r
   unfolding outputTerm numbered
   term-more d r h b l g p x = record {
     reads = reading.passes termGiven _ refl refl (given-so h b true (lt-ltb _ _ l)) (reading.next (reading.step t g p) (x .reads)) refl;
@@ -215,17 +215,17 @@ module _ (s : List ℕ) (c : Cursor) (t : Tables) (o : ℕ) where
   unfolding defaultValue
   default-nc d h g p = record { reads = reading.also (reading.step t g p) (sym (simp (reading.kind-view s (reading.at c t), eq-eqb _ _ h) refl)); count = refl }
 
-  pub default-given : (r : Reading) → (c .kind ≡ 153 → ⊥) → ReadsFor (figure withDefault o) s (reading.at c t) r → ReadsFor (defaultValue o) s (reading.at c t) r
+  pub default-given : (r : ParseState) → (c .kind ≡ 153 → ⊥) → ReadsFor (figure withDefault o) s (reading.at c t) r → ReadsFor (defaultValue o) s (reading.at c t) r
   unfolding defaultValue
   default-given r h x = record { reads = reading.also (x .reads) (sym (simp (reading.kind-view s (reading.at c t), ne-eqb _ _ h) refl)); count = x .count }
 
   -- RANGE, or none
-  pub range-not : (c .kind ≡ 159 → ⊥) → Good s (reading.at c t) → ReadsFor (range o) s (reading.at c t) (reading.at c t)
-  unfolding range
+  pub range-not : (c .kind ≡ 159 → ⊥) → Good s (reading.at c t) → ReadsFor (rangePart o) s (reading.at c t) (reading.at c t)
+  unfolding rangePart
   range-not h g = record { reads = reading.also (reading.none s (reading.at c t) g) (sym (simp (reading.kind-view s (reading.at c t), ne-eqb _ _ h) refl)); count = refl }
 
-  pub range-given : (d : Cursor) (r : Reading) → c .kind ≡ 159 → Holds s t → Step (λ z. expect OPEN (advance z)) s c d → ReadsFor (rangeFrom o) s (reading.at d t) r → ReadsFor (range o) s (reading.at c t) r
-  unfolding range
+  pub range-given : (d : Cursor) (r : ParseState) → c .kind ≡ 159 → Holds s t → Step (λ z. expect OPEN (advance z)) s c d → ReadsFor (rangeBody o) s (reading.at d t) r → ReadsFor (rangePart o) s (reading.at c t) r
+  unfolding rangePart
   range-given d r h g p x = record {
     reads = reading.also (reading.next (reading.step t g p) (x .reads)) (sym (simp (reading.kind-view s (reading.at c t), eq-eqb _ _ h) refl));
     count = x .count;
@@ -250,8 +250,8 @@ module _ (s : List ℕ) (c : Cursor) (t : Tables) where
   output-is : (i : ℕ) → i ≡ outputOf (textOf s c) (blockView s t) → outputOf (text v) (v .block) ≡ i
   output-is i e = simp (reading.text-view s (reading.at c t), reading.block-view s (reading.at c t)) (sym e)
 
-  pub part-none : (d : Cursor) (w : ℕ) → w ≡ fault (aName (seen s c (blockView s t) 0) []) → (w ≡ 0 → ⊥) → Holds s t → Step (refuse w) s c d → Reads defuzzifyNamed s (reading.at c t) (reading.at d t)
-  unfolding defuzzifyNamed defuzzifyOf view
+  pub part-none : (d : Cursor) (w : ℕ) → w ≡ fault (aName (seen s c (blockView s t) 0) []) → (w ≡ 0 → ⊥) → Holds s t → Step (refuse w) s c d → Reads defuzzifyVariable s (reading.at c t) (reading.at d t)
+  unfolding defuzzifyVariable defuzzifyOf view
   part-none d w e h g p = reading.refuses (partGiven (outputOf (text v) (v .block))) _ refl w (fault-bad w (aName v []) _ (sym e) h) h g p
 
   module _ (e : 0 ≡ fault (aName (seen s c (blockView s t) 0) [])) (i : ℕ) (f : i ≡ outputOf (textOf s c) (blockView s t)) where
@@ -277,16 +277,16 @@ module _ (s : List ℕ) (c : Cursor) (t : Tables) where
         there : i < t .«output_count» → length (singletonsOf i (v .block)) ≡ outputRow t i .terms
         there h = ap (λ (z : Block). length (singletonsOf i z)) (reading.block-view s (reading.at c t)) ∙ singletons s t i h .count
 
-    pub part-unknown : (d : Cursor) → t .«output_count» ≤ i → Holds s t → Step (refuse 5) s c d → Reads defuzzifyNamed s (reading.at c t) (reading.at d t)
-    unfolding defuzzifyNamed defuzzifyOf
+    pub part-unknown : (d : Cursor) → t .«output_count» ≤ i → Holds s t → Step (refuse 5) s c d → Reads defuzzifyVariable s (reading.at c t) (reading.at d t)
+    unfolding defuzzifyVariable defuzzifyOf
     part-unknown d h g p = reading.refuses (partGiven (outputOf (text v) (v .block))) _ refl 5 (none-there h) (λ z. omega arith) g p
 
-    pub part-again : (d : Cursor) → i < t .«output_count» → (outputRow t i .terms ≡ 0 → ⊥) → Holds s t → Step (refuse 4) s c d → Reads defuzzifyNamed s (reading.at c t) (reading.at d t)
-    unfolding defuzzifyNamed defuzzifyOf
+    pub part-again : (d : Cursor) → i < t .«output_count» → (outputRow t i .terms ≡ 0 → ⊥) → Holds s t → Step (refuse 4) s c d → Reads defuzzifyVariable s (reading.at c t) (reading.at d t)
+    unfolding defuzzifyVariable defuzzifyOf
     part-again d h q g p = reading.refuses (partGiven (outputOf (text v) (v .block))) _ refl 4 (given (outputRow t i .terms) h refl ∙ simp (ne-eqb _ _ q) refl) (λ z. omega arith) g p
 
-    pub part-read : (d : Cursor) (r : Reading) → i < t .«output_count» → outputRow t i .terms ≡ 0 → Holds s t → Step advance s c d → Reads (partText i) s (reading.at d t) r → Reads defuzzifyNamed s (reading.at c t) r
-    unfolding defuzzifyNamed defuzzifyOf numbered partText methodText
+    pub part-read : (d : Cursor) (r : ParseState) → i < t .«output_count» → outputRow t i .terms ≡ 0 → Holds s t → Step advance s c d → Reads (partText i) s (reading.at d t) r → Reads defuzzifyVariable s (reading.at c t) r
+    unfolding defuzzifyVariable defuzzifyOf numbered partText methodText
     part-read d r h q g p x =
         reading.passes (partGiven (outputOf (text v) (v .block))) _ refl refl (given 0 h q) (reading.next (reading.step t g p) x) (ap (λ (k : ℕ). partText k (advance v)) (sym (output-is i f)))
 

@@ -1,4 +1,4 @@
--- Reading what belongs to one output.
+-- ParseState what belongs to one output.
 use mathlib.Core.Path.{_≡_}
 use mathlib.Core.Bool.{not}
 use mathlib.Core.List.{List, [], _∷_}
@@ -10,14 +10,14 @@ use Rattle.model.specs.Block.{Block, Range, inRange, singletonsOf}
 use Rattle.model.specs.Keywords.{ASSIGN, COLON, SEMICOLON, CoGS, DEFAULT, END-DEFUZZIFY, METHOD, TERM}
 use Rattle.model.specs.Tokens.{sameName}
 use Rattle.model.specs.Parse.{Parse, Part, Checks, text, expect, repeated, aName, aCrisp, valueHere}
-use Rattle.model.specs.Declarations.{singletonOf, isSingleton, range, outputTerm, defaultValue}
+use Rattle.model.specs.Declarations.{singletonOf, isSingleton, rangePart, outputTerm, defaultValue}
 use Rattle.model.specs.Image.{tab}
 use Rattle.lookup.specs.Names.{nameOf}
-use Rattle.parse_state.specs.declared.Reading.{Reading}
+use Rattle.parse_state.specs.declared.ParseState.{ParseState}
 use Rattle.parse_state.specs.Reads.{Reads}
 
 -- a part is read, and there are as many outputs as before
-pub record ReadsFor (part : Part) (s : List ℕ) (p r : Reading) : Type 0 where
+pub record ReadsFor (part : Part) (s : List ℕ) (p r : ParseState) : Type 0 where
   pub reads : Reads part s p r
   pub count : r .tables .«output_count» ≡ p .tables .«output_count»
 
@@ -40,4 +40,4 @@ methodText r = r ▸ expect METHOD ▸ expect COLON ▸ expect CoGS ▸ expect S
 -- from behind the name on
 unfoldable pub partText : ℕ → Part
 partText o r =
-    r ▸ range o ▸ (λ q. repeated TERM (outputTerm o) (outputTerm o q)) ▸ methodText ▸ defaultValue o ▸ expect SEMICOLON ▸ expect END-DEFUZZIFY
+    r ▸ rangePart o ▸ (λ q. repeated TERM (outputTerm o) (outputTerm o q)) ▸ methodText ▸ defaultValue o ▸ expect SEMICOLON ▸ expect END-DEFUZZIFY

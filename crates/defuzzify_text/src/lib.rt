@@ -7,7 +7,7 @@ ghost use Rattle.model.specs.Block.{Block, inRange};
 ghost use Rattle.model.specs.Keywords.{TERM, DEFUZZIFY};
 ghost use Rattle.model.specs.Parse.{repeated};
 ghost use Rattle.model.specs.Tokens.{valueOf};
-ghost use Rattle.model.specs.Declarations.{upperEnd, rangeFrom, range, figure, withSingleton, withDefault, singletonNamed, outputTerm, defaultValue, defuzzifyNamed, defuzzify};
+ghost use Rattle.model.specs.Declarations.{upperEnd, rangeBody, rangePart, figure, withSingleton, withDefault, singletonBody, outputTerm, defaultValue, defuzzifyVariable, defuzzify};
 ghost use Rattle.cursor.specs.View.{seen, textOf, Fits, Step, Moves, fault};
 ghost use Rattle.lookup.specs.Names.{Placed};
 ghost use Rattle.block_tables.specs.View.{outputRow, rangeView};
@@ -15,12 +15,12 @@ ghost use Rattle.parse_state.specs.Reads.{Good, Reads};
 ghost use Rattle.defuzzify_text.specs.Output.{ReadsFor, HasSingletons, figureChecks, termChecks, methodText, partText};
 use cursor::Cursor;
 use model::Crisp;
-use parse_state::Reading;
+use parse_state::ParseState;
 use block_tables::Output;
 use number_tokens::CrispHere;
 
 // The upper end of the RANGE of output o, above its lower end x.
-fn upper_end(s: &[u8], p: Reading, o: usize, x: Crisp) -> Reading
+fn upper_end(s: &[u8], p: ParseState, o: usize, x: Crisp) -> ParseState
     requires { ⌜ Good (now s) p × (o < p .tables .«output_count») ⌝ }
     ensures { λ r. ⌜ ReadsFor (upperEnd o (x .0)) (now (s .entry)) p r ⌝ }
 {
@@ -30,7 +30,7 @@ fn upper_end(s: &[u8], p: Reading, o: usize, x: Crisp) -> Reading
     let w = v.fault;
     if w != 0 {
         let d = cursor::refuse(c, w);
-        return Reading {
+        return ParseState {
             cursor: d,
             tables: t,
         };
@@ -39,22 +39,22 @@ fn upper_end(s: &[u8], p: Reading, o: usize, x: Crisp) -> Reading
     if crisp::less(x, y) {
         let u = block_updates::set_range(t, o, x, y);
         let d = cursor::advance(s, c);
-        return Reading {
+        return ParseState {
             cursor: d,
             tables: u,
         };
     }
     let d = cursor::refuse(c, 7);
-    Reading {
+    ParseState {
         cursor: d,
         tables: t,
     }
 }
 
 // min..max); of output o
-fn range_from(s: &[u8], p: Reading, o: usize) -> Reading
+fn range_from(s: &[u8], p: ParseState, o: usize) -> ParseState
     requires { ⌜ Good (now s) p × (o < p .tables .«output_count») ⌝ }
-    ensures { λ r. ⌜ ReadsFor (rangeFrom o) (now (s .entry)) p r ⌝ }
+    ensures { λ r. ⌜ ReadsFor (rangeBody o) (now (s .entry)) p r ⌝ }
 {
     let c = p.cursor;
     let v = number_tokens::crisp_here(s, c);
@@ -77,9 +77,9 @@ fn range_from(s: &[u8], p: Reading, o: usize) -> Reading
     r
 }
 
-fn optional_range(s: &[u8], p: Reading, o: usize) -> Reading
+fn optional_range(s: &[u8], p: ParseState, o: usize) -> ParseState
     requires { ⌜ Good (now s) p × (o < p .tables .«output_count») ⌝ }
-    ensures { λ r. ⌜ ReadsFor (range o) (now (s .entry)) p r ⌝ }
+    ensures { λ r. ⌜ ReadsFor (rangePart o) (now (s .entry)) p r ⌝ }
 {
     let c = p.cursor;
     if c.kind != token_kinds::RANGE {
@@ -126,7 +126,7 @@ fn figure_here(s: &[u8], c: Cursor, v: Output) -> CrispHere
 }
 
 // A number as the singleton of output o with the name from start to end.
-fn singleton_at(s: &[u8], p: Reading, o: usize, start: usize, end: usize) -> Reading
+fn singleton_at(s: &[u8], p: ParseState, o: usize, start: usize, end: usize) -> ParseState
     requires { ⌜ Good (now s) p × (o < p .tables .«output_count») × (outputRow (p .tables) o .terms < 7) × (start ≤ end)
         × (end ≤ length (now s)) ⌝ }
     ensures { λ r. ⌜ ReadsFor
@@ -140,7 +140,7 @@ fn singleton_at(s: &[u8], p: Reading, o: usize, start: usize, end: usize) -> Rea
     let w = y.fault;
     if w != 0 {
         let d = cursor::refuse(c, w);
-        return Reading {
+        return ParseState {
             cursor: d,
             tables: t,
         };
@@ -148,14 +148,14 @@ fn singleton_at(s: &[u8], p: Reading, o: usize, start: usize, end: usize) -> Rea
     let x = y.value;
     let u = block_updates::add_singleton(t, o, start, end, x);
     let d = cursor::advance(s, c);
-    Reading {
+    ParseState {
         cursor: d,
         tables: u,
     }
 }
 
 // A number as the DEFAULT of output o.
-fn default_number(s: &[u8], p: Reading, o: usize) -> Reading
+fn default_number(s: &[u8], p: ParseState, o: usize) -> ParseState
     requires { ⌜ Good (now s) p × (o < p .tables .«output_count») ⌝ }
     ensures { λ r. ⌜ ReadsFor (figure withDefault o) (now (s .entry)) p r ⌝ }
 {
@@ -166,7 +166,7 @@ fn default_number(s: &[u8], p: Reading, o: usize) -> Reading
     let w = y.fault;
     if w != 0 {
         let d = cursor::refuse(c, w);
-        return Reading {
+        return ParseState {
             cursor: d,
             tables: t,
         };
@@ -174,7 +174,7 @@ fn default_number(s: &[u8], p: Reading, o: usize) -> Reading
     let x = y.value;
     let u = block_updates::set_default(t, o, x);
     let d = cursor::advance(s, c);
-    Reading {
+    ParseState {
         cursor: d,
         tables: u,
     }
@@ -198,9 +198,9 @@ fn term_fault(s: &[u8], names: &[usize; 224], o: usize, terms: usize, c: Cursor)
 }
 
 // name := number ; as a term of output o
-fn singleton_named(s: &[u8], p: Reading, o: usize) -> Reading
+fn singleton_named(s: &[u8], p: ParseState, o: usize) -> ParseState
     requires { ⌜ Good (now s) p × (o < p .tables .«output_count») × (outputRow (p .tables) o .terms < 7) ⌝ }
-    ensures { λ r. ⌜ ReadsFor (singletonNamed o) (now (s .entry)) p r ⌝ }
+    ensures { λ r. ⌜ ReadsFor (singletonBody o) (now (s .entry)) p r ⌝ }
 {
     let c = p.cursor;
     let t = p.tables;
@@ -208,7 +208,7 @@ fn singleton_named(s: &[u8], p: Reading, o: usize) -> Reading
     let w = term_fault(s, &t.names, o, v.terms, c);
     if w != 0 {
         let d = cursor::refuse(c, w);
-        return Reading {
+        return ParseState {
             cursor: d,
             tables: t,
         };
@@ -217,7 +217,7 @@ fn singleton_named(s: &[u8], p: Reading, o: usize) -> Reading
     let e = cursor::expect(s, d, token_kinds::ASSIGN);
     let mut q = singleton_at(
         s,
-        Reading {
+        ParseState {
             cursor: e,
             tables: t,
         },
@@ -231,7 +231,7 @@ fn singleton_named(s: &[u8], p: Reading, o: usize) -> Reading
     q
 }
 
-fn output_term(s: &[u8], p: Reading, o: usize) -> Reading
+fn output_term(s: &[u8], p: ParseState, o: usize) -> ParseState
     requires { ⌜ Good (now s) p × (o < p .tables .«output_count») ⌝ }
     ensures { λ r. ⌜ ReadsFor (outputTerm o) (now (s .entry)) p r ⌝ }
     ensures moves { λ r. ⌜ Moves (now (s .entry)) (p .cursor) (r .cursor) ⌝ }
@@ -240,7 +240,7 @@ fn output_term(s: &[u8], p: Reading, o: usize) -> Reading
     let t = p.tables;
     if c.kind != token_kinds::TERM {
         let d = cursor::refuse(c, 2);
-        return Reading {
+        return ParseState {
             cursor: d,
             tables: t,
         };
@@ -248,7 +248,7 @@ fn output_term(s: &[u8], p: Reading, o: usize) -> Reading
     let v = t.outputs[o];
     if 7 <= v.terms {
         let d = cursor::refuse(c, 6);
-        return Reading {
+        return ParseState {
             cursor: d,
             tables: t,
         };
@@ -256,7 +256,7 @@ fn output_term(s: &[u8], p: Reading, o: usize) -> Reading
     let d = cursor::advance(s, c);
     singleton_named(
         s,
-        Reading {
+        ParseState {
             cursor: d,
             tables: t,
         },
@@ -264,7 +264,7 @@ fn output_term(s: &[u8], p: Reading, o: usize) -> Reading
     )
 }
 
-fn output_terms(s: &[u8], p: Reading, o: usize) -> Reading
+fn output_terms(s: &[u8], p: ParseState, o: usize) -> ParseState
     requires { ⌜ Good (now s) p × (o < p .tables .«output_count») ⌝ }
     ensures { λ r. ⌜ ReadsFor (λ q. repeated TERM (outputTerm o) (outputTerm o q)) (now (s .entry)) p r ⌝ }
 {
@@ -289,7 +289,7 @@ fn method(s: &[u8], c: Cursor) -> Cursor
 }
 
 // A number or NC for output o.
-fn default_value(s: &[u8], p: Reading, o: usize) -> Reading
+fn default_value(s: &[u8], p: ParseState, o: usize) -> ParseState
     requires { ⌜ Good (now s) p × (o < p .tables .«output_count») ⌝ }
     ensures { λ r. ⌜ ReadsFor (defaultValue o) (now (s .entry)) p r ⌝ }
 {
@@ -304,7 +304,7 @@ fn default_value(s: &[u8], p: Reading, o: usize) -> Reading
 }
 
 // The part of output o, from behind its name on.
-fn output_part(s: &[u8], p: Reading, o: usize) -> Reading
+fn output_part(s: &[u8], p: ParseState, o: usize) -> ParseState
     requires { ⌜ Good (now s) p × (o < p .tables .«output_count») ⌝ }
     ensures { λ r. ⌜ Reads (partText o) (now (s .entry)) p r ⌝ }
 {
@@ -321,16 +321,16 @@ fn output_part(s: &[u8], p: Reading, o: usize) -> Reading
     e
 }
 
-fn defuzzify_named(s: &[u8], p: Reading) -> Reading
+fn defuzzify_named(s: &[u8], p: ParseState) -> ParseState
     requires { ⌜ Good (now s) p ⌝ }
-    ensures { λ r. ⌜ Reads defuzzifyNamed (now (s .entry)) p r ⌝ }
+    ensures { λ r. ⌜ Reads defuzzifyVariable (now (s .entry)) p r ⌝ }
 {
     let c = p.cursor;
     let t = p.tables;
     let w = cursor::name_fault(c);
     if w != 0 {
         let d = cursor::refuse(c, w);
-        return Reading {
+        return ParseState {
             cursor: d,
             tables: t,
         };
@@ -338,7 +338,7 @@ fn defuzzify_named(s: &[u8], p: Reading) -> Reading
     let o = lookup::find(s, &t.names, 8, t.output_count, c.start, c.end);
     if t.output_count <= o {
         let d = cursor::refuse(c, 5);
-        return Reading {
+        return ParseState {
             cursor: d,
             tables: t,
         };
@@ -346,7 +346,7 @@ fn defuzzify_named(s: &[u8], p: Reading) -> Reading
     let v = t.outputs[o];
     if v.terms != 0 {
         let d = cursor::refuse(c, 4);
-        return Reading {
+        return ParseState {
             cursor: d,
             tables: t,
         };
@@ -354,7 +354,7 @@ fn defuzzify_named(s: &[u8], p: Reading) -> Reading
     let d = cursor::advance(s, c);
     output_part(
         s,
-        Reading {
+        ParseState {
             cursor: d,
             tables: t,
         },
@@ -362,7 +362,7 @@ fn defuzzify_named(s: &[u8], p: Reading) -> Reading
     )
 }
 
-fn defuzzify_part(s: &[u8], p: Reading) -> Reading
+fn defuzzify_part(s: &[u8], p: ParseState) -> ParseState
     requires { ⌜ Good (now s) p ⌝ }
     ensures { λ r. ⌜ Reads defuzzify (now (s .entry)) p r ⌝ }
     ensures moves { λ r. ⌜ Moves (now (s .entry)) (p .cursor) (r .cursor) ⌝ }
@@ -375,7 +375,7 @@ fn defuzzify_part(s: &[u8], p: Reading) -> Reading
 }
 
 // DEFUZZIFY parts, one or more.
-pub fn defuzzify_parts(s: &[u8], p: Reading) -> Reading
+pub fn defuzzify_parts(s: &[u8], p: ParseState) -> ParseState
     requires { ⌜ Good (now s) p ⌝ }
     ensures { λ r. ⌜ Reads (λ q. repeated DEFUZZIFY defuzzify (defuzzify q)) (now (s .entry)) p r ⌝ }
 {

@@ -3,7 +3,7 @@ ghost use mathlib.Core.Path.{_≡_};
 ghost use Rattle.model.specs.Outcome.{verdictIn};
 ghost use Rattle.model.specs.Refusals.{verdictOf};
 ghost use Rattle.model.specs.Image.{wordAt, decode};
-ghost use Rattle.model.specs.Evaluation.{called, evaluate, fresh, recordIn};
+ghost use Rattle.model.specs.Evaluation.{evaluateBlock, evaluate, fresh, recordIn};
 ghost use Rattle.layout.specs.Tables.{inputTermsIn};
 ghost use Rattle.layout.specs.Groups.{Sound};
 ghost use Rattle.evaluation.specs.Tells.{Tells, refusedBy};
@@ -45,7 +45,7 @@ pub fn evaluate_accepted(
     before: Held,
 ) -> Evaluation
     requires { ⌜ Sound (wordAt (now img)) × (m ≡ inputTermsIn (wordAt (now img))) ⌝ }
-    ensures { λ r. ⌜ Tells r before (called (decode (wordAt (now (img .entry)))) rs n before) ⌝ }
+    ensures { λ r. ⌜ Tells r before (evaluateBlock (decode (wordAt (now (img .entry)))) rs n before) ⌝ }
 {
     let inputs = word(img, 2);
     let was = before.figures;

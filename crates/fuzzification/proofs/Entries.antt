@@ -18,7 +18,7 @@ use Rattle.terms.specs.declared.Point.{Point}
 use Rattle.terms.specs.Points.{PointOk, pointView, noPoint, pointViews, pointAt as point}
 use Rattle.words.proofs.Places.{both, passed, length-tab}
 use Rattle.layout.specs.Tables.{sums, inputCount, termCount}
-use Rattle.layout.specs.Groups.{Sound, frameOk, variablesOk}
+use Rattle.layout.specs.Groups.{Sound, tablesOk, variablesOk}
 use Rattle.layout.proofs.TableLaws.{Runs}
 use Rattle.layout.proofs.Parts.{inputFirst, inputFirsts-run}
 use Rattle.fuzzification.specs.Filled.{filled}
@@ -68,7 +68,7 @@ module _ (w : ℕ → ℕ) where
       subst (λ (k : ℕ). inputOk (inputAt w k) ≡ true) e (all-at inputOk (inputAt w) (w 2) 0 i h (v .1 .1 .1 .1 .0))
 
   pub first-is : (i : ℕ) → Sound w → i < w 2 → inputFirst w i ≡ sums (inputCount w) i 0
-  unfolding frameOk
+  unfolding tablesOk
   first-is i s h =
       let v = passed _ (s .frame) in
       let e : 0 + i ≡ i = omega arith in

@@ -16,7 +16,7 @@ use Rattle.model.specs.Image.{tab}
 use Rattle.model.specs.Keywords.{ASSIGN, CLOSE, COMMA, END-FUZZIFY, TERM, NUMBER}
 use Rattle.model.specs.Tokens.{valueOf, unitOf, sameName}
 use Rattle.model.specs.Parse.{Parse, Part, text, refuse, advance, change, judged, expect, repeated, listed, aName, aCrisp, aUnit, valueHere}
-use Rattle.model.specs.Declarations.{inputOf, isInput, isTerm, addTerm, addPoint, pointsOf, position, degree, pointFrom, point, endOfPoints, termName, inputTerm, fuzzifyOf, fuzzifyNamed}
+use Rattle.model.specs.Declarations.{inputOf, isInput, isTerm, addTerm, addPoint, pointsOf, pointPosition, pointDegree, pointBody, point, endOfPoints, termName, inputTerm, fuzzifyOf, fuzzifyVariable}
 use Rattle.words.proofs.Places.{length-tab}
 use Rattle.lookup.specs.Names.{nameOf}
 use Rattle.cursor.specs.declared.Cursor.{Cursor}
@@ -27,7 +27,7 @@ use Rattle.block_tables.specs.declared.Tables.{Tables}
 use Rattle.block_tables.specs.View.{no-point, inputRow, pointView, termView, blockView, Holds}
 use Rattle.block_updates.specs.Changes.{Changes, LastTerm}
 use Rattle.block_updates.proofs.Lookups as lookups
-use Rattle.parse_state.specs.declared.Reading.{Reading}
+use Rattle.parse_state.specs.declared.ParseState.{ParseState}
 use Rattle.parse_state.specs.Reads.{view, Reads}
 use Rattle.parse_state.proofs.Laws as reading
 use Rattle.parse_state.proofs.Laws.{at, kind-view, text-view, block-view}
@@ -112,13 +112,13 @@ module _ (s : List ℕ) (t : Tables) (i : ℕ) (o : Open t i) where
 -- A POINT
 module _ (s : List ℕ) (c : Cursor) (t : Tables) (d : Cursor) (i : ℕ) where
   module _ (x : ℤ) where
-    pub degree-bad : (w : ℕ) → w ≡ fault (aUnit (seen s c (blockView s t) 0)) → Holds s t → (w ≡ 0 → ⊥) → Step (refuse w) s c d → Reads (degree i x) s (at c t) (at d t)
-    unfolding degree view
+    pub degree-bad : (w : ℕ) → w ≡ fault (aUnit (seen s c (blockView s t) 0)) → Holds s t → (w ≡ 0 → ⊥) → Step (refuse w) s c d → Reads (pointDegree i x) s (at c t) (at d t)
+    unfolding pointDegree view
     degree-bad w f g h q = reading.refuses (aUnit (view s (at c t))) _ refl w (sym f) h g q
 
     pub degree-good : (u : Tables) (y : ℕ) → 0 ≡ fault (aUnit (seen s c (blockView s t) 0)) → y ≡ unitOf (textOf s c) → Fits s c → (c .kind ≡ 0 → ⊥)
-        → Changes s t u (addPoint i (record { at = x; degree = y })) → Step advance s c d → Reads (degree i x) s (at c t) (at d u)
-    unfolding degree view numbered
+        → Changes s t u (addPoint i (record { at = x; degree = y })) → Step advance s c d → Reads (pointDegree i x) s (at c t) (at d u)
+    unfolding pointDegree view numbered
     degree-good u y f e g k z q =
         reading.passes (aUnit (view s (at c t))) _ refl refl (sym f)
         (reading.next (reading.changes s c t u _ g k z) (reading.step u (z .holds) q))
@@ -129,48 +129,48 @@ module _ (s : List ℕ) (c : Cursor) (t : Tables) (d : Cursor) (i : ℕ) where
   point-none g h q = reading.also (reading.step t g q) (sym (simp (kind-view, ne-eqb _ _ h)))
 
   module _ (h : c .kind ≡ 40) (o : Open t i) where
-    point-then : point i (view s (at c t)) ≡ (if ltb (getD (t .counts) (lastPlace t i) 0) 4 then pointFrom i (advance (view s (at c t))) else refuse 6 (view s (at c t)))
+    point-then : point i (view s (at c t)) ≡ (if ltb (getD (t .counts) (lastPlace t i) 0) 4 then pointBody i (advance (view s (at c t))) else refuse 6 (view s (at c t)))
     unfolding point judged
     point-then = simp (kind-view, eq-eqb _ _ h, block-view, points-count s t i o)
 
     pub point-full : Holds s t → 4 ≤ getD (t .counts) (lastPlace t i) 0 → Step (refuse 6) s c d → Reads (point i) s (at c t) (at d t)
     point-full g l q = reading.also (reading.step t g q) (sym (point-then ∙ simp (le-ltb _ _ l)))
 
-    pub point-good : (r : Reading) → Holds s t → getD (t .counts) (lastPlace t i) 0 < 4 → Step advance s c d → Reads (pointFrom i) s (at d t) r → Reads (point i) s (at c t) r
+    pub point-good : (r : ParseState) → Holds s t → getD (t .counts) (lastPlace t i) 0 < 4 → Step advance s c d → Reads (pointBody i) s (at d t) r → Reads (point i) s (at c t) r
     point-good r g l q z = reading.also (reading.next (reading.step t g q) z) (sym (point-then ∙ simp (lt-ltb _ _ l)))
 
 module _ (s : List ℕ) (c : Cursor) (t : Tables) (i n : ℕ) (last : ℤ) (z : Ends (blockView s t) i n last) where
-  position-is : position i (view s (at c t)) ≡ positionAfter n last (view s (at c t))
-  unfolding position positionAfter
+  position-is : pointPosition i (view s (at c t)) ≡ positionAfter n last (view s (at c t))
+  unfolding pointPosition positionAfter
   position-is =
       ap (λ (b : Bool). judged (aCrisp (view s (at c t)) ((b, 7) ∷ [])) (view s (at c t)) (advance (view s (at c t))))
       (ap (λ (b : Block). mayFollow (map (λ p. p .at) (pointsOf i b)) (valueHere (view s (at c t)))) (block-view s (at c t)) ∙ z .may _)
 
-  lost-from : (d : Cursor) → Fits s d → (d .why ≡ 0 → ⊥) → (x : ℤ) → view s (at d t) ≡ expect CLOSE (degree i x (expect COMMA (view s (at d t))))
-  unfolding degree view
+  lost-from : (d : Cursor) → Fits s d → (d .why ≡ 0 → ⊥) → (x : ℤ) → view s (at d t) ≡ expect CLOSE (pointDegree i x (expect COMMA (view s (at d t))))
+  unfolding pointDegree view
   lost-from d g h x =
       let l = cursor.lost-expect s d g h (blockView s t) 0 in
-      sym (ap (λ (r : Parse). expect CLOSE (degree i x r)) (l COMMA (λ q. omega arith))
+      sym (ap (λ (r : Parse). expect CLOSE (pointDegree i x r)) (l COMMA (λ q. omega arith))
       ∙ ap (expect CLOSE) (cursor.lost-judged s d g h (blockView s t) 0 NUMBER _ _ (λ q. omega arith))
       ∙ l CLOSE (λ q. omega arith))
 
-  pub from-lost : (d : Cursor) → Holds s t → Step (positionAfter n last) s c d → (d .why ≡ 0 → ⊥) → Reads (pointFrom i) s (at c t) (at d t)
-  unfolding pointFrom
+  pub from-lost : (d : Cursor) → Holds s t → Step (positionAfter n last) s c d → (d .why ≡ 0 → ⊥) → Reads (pointBody i) s (at c t) (at d t)
+  unfolding pointBody
   from-lost d g q h =
       let p = reading.step t g q in
       reading.also p
-      (sym (p .reads) ∙ lost-from d (q .fits) h _ ∙ ap (λ (r : Parse). expect CLOSE (degree i (valueHere (view s (at c t))) (expect COMMA r))) (p .reads ∙ sym position-is))
+      (sym (p .reads) ∙ lost-from d (q .fits) h _ ∙ ap (λ (r : Parse). expect CLOSE (pointDegree i (valueHere (view s (at c t))) (expect COMMA r))) (p .reads ∙ sym position-is))
 
-  pub from-good : (d e : Cursor) (r : Reading) (f : Cursor) (x : ℤ) → Holds s t → x ≡ valueOf (textOf s c)
-      → Step (positionAfter n last) s c d → Step (expect COMMA) s d e → Reads (degree i x) s (at e t) r → Step (expect CLOSE) s (r .cursor) f → Reads (pointFrom i) s (at c t) (at f (r .tables))
-  unfolding pointFrom
+  pub from-good : (d e : Cursor) (r : ParseState) (f : Cursor) (x : ℤ) → Holds s t → x ≡ valueOf (textOf s c)
+      → Step (positionAfter n last) s c d → Step (expect COMMA) s d e → Reads (pointDegree i x) s (at e t) r → Step (expect CLOSE) s (r .cursor) f → Reads (pointBody i) s (at c t) (at f (r .tables))
+  unfolding pointBody
   from-good d e r f x g v q k y l =
       reading.also (reading.next (reading.next (reading.next (reading.step t g q) (reading.step t g k)) y) (reading.step (r .tables) (y .good .holds) l))
-      (ap (λ (a : Parse). expect CLOSE (degree i x (expect COMMA a))) (sym position-is)
-      ∙ ap (λ (a : ℤ). expect CLOSE (degree i a (expect COMMA (position i (view s (at c t)))))) (v ∙ sym (ap valueOf (text-view s (at c t)))))
+      (ap (λ (a : Parse). expect CLOSE (pointDegree i x (expect COMMA a))) (sym position-is)
+      ∙ ap (λ (a : ℤ). expect CLOSE (pointDegree i a (expect COMMA (pointPosition i (view s (at c t)))))) (v ∙ sym (ap valueOf (text-view s (at c t)))))
 
 -- A TERM
-pub points-end : (s : List ℕ) (p : Reading) (i : ℕ) → Open (p .tables) i → endAfter (getD (p .tables .counts) (lastPlace (p .tables) i) 0) (view s p) ≡ endOfPoints i (view s p)
+pub points-end : (s : List ℕ) (p : ParseState) (i : ℕ) → Open (p .tables) i → endAfter (getD (p .tables .counts) (lastPlace (p .tables) i) 0) (view s p) ≡ endOfPoints i (view s p)
 unfolding endAfter endOfPoints
 points-end s p i o = simp (block-view, points-count s (p .tables) i o)
 
@@ -218,8 +218,8 @@ module _ (s : List ℕ) (c : Cursor) (t : Tables) (d : Cursor) (i : ℕ) where
     pub term-full : Holds s t → 7 ≤ inputRow t i .terms → Step (refuse 6) s c d → Reads (inputTerm i) s (at c t) (at d t)
     term-full g k q = reading.also (reading.step t g q) (sym (term-then ∙ simp (le-ltb _ _ k)))
 
-    module _ (g : Holds s t) (k : inputRow t i .terms < 7) (q : Step advance s c d) (p : Reading) (z : Reads (termName i) s (at d t) p) where
-      pub term-good : (r : Reading) → Reads termFrom s p r → Reads (inputTerm i) s (at c t) r
+    module _ (g : Holds s t) (k : inputRow t i .terms < 7) (q : Step advance s c d) (p : ParseState) (z : Reads (termName i) s (at d t) p) where
+      pub term-good : (r : ParseState) → Reads termFrom s p r → Reads (inputTerm i) s (at c t) r
       term-good r y = reading.also (reading.next (reading.next (reading.step t g q) z) y) (sym (term-then ∙ simp (lt-ltb _ _ k)))
 
       lost-term : (p .cursor .why ≡ 0 → ⊥) → view s p ≡ termFrom (view s p)
@@ -237,8 +237,8 @@ module _ (s : List ℕ) (c : Cursor) (t : Tables) (d : Cursor) (i : ℕ) where
 
 -- A PART
 module _ (s : List ℕ) (c : Cursor) (t : Tables) (d : Cursor) where
-  pub part-bad : (w : ℕ) → w ≡ fault (aName (seen s c (blockView s t) 0) []) → Holds s t → (w ≡ 0 → ⊥) → Step (refuse w) s c d → Reads fuzzifyNamed s (at c t) (at d t)
-  unfolding fuzzifyNamed fuzzifyOf view
+  pub part-bad : (w : ℕ) → w ≡ fault (aName (seen s c (blockView s t) 0) []) → Holds s t → (w ≡ 0 → ⊥) → Step (refuse w) s c d → Reads fuzzifyVariable s (at c t) (at d t)
+  unfolding fuzzifyVariable fuzzifyOf view
   part-bad w f g h q = reading.also (reading.step t g q) (sym (judged-bad (view s (at c t)) _ w (aName (view s (at c t)) []) _ (sym f) h))
 
   module _ (f : 0 ≡ fault (aName (seen s c (blockView s t) 0) [])) (i : ℕ) (e : i ≡ indexOf (sameName (textOf s c)) (tab (nameOf s (t .names)) (t .«input_count») 0)) where
@@ -256,16 +256,16 @@ module _ (s : List ℕ) (c : Cursor) (t : Tables) (d : Cursor) where
         ∙ ap (λ (b : Block). ltb i (length (b .inputs))) (block-view s (at c t))
         ∙ ap (ltb i) (lookups.inputs-count s t (blockView s t) refl)
 
-    part-then : fuzzifyNamed (view s (at c t))
+    part-then : fuzzifyVariable (view s (at c t))
         ≡ judged ((isEmpty (termsOf i (blockView s t)), 4) ∷ (ltb i (t .«input_count»), 5) ∷ []) (view s (at c t)) (partFrom (advance (view s (at c t))))
-    unfolding fuzzifyNamed fuzzifyOf numbered view
+    unfolding fuzzifyVariable fuzzifyOf numbered view
     part-then =
         ap (λ (k : ℕ). fuzzifyOf k (view s (at c t))) input-is
         ∙ judged-good (view s (at c t)) _ (aName (view s (at c t)) []) _ refl (sym f)
         ∙ ap (λ (b : Block). judged ((isEmpty (termsOf i b), 4) ∷ (isInput (text (view s (at c t))) (view s (at c t) .block), 5) ∷ []) (view s (at c t)) (partFrom (advance (view s (at c t))))) (block-view s (at c t))
         ∙ ap (λ (x : Bool). judged ((isEmpty (termsOf i (blockView s t)), 4) ∷ (x, 5) ∷ []) (view s (at c t)) (partFrom (advance (view s (at c t))))) known
 
-    pub part-unknown : Holds s t → t .«input_count» ≤ i → Step (refuse 5) s c d → Reads fuzzifyNamed s (at c t) (at d t)
+    pub part-unknown : Holds s t → t .«input_count» ≤ i → Step (refuse 5) s c d → Reads fuzzifyVariable s (at c t) (at d t)
     unfolding judged blockView
     part-unknown g h q = reading.also (reading.step t g q) (sym (part-then ∙ simp (lookups.terms-none s t (blockView s t) refl i h, le-ltb _ _ h)))
 
@@ -284,12 +284,12 @@ module _ (s : List ℕ) (c : Cursor) (t : Tables) (d : Cursor) where
       no-terms zero z = refl
       no-terms (suc n) z = absurd (omega arith)
 
-      pub part-again : Holds s t → (inputRow t i .terms ≡ 0 → ⊥) → Step (refuse 4) s c d → Reads fuzzifyNamed s (at c t) (at d t)
+      pub part-again : Holds s t → (inputRow t i .terms ≡ 0 → ⊥) → Step (refuse 4) s c d → Reads fuzzifyVariable s (at c t) (at d t)
       unfolding judged
       part-again g z q = reading.also (reading.step t g q) (sym (part-then ∙ simp (terms-are, some-terms _ z)))
 
-      pub part-good : (p : Reading) (k : Cursor) → Holds s t → inputRow t i .terms ≡ 0 → Step advance s c d
-          → Reads (λ r. repeated TERM (inputTerm i) (inputTerm i r)) s (at d t) p → Step (expect END-FUZZIFY) s (p .cursor) k → Reads fuzzifyNamed s (at c t) (at k (p .tables))
+      pub part-good : (p : ParseState) (k : Cursor) → Holds s t → inputRow t i .terms ≡ 0 → Step advance s c d
+          → Reads (λ r. repeated TERM (inputTerm i) (inputTerm i r)) s (at d t) p → Step (expect END-FUZZIFY) s (p .cursor) k → Reads fuzzifyVariable s (at c t) (at k (p .tables))
       unfolding judged
       part-good p k g z q y x =
           reading.also (reading.next (reading.next (reading.step t g q) y) (reading.step (p .tables) (y .good .holds) x))

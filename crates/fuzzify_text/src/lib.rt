@@ -5,14 +5,14 @@ ghost use lib.ListN.{getD};
 ghost use Rattle.model.specs.Tokens.{valueOf};
 ghost use Rattle.model.specs.Keywords.{ASSIGN, TERM, FUZZIFY};
 ghost use Rattle.model.specs.Parse.{expect as expected, listed, repeated};
-ghost use Rattle.model.specs.Declarations.{degree as aDegree, pointFrom, point as aPoint, endOfPoints, termName, inputTerm, fuzzifyNamed, fuzzify as aFuzzify};
+ghost use Rattle.model.specs.Declarations.{pointDegree as aDegree, pointBody, point as aPoint, endOfPoints, termName, inputTerm, fuzzifyVariable, fuzzify as aFuzzify};
 ghost use Rattle.cursor.specs.View.{textOf, Fits, Step, Moves};
 ghost use Rattle.block_tables.specs.View.{inputRow, blockView};
 ghost use Rattle.parse_state.specs.Reads.{Good, Reads};
 ghost use Rattle.fuzzify_text.specs.Terms.{Open, lastPlace, rises, Ends, positionAfter, endAfter};
 use cursor::Cursor;
 use model::Crisp;
-use parse_state::Reading;
+use parse_state::ParseState;
 use block_tables::Point;
 
 // The cursor behind a position, and its value where it is not refused.
@@ -61,7 +61,7 @@ fn position(s: &[u8], c: Cursor, n: usize, last: Crisp) -> At
 }
 
 // The degree at position x: a point more for the last term of input i.
-fn degree(s: &[u8], p: Reading, i: usize, x: Crisp) -> Reading
+fn degree(s: &[u8], p: ParseState, i: usize, x: Crisp) -> ParseState
     requires { ⌜ Good (now s) p × Open (p .tables) i × (getD (p .tables .counts) (lastPlace (p .tables) i) 0 < 4) ⌝ }
     ensures { λ r. ⌜ Reads (aDegree i (x .0)) (now (s .entry)) p r ⌝ }
     ensures open { λ r. ⌜ Open (r .tables) i ⌝ }
@@ -71,7 +71,7 @@ fn degree(s: &[u8], p: Reading, i: usize, x: Crisp) -> Reading
     let w = number_tokens::unit_here(s, c);
     if w.fault != 0 {
         let d = cursor::refuse(c, w.fault);
-        return Reading {
+        return ParseState {
             cursor: d,
             tables: t,
         };
@@ -82,17 +82,17 @@ fn degree(s: &[u8], p: Reading, i: usize, x: Crisp) -> Reading
     let k = i * 7 + v.terms - 1;
     let u = block_updates::add_point(t, k, q);
     let d = cursor::advance(s, c);
-    Reading {
+    ParseState {
         cursor: d,
         tables: u,
     }
 }
 
 // A point behind its parenthesis, after n others, the last position given.
-fn point_from(s: &[u8], p: Reading, i: usize, n: usize, last: Crisp) -> Reading
+fn point_from(s: &[u8], p: ParseState, i: usize, n: usize, last: Crisp) -> ParseState
     requires { ⌜ Good (now s) p × Open (p .tables) i × (getD (p .tables .counts) (lastPlace (p .tables) i) 0 < 4)
         × Ends (blockView (now s) (p .tables)) i n (last .0) ⌝ }
-    ensures { λ r. ⌜ Reads (pointFrom i) (now (s .entry)) p r ⌝ }
+    ensures { λ r. ⌜ Reads (pointBody i) (now (s .entry)) p r ⌝ }
     ensures open { λ r. ⌜ Open (r .tables) i ⌝ }
 {
     let c = p.cursor;
@@ -114,7 +114,7 @@ fn point_from(s: &[u8], p: Reading, i: usize, n: usize, last: Crisp) -> Reading
 }
 
 // A point of the last term of input i.
-fn point(s: &[u8], p: Reading, i: usize) -> Reading
+fn point(s: &[u8], p: ParseState, i: usize) -> ParseState
     requires { ⌜ Good (now s) p × Open (p .tables) i ⌝ }
     ensures { λ r. ⌜ Reads (aPoint i) (now (s .entry)) p r ⌝ }
     ensures open { λ r. ⌜ Open (r .tables) i ⌝ }
@@ -145,7 +145,7 @@ fn point(s: &[u8], p: Reading, i: usize) -> Reading
     point_from(s, q, i, n, last)
 }
 
-fn points(s: &[u8], p: Reading, i: usize) -> Reading
+fn points(s: &[u8], p: ParseState, i: usize) -> ParseState
     requires { ⌜ Good (now s) p × Open (p .tables) i ⌝ }
     ensures { λ r. ⌜ Reads (listed (aPoint i)) (now (s .entry)) p r ⌝ }
     ensures open { λ r. ⌜ Open (r .tables) i ⌝ }
@@ -175,7 +175,7 @@ fn end_of_points(s: &[u8], c: Cursor, n: usize) -> Cursor
 }
 
 // What follows a term's name: the last term of input i gets its points.
-fn term_points(s: &[u8], p: Reading, i: usize) -> Reading
+fn term_points(s: &[u8], p: ParseState, i: usize) -> ParseState
     requires { ⌜ Good (now s) p × Open (p .tables) i ⌝ }
     ensures { λ r. ⌜ Reads (λ q. endOfPoints i (listed (aPoint i) (expected ASSIGN q))) (now (s .entry)) p r ⌝ }
     ensures open { λ r. ⌜ Open (r .tables) i ⌝ }
@@ -195,7 +195,7 @@ fn term_points(s: &[u8], p: Reading, i: usize) -> Reading
 }
 
 // The name of one term more for input i.
-fn term_name(s: &[u8], p: Reading, i: usize) -> Reading
+fn term_name(s: &[u8], p: ParseState, i: usize) -> ParseState
     requires { ⌜ Good (now s) p × (i < p .tables .«input_count») × (inputRow (p .tables) i .terms < 7) ⌝ }
     ensures { λ r. ⌜ Reads (termName i) (now (s .entry)) p r ⌝ }
     ensures input { λ r. ⌜ i < r .tables .«input_count» ⌝ }
@@ -206,7 +206,7 @@ fn term_name(s: &[u8], p: Reading, i: usize) -> Reading
     let w = cursor::name_fault(c);
     if w != 0 {
         let d = cursor::refuse(c, w);
-        return Reading {
+        return ParseState {
             cursor: d,
             tables: t,
         };
@@ -215,20 +215,20 @@ fn term_name(s: &[u8], p: Reading, i: usize) -> Reading
     let n = v.terms;
     if lookup::find(s, &t.names, 14 + i * 7, n, c.start, c.end) < n {
         let d = cursor::refuse(c, 4);
-        return Reading {
+        return ParseState {
             cursor: d,
             tables: t,
         };
     }
     let u = block_updates::add_term(t, i, c.start, c.end);
     let d = cursor::advance(s, c);
-    Reading {
+    ParseState {
         cursor: d,
         tables: u,
     }
 }
 
-fn input_term(s: &[u8], p: Reading, i: usize) -> Reading
+fn input_term(s: &[u8], p: ParseState, i: usize) -> ParseState
     requires { ⌜ Good (now s) p × (i < p .tables .«input_count») ⌝ }
     ensures { λ r. ⌜ Reads (inputTerm i) (now (s .entry)) p r ⌝ }
     ensures moves { λ r. ⌜ Moves (now (s .entry)) (p .cursor) (r .cursor) ⌝ }
@@ -257,7 +257,7 @@ fn input_term(s: &[u8], p: Reading, i: usize) -> Reading
     term_points(s, r, i)
 }
 
-fn input_terms(s: &[u8], p: Reading, i: usize) -> Reading
+fn input_terms(s: &[u8], p: ParseState, i: usize) -> ParseState
     requires { ⌜ Good (now s) p × (i < p .tables .«input_count») ⌝ }
     ensures { λ r. ⌜ Reads (λ q. repeated TERM (inputTerm i) (inputTerm i q)) (now (s .entry)) p r ⌝ }
 {
@@ -269,9 +269,9 @@ fn input_terms(s: &[u8], p: Reading, i: usize) -> Reading
 }
 
 // The name of an input without terms, and its terms.
-fn fuzzify_named(s: &[u8], p: Reading) -> Reading
+fn fuzzify_named(s: &[u8], p: ParseState) -> ParseState
     requires { ⌜ Good (now s) p ⌝ }
-    ensures { λ r. ⌜ Reads fuzzifyNamed (now (s .entry)) p r ⌝ }
+    ensures { λ r. ⌜ Reads fuzzifyVariable (now (s .entry)) p r ⌝ }
 {
     let c = p.cursor;
     let t = p.tables;
@@ -304,7 +304,7 @@ fn fuzzify_named(s: &[u8], p: Reading) -> Reading
     r
 }
 
-fn fuzzify(s: &[u8], p: Reading) -> Reading
+fn fuzzify(s: &[u8], p: ParseState) -> ParseState
     requires { ⌜ Good (now s) p ⌝ }
     ensures { λ r. ⌜ Reads aFuzzify (now (s .entry)) p r ⌝ }
     ensures moves { λ r. ⌜ Moves (now (s .entry)) (p .cursor) (r .cursor) ⌝ }
@@ -317,7 +317,7 @@ fn fuzzify(s: &[u8], p: Reading) -> Reading
 }
 
 // FUZZIFY parts, one or more.
-pub fn fuzzify_parts(s: &[u8], p: Reading) -> Reading
+pub fn fuzzify_parts(s: &[u8], p: ParseState) -> ParseState
     requires { ⌜ Good (now s) p ⌝ }
     ensures { λ r. ⌜ Reads (λ q. repeated FUZZIFY aFuzzify (aFuzzify q)) (now (s .entry)) p r ⌝ }
 {

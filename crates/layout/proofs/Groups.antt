@@ -10,18 +10,18 @@ use Rattle.model.specs.WellFormed.{wellFormed}
 use Rattle.model.specs.Image.{wordAt, decode, isImageOf}
 use Rattle.words.proofs.Places.{both, and-i, passed, pass}
 use Rattle.layout.specs.Tables.{shapeOk, countsOk}
-use Rattle.layout.specs.Groups.{frameOk, variablesOk, rulesOk}
+use Rattle.layout.specs.Groups.{tablesOk, variablesOk, rulesOk}
 use Rattle.layout.proofs.Bytes.{tests-equal, image-tests}
 
 abbrev pub grouped : List ℕ → List Bool
-grouped img = eqb (length img) (wordAt img 1 * 4) ∷ frameOk (wordAt img) ∷ variablesOk (wordAt img) ∷ rulesOk (wordAt img) ∷ []
+grouped img = eqb (length img) (wordAt img 1 * 4) ∷ tablesOk (wordAt img) ∷ variablesOk (wordAt img) ∷ rulesOk (wordAt img) ∷ []
 
 module _ (img : List ℕ) where
   abbrev whole : Bool
   whole = wellFormed (decode (wordAt img)) && (eqb (length img) (wordAt img 1 * 4) && shapeOk (wordAt img))
 
   to : whole ≡ true → every (grouped img) ≡ true
-  unfolding wellFormed shapeOk countsOk frameOk variablesOk rulesOk
+  unfolding wellFormed shapeOk countsOk tablesOk variablesOk rulesOk
   to h =
       let a = both (wellFormed (decode (wordAt img))) (eqb (length img) (wordAt img 1 * 4) && shapeOk (wordAt img)) h in
       let f = passed _ (a .0) in
@@ -41,7 +41,7 @@ module _ (img : List ℕ) where
       )
 
   from : every (grouped img) ≡ true → whole ≡ true
-  unfolding wellFormed shapeOk countsOk frameOk variablesOk rulesOk
+  unfolding wellFormed shapeOk countsOk tablesOk variablesOk rulesOk
   from h =
       let g = passed _ h in
       let s = passed _ (g .1 .0) in

@@ -16,7 +16,7 @@ use Rattle.model.specs.WellFormed.{outputOk, singletonOk}
 use Rattle.model.specs.Image.{tab, singletonAt, outputAt, decode}
 use Rattle.words.proofs.Places.{both, passed, length-tab}
 use Rattle.layout.specs.Tables.{sums, outputCount, inputTermsIn, outputRow, outputNext, outputRows}
-use Rattle.layout.specs.Groups.{frameOk, variablesOk, Sound}
+use Rattle.layout.specs.Groups.{tablesOk, variablesOk, Sound}
 use Rattle.layout.proofs.TableLaws.{Runs, runs-from}
 use Rattle.layout.proofs.Parts.{outputFirst, output-row}
 
@@ -42,7 +42,7 @@ sums-le c m (suc k) i h = omega (arith, h i (omega arith), sums-le c m k (suc i)
 
 module _ (w : ℕ → ℕ) (s : Sound w) where
   pub outputs-run : Runs (outputFirst w) (outputCount w) (w 3) 0 (inputTermsIn w)
-  unfolding frameOk outputRows
+  unfolding tablesOk outputRows
   outputs-run =
       runs-from outputRow outputNext (outputAt w) w (w 10) 11 (λ n. n) (outputFirst w) (outputCount w) (λ i n e. output-row w i n e) (w 3) 0 (inputTermsIn w) (passed _ (s .frame) .1 .1 .0)
 

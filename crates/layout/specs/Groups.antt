@@ -14,8 +14,8 @@ use Rattle.model.specs.Image.{decode}
 use Rattle.layout.specs.Tables.{inputTermsIn, outputTermsIn, inputPointsIn, wordsIn, conclusionsIn, inputRows, outputRows, inputTermRows, outputTermRows, outputPointRows, ruleRows, conditionRows, headerOk}
 
 -- the header and the tables of variables, terms and points are laid out as a block's
-unfoldable pub frameOk : (ℕ → ℕ) → Bool
-frameOk w = every (
+unfoldable pub tablesOk : (ℕ → ℕ) → Bool
+tablesOk w = every (
     headerOk w
     ∷ inputRows w
     ∷ outputRows w
@@ -54,6 +54,6 @@ rulesOk w = every (
 
 -- the words of an accepted image
 pub record Sound (w : ℕ → ℕ) : Type 0 where
-  pub frame : frameOk w ≡ true
+  pub frame : tablesOk w ≡ true
   pub variables : variablesOk w ≡ true
   pub rules : rulesOk w ≡ true

@@ -10,7 +10,7 @@ use borrow.Author.Tests.{eq-eqb, ne-eqb}
 use Rattle.model.specs.Basic.{every}
 use Rattle.model.specs.Outcome.{accepted, refused, verdictIn}
 use Rattle.model.specs.Image.{wordAt, decode, isImageOf, loads}
-use Rattle.layout.specs.Groups.{frameOk, variablesOk, rulesOk}
+use Rattle.layout.specs.Groups.{tablesOk, variablesOk, rulesOk}
 use Rattle.layout.proofs.Groups.{groups}
 
 -- four tests in a row
@@ -42,17 +42,17 @@ module _ (img : List ℕ) (small : (k : ℕ) → getD img k 0 < 256) where
 
   pub wrong-length : (n : ℕ) → n ≡ wordAt img 1 → (length img ≡ n * 4 → ⊥) → Is false
   wrong-length n e h =
-      groups img small ∙ at-once long (frameOk w) (variablesOk w) (rulesOk w) (ne-eqb (length img) (wordAt img 1 * 4) (λ q. h (q ∙ ap (λ (x : ℕ). x * 4) (sym e))))
+      groups img small ∙ at-once long (tablesOk w) (variablesOk w) (rulesOk w) (ne-eqb (length img) (wordAt img 1 * 4) (λ q. h (q ∙ ap (λ (x : ℕ). x * 4) (sym e))))
 
-  pub no-frame : frameOk w ≡ false → Is false
-  no-frame h = groups img small ∙ at-second long (frameOk w) (variablesOk w) (rulesOk w) h
+  pub no-frame : tablesOk w ≡ false → Is false
+  no-frame h = groups img small ∙ at-second long (tablesOk w) (variablesOk w) (rulesOk w) h
 
   pub no-variables : variablesOk w ≡ false → Is false
-  no-variables h = groups img small ∙ at-third long (frameOk w) (variablesOk w) (rulesOk w) h
+  no-variables h = groups img small ∙ at-third long (tablesOk w) (variablesOk w) (rulesOk w) h
 
-  pub by-rules : (n : ℕ) → n ≡ wordAt img 1 → length img ≡ n * 4 → frameOk w ≡ true → variablesOk w ≡ true → Is (rulesOk w)
+  pub by-rules : (n : ℕ) → n ≡ wordAt img 1 → length img ≡ n * 4 → tablesOk w ≡ true → variablesOk w ≡ true → Is (rulesOk w)
   by-rules n e l f v =
-      groups img small ∙ at-last long (frameOk w) (variablesOk w) (rulesOk w) (eq-eqb (length img) (wordAt img 1 * 4) (l ∙ ap (λ (x : ℕ). x * 4) e)) f v
+      groups img small ∙ at-last long (tablesOk w) (variablesOk w) (rulesOk w) (eq-eqb (length img) (wordAt img 1 * 4) (l ∙ ap (λ (x : ℕ). x * 4) e)) f v
 
 pub verdict-yes : (img : List ℕ) → isImageOf img (decode (wordAt img)) ≡ true → accepted tt ≡ verdictIn (loads img)
 unfolding loads

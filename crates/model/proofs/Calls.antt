@@ -12,7 +12,7 @@ use Rattle.model.specs.Outcome.{Outcome, accepted, refused}
 use Rattle.model.specs.Reader.{reads}
 use Rattle.model.specs.Image.{image}
 use Rattle.model.specs.Readings.{realOf, valueIn}
-use Rattle.model.specs.Evaluation.{heldOf, noAnswer, padded, Evaluated, evaluate, fresh, heldAfterAll, fromFresh, Call}
+use Rattle.model.specs.Evaluation.{heldOf, noAnswer, padded, CallResult, evaluate, fresh, heldAfterAll, fromFresh, Call}
 use Rattle.model.specs.declared.Answer.{Answer}
 use Rattle.model.specs.declared.Mark.{Mark}
 use Rattle.model.specs.declared.Mark.the-variants.{Fired, Default, Held as HeldMark}
@@ -57,7 +57,7 @@ whole z = Real (ofInt binary32 z)
 abbrev answer : Mark → ℤ → ℕ → ℕ → Answer
 answer m t s f = record { mark = m; thousandths = record { 0 = t }; sum = s; value = ofBits binary64 f }
 
-abbrev answered : Answer → Answer → ℤ → ℤ → Outcome Evaluated
+abbrev answered : Answer → Answer → ℤ → ℤ → Outcome CallResult
 answered a c x y = accepted (record { answers = padded noAnswer (a ∷ c ∷ []); held = heldOf (x ∷ y ∷ []) })
 
 abbrev list : List Call
@@ -88,7 +88,7 @@ unfolding opened
 record-after = refl
 
 -- THE ORDER OF CHECKS, and what is wrong with a held record: below its RANGE, above it, an unused place
-abbrev onRecord : List ℕ → List Reading → ℕ → List ℤ → Outcome Evaluated
+abbrev onRecord : List ℕ → List Reading → ℕ → List ℤ → Outcome CallResult
 onRecord img rs n xs = evaluate img rs n (heldOf xs)
 
 checks-in-order :

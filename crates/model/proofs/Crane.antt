@@ -13,7 +13,7 @@ use Rattle.model.specs.Bounds.{M}
 use Rattle.model.specs.Block.{Point, Term, Singleton, real, Condition, term, two, and, Rule, Block, min-max, by-min, by-max}
 use Rattle.model.specs.Outcome.{Outcome, accepted, refused}
 use Rattle.model.specs.Reader.{reads}
-use Rattle.model.specs.Evaluation.{termDegrees, heldOf, freshOf, noAnswer, padded, called}
+use Rattle.model.specs.Evaluation.{termDegrees, heldOf, freshOf, noAnswer, padded, evaluateBlock}
 use Rattle.model.specs.declared.Answer.{Answer}
 use Rattle.model.specs.declared.Mark.the-variants.{Fired}
 use Rattle.model.specs.declared.Reading.the-variants.{Real}
@@ -128,7 +128,7 @@ abbrev power : Answer
 power = record { mark = Fired; thousandths = record { 0 = pos 7200 }; sum = 1000000; value = ofBits binary64 0x401ccccccccccccd }
 
 crane-answers :
-    called illustratedBlock (Real (ofInt binary32 (pos 12)) ∷ Real (ofInt binary32 (pos 4)) ∷ []) 2 (freshOf illustratedBlock)
+    evaluateBlock illustratedBlock (Real (ofInt binary32 (pos 12)) ∷ Real (ofInt binary32 (pos 4)) ∷ []) 2 (freshOf illustratedBlock)
     ≡ accepted (record { answers = padded noAnswer (power ∷ []); held = heldOf (pos 7200 ∷ []) })
 unfolding opened
 crane-answers = refl

@@ -17,7 +17,7 @@ use Rattle.model.specs.Reader.{reads}
 use Rattle.model.specs.Degrees.{nearestℤ, pairs, termDegree}
 use Rattle.model.specs.Image.{image}
 use Rattle.model.specs.Readings.{realOf, valueIn}
-use Rattle.model.specs.Evaluation.{ruleDegree, moment, sumOf, freshOf, noAnswer, answersIn, evaluate}
+use Rattle.model.specs.Evaluation.{ruleDegree, moment, sumOf, freshOf, noAnswer, answersAfter, evaluate}
 use Rattle.model.proofs.Opened.{opened}
 use Rattle.model.proofs.Example.{clear, trust}
 
@@ -68,7 +68,7 @@ table =
     ∷ record {
       Value = Answer;
       printed = record { mark = Fired; thousandths = record { 0 = pos 25000 }; sum = 1000000; value = fin false 25 (pos 0) };
-      defined = getD (answersIn (evaluate (image trust) (Real (ofInt binary32 (pos 30)) ∷ []) 1 (freshOf trust))) 0 noAnswer;
+      defined = getD (answersAfter (evaluate (image trust) (Real (ofInt binary32 (pos 30)) ∷ []) 1 (freshOf trust))) 0 noAnswer;
     }
     -- points (0, 0), (3, 1): at 1 and at 2
     ∷ number 333333 (termDegree third (pos 1000))

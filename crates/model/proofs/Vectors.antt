@@ -10,7 +10,7 @@ use Rattle.model.specs.Outcome.{Outcome, accepted, refused, andThen}
 use Rattle.model.specs.Reader.{reads}
 use Rattle.model.specs.Image.{words, bytesOf}
 use Rattle.model.specs.Listing.{listing}
-use Rattle.model.specs.Evaluation.{heldOf, noAnswer, padded, Evaluated, evaluate, fresh}
+use Rattle.model.specs.Evaluation.{heldOf, noAnswer, padded, CallResult, evaluate, fresh}
 use Rattle.model.specs.declared.Answer.{Answer}
 use Rattle.model.specs.declared.Mark.{Mark}
 use Rattle.model.specs.declared.Mark.the-variants.{Fired, Default, Held as HeldMark}
@@ -67,13 +67,13 @@ block-fresh = refl
 abbrev real : ℕ → Reading
 real n = Real (ofBits binary32 n)
 
-abbrev on : List Reading → List ℤ → Outcome Evaluated
+abbrev on : List Reading → List ℤ → Outcome CallResult
 on rs held = evaluate (bytesOf blockWords) rs 1 (heldOf held)
 
 abbrev answer : Mark → ℤ → ℕ → ℕ → Answer
 answer m t s f = record { mark = m; thousandths = record { 0 = t }; sum = s; value = ofBits binary64 f }
 
-abbrev after : List Answer → List ℤ → Outcome Evaluated
+abbrev after : List Answer → List ℤ → Outcome CallResult
 after given held = accepted (record { answers = padded noAnswer given; held = heldOf held })
 
 call-1 : on (real 1741667632 ∷ []) (pos 0 ∷ pos 0 ∷ pos 0 ∷ pos 0 ∷ pos 0 ∷ pos 0 ∷ [])

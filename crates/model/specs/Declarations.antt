@@ -102,20 +102,20 @@ lastPoints (t ∷ u ∷ ts) = lastPoints (u ∷ ts)
 unfoldable pub pointsOf : ℕ → Block → List Point
 pointsOf i b = lastPoints (termsOf i b)
 
-unfoldable pub position : ℕ → Part
-position i r =
+unfoldable pub pointPosition : ℕ → Part
+pointPosition i r =
     judged (aCrisp r ((mayFollow (map (λ p. p .at) (pointsOf i (r .block))) (valueHere r), 7) ∷ [])) r (advance r)
 
-unfoldable pub degree : ℕ → ℤ → Part
-degree i x r =
+unfoldable pub pointDegree : ℕ → ℤ → Part
+pointDegree i x r =
     judged (aUnit r) r (advance (change (addPoint i (record { at = x; degree = unitOf (text r) })) r))
 
-unfoldable pub pointFrom : ℕ → Part
-pointFrom i r = r ▸ position i ▸ expect COMMA ▸ degree i (valueHere r) ▸ expect CLOSE
+unfoldable pub pointBody : ℕ → Part
+pointBody i r = r ▸ pointPosition i ▸ expect COMMA ▸ pointDegree i (valueHere r) ▸ expect CLOSE
 
 unfoldable pub point : ℕ → Part
 point i r =
-    judged ((is OPEN r, 2) ∷ (ltb (length (pointsOf i (r .block))) pointLimit, 6) ∷ []) r (pointFrom i (advance r))
+    judged ((is OPEN r, 2) ∷ (ltb (length (pointsOf i (r .block))) pointLimit, 6) ∷ []) r (pointBody i (advance r))
 
 unfoldable pub endOfPoints : ℕ → Part
 endOfPoints i r =
@@ -135,11 +135,11 @@ fuzzifyOf i r =
     judged (aName r ((isEmpty (termsOf i (r .block)), 4) ∷ (isInput (text r) (r .block), 5) ∷ []))
     r (advance r ▸ inputTerm i ▸ repeated TERM (inputTerm i) ▸ expect END-FUZZIFY)
 
-unfoldable pub fuzzifyNamed : Part
-fuzzifyNamed r = fuzzifyOf (inputOf (text r) (r .block)) r
+unfoldable pub fuzzifyVariable : Part
+fuzzifyVariable r = fuzzifyOf (inputOf (text r) (r .block)) r
 
 unfoldable pub fuzzify : Part
-fuzzify r = r ▸ expect FUZZIFY ▸ fuzzifyNamed
+fuzzify r = r ▸ expect FUZZIFY ▸ fuzzifyVariable
 
 -- DEFUZZIFY
 abbrev pub withSingleton : Singleton → Output → Output
@@ -154,19 +154,19 @@ withDefault x v = record { name = v .name; terms = v .terms; range = v .range; d
 unfoldable pub changeOutput : (Output → Output) → ℕ → Block → Block
 changeOutput f o = withOutputs (update f o)
 
-unfoldable pub crisp : Part
-crisp r = judged (aCrisp r []) r (advance r)
+unfoldable pub lowerEnd : Part
+lowerEnd r = judged (aCrisp r []) r (advance r)
 
 unfoldable pub upperEnd : ℕ → ℤ → Part
 upperEnd o x r =
     judged (aCrisp r ((ltZ x (valueHere r), 7) ∷ []))
     r (advance (change (changeOutput (withRange (record { least = x; most = valueHere r })) o) r))
 
-unfoldable pub rangeFrom : ℕ → Part
-rangeFrom o r = r ▸ crisp ▸ expect DOTS ▸ upperEnd o (valueHere r) ▸ expect CLOSE ▸ expect SEMICOLON
+unfoldable pub rangeBody : ℕ → Part
+rangeBody o r = r ▸ lowerEnd ▸ expect DOTS ▸ upperEnd o (valueHere r) ▸ expect CLOSE ▸ expect SEMICOLON
 
-unfoldable pub range : ℕ → Part
-range o r = if is RANGE r then rangeFrom o (r ▸ advance ▸ expect OPEN) else r
+unfoldable pub rangePart : ℕ → Part
+rangePart o r = if is RANGE r then rangeBody o (r ▸ advance ▸ expect OPEN) else r
 
 -- a number inside the RANGE of output o, and what it changes
 unfoldable pub figure : (ℤ → Output → Output) → ℕ → Part
@@ -174,14 +174,14 @@ figure with o r =
     judged (aCrisp r ((inRange (rangeOf o (r .block)) (valueHere r), 7) ∷ []))
     r (advance (change (changeOutput (with (valueHere r)) o) r))
 
-unfoldable pub singletonNamed : ℕ → Part
-singletonNamed o r =
+unfoldable pub singletonBody : ℕ → Part
+singletonBody o r =
     judged (aName r ((not (isSingleton o (text r) (r .block)), 4) ∷ []))
     r (advance r ▸ expect ASSIGN ▸ figure (λ x. withSingleton (record { name = text r; at = x })) o ▸ expect SEMICOLON)
 
 unfoldable pub outputTerm : ℕ → Part
 outputTerm o r =
-    judged ((is TERM r, 2) ∷ (ltb (length (singletonsOf o (r .block))) termLimit, 6) ∷ []) r (singletonNamed o (advance r))
+    judged ((is TERM r, 2) ∷ (ltb (length (singletonsOf o (r .block))) termLimit, 6) ∷ []) r (singletonBody o (advance r))
 
 unfoldable pub defaultValue : ℕ → Part
 defaultValue o r = if is NC r then advance r else figure withDefault o r
@@ -190,12 +190,12 @@ unfoldable pub defuzzifyOf : ℕ → Part
 defuzzifyOf o r =
     judged (aName r ((isEmpty (singletonsOf o (r .block)), 4) ∷ (isOutput (text r) (r .block), 5) ∷ []))
     r
-    (advance r ▸ range o ▸ outputTerm o ▸ repeated TERM (outputTerm o)
+    (advance r ▸ rangePart o ▸ outputTerm o ▸ repeated TERM (outputTerm o)
     ▸ expect METHOD ▸ expect COLON ▸ expect CoGS ▸ expect SEMICOLON
     ▸ expect DEFAULT ▸ expect ASSIGN ▸ defaultValue o ▸ expect SEMICOLON ▸ expect END-DEFUZZIFY)
 
-unfoldable pub defuzzifyNamed : Part
-defuzzifyNamed r = defuzzifyOf (outputOf (text r) (r .block)) r
+unfoldable pub defuzzifyVariable : Part
+defuzzifyVariable r = defuzzifyOf (outputOf (text r) (r .block)) r
 
 unfoldable pub defuzzify : Part
-defuzzify r = r ▸ expect DEFUZZIFY ▸ defuzzifyNamed
+defuzzify r = r ▸ expect DEFUZZIFY ▸ defuzzifyVariable

@@ -58,25 +58,25 @@ moment (x ∷ xs) (h ∷ hs) = x *ℤ pos h +ℤ moment xs hs
 abbrev pub sumOf : List ℕ → ℕ
 sumOf hs = total (λ h. h) hs
 
-abbrev pub answer : Mark → ℤ → ℕ → Answer
-answer m t s = record { mark = m; thousandths = record { 0 = t }; sum = s; value = floatOf t }
+abbrev pub answerWith : Mark → ℤ → ℕ → Answer
+answerWith m t s = record { mark = m; thousandths = record { 0 = t }; sum = s; value = floatOf t }
 
 abbrev pub unfired : Option ℤ → ℤ → Answer
-unfired none held = answer HeldMark held 0
-unfired (some x) held = answer Default x 0
+unfired none held = answerWith HeldMark held 0
+unfired (some x) held = answerWith Default x 0
 
 -- by its heights and its held figure
-unfoldable pub answerOf : Output → List ℕ → ℤ → Answer
-answerOf v hs held =
-    if ltb 0 (sumOf hs) then answer Fired (nearestℤ (moment (map (λ t. t .at) (v .terms)) hs) (sumOf hs)) (sumOf hs)
+unfoldable pub outputAnswer : Output → List ℕ → ℤ → Answer
+outputAnswer v hs held =
+    if ltb 0 (sumOf hs) then answerWith Fired (nearestℤ (moment (map (λ t. t .at) (v .terms)) hs) (sumOf hs)) (sumOf hs)
     else unfired (v .default) held
 
 -- by the heights of all terms; n is the first term of the next output
-unfoldable pub answersFrom : (ℕ → ℕ) → ℕ → List Output → List ℤ → List Answer
-answersFrom h n [] held = []
-answersFrom h n (v ∷ vs) [] = []
-answersFrom h n (v ∷ vs) (x ∷ held) =
-    answerOf v (tab h (length (v .terms)) n) x ∷ answersFrom h (n + length (v .terms)) vs held
+unfoldable pub outputAnswers : (ℕ → ℕ) → ℕ → List Output → List ℤ → List Answer
+outputAnswers h n [] held = []
+outputAnswers h n (v ∷ vs) [] = []
+outputAnswers h n (v ∷ vs) (x ∷ held) =
+    outputAnswer v (tab h (length (v .terms)) n) x ∷ outputAnswers h (n + length (v .terms)) vs held
 
 abbrev pub noAnswer : Answer
 noAnswer = record { mark = None; thousandths = record { 0 = pos 0 }; sum = 0; value = fin false 0 (pos 0) }
@@ -124,35 +124,35 @@ orZero (some x) = x
 abbrev pub firstWrong : List (Option ℤ) → ℕ
 firstWrong xs = indexOf isNone xs
 
-pub record Evaluated : Type 0 where
+pub record CallResult : Type 0 where
   pub answers : List Answer
   pub held : Held
 
-unfoldable pub answers : Block → List ℤ → List ℤ → List Answer
-answers b xs held =
-    answersFrom (height b (termDegrees (b .inputs) xs)) (length (inputTerms b)) (b .outputs) held
+unfoldable pub blockAnswers : Block → List ℤ → List ℤ → List Answer
+blockAnswers b xs held =
+    outputAnswers (height b (termDegrees (b .inputs) xs)) (length (inputTerms b)) (b .outputs) held
 
 -- an accepted call stores every output's thousandths
-abbrev pub evaluated : List Answer → Evaluated
-evaluated given = record { answers = padded noAnswer given; held = heldOf (map (λ a. a .thousandths .0) given) }
+abbrev pub callResult : List Answer → CallResult
+callResult given = record { answers = padded noAnswer given; held = heldOf (map (λ a. a .thousandths .0) given) }
 
-unfoldable pub called : Block → List Reading → ℕ → Held → Outcome Evaluated
-called b rs n h =
+unfoldable pub evaluateBlock : Block → List Reading → ℕ → Held → Outcome CallResult
+evaluateBlock b rs n h =
     if not (eqb n (length (b .inputs))) then refused 12 none else
     if not (heldOk (b .outputs) (figuresOf h)) then refused 13 none else
     if ltb (firstWrong (valuesOf (b .inputs) rs)) (length (b .inputs)) then refused 14 (some (firstWrong (valuesOf (b .inputs) rs))) else
-    accepted (evaluated (answers b (map orZero (valuesOf (b .inputs) rs)) (figuresOf h)))
+    accepted (callResult (blockAnswers b (map orZero (valuesOf (b .inputs) rs)) (figuresOf h)))
 
 -- image, readings and their count, held record
-unfoldable pub evaluate : List ℕ → List Reading → ℕ → Held → Outcome Evaluated
-evaluate img rs n h = andThen (loads img) (λ b. called b rs n h)
+unfoldable pub evaluate : List ℕ → List Reading → ℕ → Held → Outcome CallResult
+evaluate img rs n h = andThen (loads img) (λ b. evaluateBlock b rs n h)
 
 -- a refused call answers all places as none and leaves the record
-abbrev pub answersIn : Outcome Evaluated → List Answer
-answersIn (accepted e) = e .answers
-answersIn (refused n p) = padded noAnswer []
+abbrev pub answersAfter : Outcome CallResult → List Answer
+answersAfter (accepted e) = e .answers
+answersAfter (refused n p) = padded noAnswer []
 
-abbrev pub heldAfter : Held → Outcome Evaluated → Held
+abbrev pub heldAfter : Held → Outcome CallResult → Held
 heldAfter h (accepted e) = e .held
 heldAfter h (refused n p) = h
 
@@ -170,11 +170,11 @@ pub record Call : Type 0 where
   pub count : ℕ
 
 -- each call gets the record that the one before returned or left
-unfoldable pub calls : List ℕ → Held → List Call → List (Outcome Evaluated)
-calls img h [] = []
-calls img h (c ∷ cs) =
-    let e : Outcome Evaluated = evaluate img (c .readings) (c .count) h in
-    e ∷ calls img (heldAfter h e) cs
+unfoldable pub evaluateList : List ℕ → Held → List Call → List (Outcome CallResult)
+evaluateList img h [] = []
+evaluateList img h (c ∷ cs) =
+    let e : Outcome CallResult = evaluate img (c .readings) (c .count) h in
+    e ∷ evaluateList img (heldAfter h e) cs
 
 -- the record after the list
 unfoldable pub heldAfterAll : List ℕ → Held → List Call → Held
@@ -182,5 +182,5 @@ heldAfterAll img h [] = h
 heldAfterAll img h (c ∷ cs) = heldAfterAll img (heldAfter h (evaluate img (c .readings) (c .count) h)) cs
 
 -- the calls on an image from its fresh record on
-unfoldable pub fromFresh : List ℕ → List Call → Outcome (List (Outcome Evaluated))
-fromFresh img cs = andThen (fresh img) (λ h. accepted (calls img h cs))
+unfoldable pub fromFresh : List ℕ → List Call → Outcome (List (Outcome CallResult))
+fromFresh img cs = andThen (fresh img) (λ h. accepted (evaluateList img h cs))

@@ -13,7 +13,7 @@ pub mod Parentheses
 pub mod WellFormed
 pub mod Image
 pub mod Listing
-pub mod Entries
+pub mod Buffers
 pub mod Degrees
 pub mod Readings
 pub mod Evaluation

@@ -42,28 +42,28 @@ afterPoint [] = []
 afterPoint (c ∷ s) = 46 ∷ c ∷ s
 
 -- thousandths
-unfoldable pub natural : ℕ → List ℕ
-natural n =
+unfoldable pub thousandthsText : ℕ → List ℕ
+thousandthsText n =
     digits (n / 1000) ⊕ afterPoint (trimmed ((48 + n / 100 % 10) ∷ (48 + n / 10 % 10) ∷ (48 + n % 10) ∷ []))
 
-unfoldable pub crisp : ℤ → List ℕ
-crisp (pos n) = natural n
-crisp (negsuc n) = bytes "-" ⊕ natural (suc n)
+unfoldable pub crispText : ℤ → List ℕ
+crispText (pos n) = thousandthsText n
+crispText (negsuc n) = bytes "-" ⊕ thousandthsText (suc n)
 
 -- a degree or a weight, from millionths
-abbrev pub unit : ℕ → List ℕ
-unit d = natural (d / 1000)
+abbrev pub unitText : ℕ → List ℕ
+unitText d = thousandthsText (d / 1000)
 
 -- CONDITIONS
 -- an input term by its names
-pub record Named : Type 0 where
+pub record TermNames : Type 0 where
   pub variable : List ℕ
   pub term : List ℕ
 
-unfoldable pub inputTermNames : Block → List Named
+unfoldable pub inputTermNames : Block → List TermNames
 inputTermNames b = gather (λ v. map (λ t. record { variable = v .name; term = t .name }) (v .terms)) (b .inputs)
 
-unfoldable pub inputTermName : Block → ℕ → Named
+unfoldable pub inputTermName : Block → ℕ → TermNames
 inputTermName b t = getD (inputTermNames b) t (record { variable = []; term = [] })
 
 abbrev pub operator : Op → List ℕ
@@ -75,14 +75,14 @@ abbrev pub wrapped : ℕ → ℕ → List ℕ → List ℕ
 wrapped l k s = if ltb l k then bytes "(" ⊕ s ⊕ bytes ")" else s
 
 -- the NOT right over a term stands after IS
-abbrev pub negated : (ℕ → Named) → Condition → List ℕ → List ℕ
-negated f (term t) s = f t .variable ⊕ bytes " IS NOT " ⊕ f t .term
-negated f (neg c) s = bytes "NOT " ⊕ wrapped besideNot (form (neg c)) s
-negated f (two o a b) s = bytes "NOT " ⊕ wrapped besideNot (form (two o a b)) s
+abbrev pub negatedText : (ℕ → TermNames) → Condition → List ℕ → List ℕ
+negatedText f (term t) s = f t .variable ⊕ bytes " IS NOT " ⊕ f t .term
+negatedText f (neg c) s = bytes "NOT " ⊕ wrapped besideNot (form (neg c)) s
+negatedText f (two o a b) s = bytes "NOT " ⊕ wrapped besideNot (form (two o a b)) s
 
-unfoldable pub conditionText : (ℕ → Named) → Condition → List ℕ
+unfoldable pub conditionText : (ℕ → TermNames) → Condition → List ℕ
 conditionText f (term t) = f t .variable ⊕ bytes " IS " ⊕ f t .term
-conditionText f (neg c) = negated f c (conditionText f c)
+conditionText f (neg c) = negatedText f c (conditionText f c)
 conditionText f (two o a b) =
     wrapped (leftOf o) (form a) (conditionText f a) ⊕ operator o ⊕ wrapped (rightOf o) (form b) (conditionText f b)
 
@@ -98,7 +98,7 @@ abbrev pub outputLine : Output → List ℕ
 outputLine v = bytes "  " ⊕ v .name ⊕ bytes " : REAL;\n"
 
 abbrev pub pointText : Point → List ℕ
-pointText p = bytes "(" ⊕ crisp (p .at) ⊕ bytes ", " ⊕ unit (p .degree) ⊕ bytes ")"
+pointText p = bytes "(" ⊕ crispText (p .at) ⊕ bytes ", " ⊕ unitText (p .degree) ⊕ bytes ")"
 
 unfoldable pub termLine : Term → List ℕ
 termLine t = bytes "  TERM " ⊕ t .name ⊕ bytes " := " ⊕ commaed (map pointText (t .points)) ⊕ bytes ";\n"
@@ -108,14 +108,14 @@ fuzzifyText v = bytes "FUZZIFY " ⊕ v .name ⊕ bytes "\n" ⊕ gather termLine 
 
 abbrev pub rangeLine : Option Range → List ℕ
 rangeLine none = []
-rangeLine (some g) = bytes "  RANGE(" ⊕ crisp (g .least) ⊕ bytes ".." ⊕ crisp (g .most) ⊕ bytes ");\n"
+rangeLine (some g) = bytes "  RANGE(" ⊕ crispText (g .least) ⊕ bytes ".." ⊕ crispText (g .most) ⊕ bytes ");\n"
 
 unfoldable pub singletonLine : Singleton → List ℕ
-singletonLine s = bytes "  TERM " ⊕ s .name ⊕ bytes " := " ⊕ crisp (s .at) ⊕ bytes ";\n"
+singletonLine s = bytes "  TERM " ⊕ s .name ⊕ bytes " := " ⊕ crispText (s .at) ⊕ bytes ";\n"
 
 abbrev pub defaultText : Option ℤ → List ℕ
 defaultText none = bytes "NC"
-defaultText (some x) = crisp x
+defaultText (some x) = crispText x
 
 unfoldable pub defuzzifyText : Output → List ℕ
 defuzzifyText v =
@@ -145,7 +145,7 @@ conclusionText b k =
     getD (map (λ v. v .name) (b .outputs)) (k .output) [] ⊕ bytes " IS " ⊕ getD (map (λ t. t .name) (terms b)) (k .term) []
 
 abbrev pub weightText : ℕ → List ℕ
-weightText w = if eqb w M then [] else bytes " WITH " ⊕ unit w
+weightText w = if eqb w M then [] else bytes " WITH " ⊕ unitText w
 
 unfoldable pub ruleLine : Block → Rule → List ℕ
 ruleLine b r =

@@ -132,5 +132,5 @@ abbrev pub emptyBlock : Block
 emptyBlock = record { name = []; inputs = []; outputs = []; ruleBlock = []; pair = min-max; act = by-min; accu = by-max; rules = [] }
 
 -- a name of its own: of the function block, of the rule block
-unfoldable pub named : (List ℕ → Block → Block) → Part
-named with r = judged (aName r []) r (advance (change (with (text r)) r))
+unfoldable pub ownName : (List ℕ → Block → Block) → Part
+ownName with r = judged (aName r []) r (advance (change (with (text r)) r))

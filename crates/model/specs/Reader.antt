@@ -11,7 +11,7 @@ use Rattle.model.specs.Outcome.{Outcome, accepted, refused}
 use Rattle.model.specs.Keywords.{END, NAME, DEFUZZIFY, END-FUNCTION-BLOCK, END-VAR, FUNCTION-BLOCK, FUZZIFY, VAR-INPUT, VAR-OUTPUT}
 use Rattle.model.specs.Tokens.{tokens}
 use Rattle.model.specs.Block.{Block}
-use Rattle.model.specs.Parse.{Parse, Part, is, advance, judged, expect, repeated, withName, emptyBlock, named}
+use Rattle.model.specs.Parse.{Parse, Part, is, advance, judged, expect, repeated, withName, emptyBlock, ownName}
 use Rattle.model.specs.Declarations.{inputDeclaration, outputDeclaration, fuzzify, defuzzify}
 use Rattle.model.specs.Rules.{ruleBlock}
 
@@ -24,7 +24,7 @@ endOfBlock r = judged ((is END-FUNCTION-BLOCK r, 2) ∷ (partsThere (r .block), 
 
 unfoldable pub functionBlock : Part
 functionBlock r =
-    r ▸ expect FUNCTION-BLOCK ▸ named withName
+    r ▸ expect FUNCTION-BLOCK ▸ ownName withName
     ▸ expect VAR-INPUT ▸ inputDeclaration ▸ repeated NAME inputDeclaration ▸ expect END-VAR
     ▸ expect VAR-OUTPUT ▸ outputDeclaration ▸ repeated NAME outputDeclaration ▸ expect END-VAR
     ▸ fuzzify ▸ repeated FUZZIFY fuzzify

@@ -10,16 +10,16 @@ use Rattle.model.specs.Bounds.{M, ruleLimit, wordLimit, conclusionLimit,
 use Rattle.model.specs.Keywords.{NUMBER, OPEN, CLOSE, COLON, SEMICOLON, ACCU, ACT, AND, ASUM, BDIF, BSUM, END-RULEBLOCK, IF, IS, MAX, MIN, NOT, OR, PROD, RULE, RULEBLOCK, THEN, WITH}
 use Rattle.model.specs.Tokens.{decimal, unitOf, isRuleNumber}
 use Rattle.model.specs.Block.{Op, Condition, Conclusion, Rule, Pair, Block, inputFirst, outputFirst, conclusions, and, or, term, neg, two, min-max, prod-asum, bdif-bsum, by-max, by-bsum, by-min, by-prod}
-use Rattle.model.specs.Parse.{Parse, Part, restOf, kind, text, is, refuse, advance, change, judged, expect, repeated, listed, aName, aUnit, withRules, withRuleBlock, withPair, withAct, withAccu, named}
+use Rattle.model.specs.Parse.{Parse, Part, restOf, kind, text, is, refuse, advance, change, judged, expect, repeated, listed, aName, aUnit, withRules, withRuleBlock, withPair, withAct, withAccu, ownName}
 use Rattle.model.specs.Declarations.{inputOf, outputOf, isInput, isOutput, termOf, singletonOf, isTerm, isSingleton}
 
 -- CONDITIONS
-pub record Got : Type 0 where
+pub record ConditionRead : Type 0 where
   pub parse : Parse
   pub tree : Condition
 
-abbrev pub got : Parse → Condition → Got
-got r c = record { parse = r; tree = c }
+abbrev pub conditionRead : Parse → Condition → ConditionRead
+conditionRead r c = record { parse = r; tree = c }
 
 -- the current token as one condition word more
 unfoldable pub word : Part
@@ -29,57 +29,57 @@ word r =
     else refuse 6 r
 
 -- the term of input i with the name that stands here
-unfoldable pub termNamed : ℕ → Parse → Got
-termNamed i r =
-    got
+unfoldable pub conditionTerm : ℕ → Parse → ConditionRead
+conditionTerm i r =
+    conditionRead
     (judged (aName r ((isTerm i (text r) (r .block), 5) ∷ [])) r (advance r))
     (term (inputFirst i (r .block) + termOf i (text r) (r .block)))
 
-abbrev pub negated : Got → Got
-negated g = got (g .parse) (neg (g .tree))
+abbrev pub negatedRead : ConditionRead → ConditionRead
+negatedRead g = conditionRead (g .parse) (neg (g .tree))
 
 -- [NOT] term
-unfoldable pub termHere : ℕ → Parse → Got
-termHere i r = if is NOT r then negated (termNamed i (word r)) else termNamed i r
+unfoldable pub termOrNot : ℕ → Parse → ConditionRead
+termOrNot i r = if is NOT r then negatedRead (conditionTerm i (word r)) else conditionTerm i r
 
 -- input IS [NOT] term
-unfoldable pub subcondition : Parse → Got
+unfoldable pub subcondition : Parse → ConditionRead
 subcondition r =
-    termHere (inputOf (text r) (r .block))
+    termOrNot (inputOf (text r) (r .block))
     (judged (aName r ((isInput (text r) (r .block), 5) ∷ [])) r (word r) ▸ expect IS)
 
 -- part {k part}, grouped to the left
-unfoldable pub chainOn : ℕ → (Parse → Got) → ℕ → Op → Got → Got
+unfoldable pub chainOn : ℕ → (Parse → ConditionRead) → ℕ → Op → ConditionRead → ConditionRead
 chainOn zero part k o g = g
 chainOn (suc n) part k o g = elim (is k (g .parse)) [
   | true ↦
-      let h : Got = part (word (g .parse)) in
-      chainOn n part k o (got (h .parse) (two o (g .tree) (h .tree)))
+      let h : ConditionRead = part (word (g .parse)) in
+      chainOn n part k o (conditionRead (h .parse) (two o (g .tree) (h .tree)))
   | false ↦ g
 ]
 
-unfoldable pub chain : (Parse → Got) → ℕ → Op → Parse → Got
+unfoldable pub chain : (Parse → ConditionRead) → ℕ → Op → Parse → ConditionRead
 chain part k o r = chainOn (suc (length (r .rest))) part k o (part r)
 
 -- [NOT] subcondition, or [NOT] ( condition ), where inner reads from the parenthesis on
-unfoldable pub plain : (Parse → Got) → Parse → Got
+unfoldable pub plain : (Parse → ConditionRead) → Parse → ConditionRead
 plain inner r = if is OPEN r then inner r else subcondition r
 
-unfoldable pub operand : (Parse → Got) → Parse → Got
-operand inner r = if is NOT r then negated (plain inner (word r)) else plain inner r
+unfoldable pub operand : (Parse → ConditionRead) → Parse → ConditionRead
+operand inner r = if is NOT r then negatedRead (plain inner (word r)) else plain inner r
 
-unfoldable pub conditionWith : (Parse → Got) → Parse → Got
+unfoldable pub conditionWith : (Parse → ConditionRead) → Parse → ConditionRead
 conditionWith inner = chain (chain (operand inner) AND and) OR or
 
-abbrev pub closed : Got → Got
-closed g = got (expect CLOSE (g .parse)) (g .tree)
+abbrev pub closed : ConditionRead → ConditionRead
+closed g = conditionRead (expect CLOSE (g .parse)) (g .tree)
 
 -- from an open parenthesis on, where d more may be open at once
-unfoldable pub parenthesis : ℕ → Parse → Got
-parenthesis zero r = got (refuse 6 r) (term 0)
+unfoldable pub parenthesis : ℕ → Parse → ConditionRead
+parenthesis zero r = conditionRead (refuse 6 r) (term 0)
 parenthesis (suc d) r = closed (conditionWith (parenthesis d) (advance r))
 
-unfoldable pub condition : Parse → Got
+unfoldable pub condition : Parse → ConditionRead
 condition = conditionWith (parenthesis depthLimit)
 
 -- RULEBLOCK
@@ -163,7 +163,7 @@ weight r =
 unfoldable pub weighted : Part
 weighted r = if is WITH r then weight (advance r) else r
 
-unfoldable pub ruleGiven : ℕ → Got → Parse
+unfoldable pub ruleGiven : ℕ → ConditionRead → Parse
 ruleGiven n g =
     g .parse ▸ change (addRule n (g .tree)) ▸ expect THEN ▸ listed conclusion ▸ weighted ▸ expect SEMICOLON
 
@@ -175,7 +175,7 @@ rule r = judged ((is RULE r, 2) ∷ (ltb (length (r .block .rules)) ruleLimit, 6
 
 unfoldable pub ruleBlock : Part
 ruleBlock r =
-    r ▸ expect RULEBLOCK ▸ named withRuleBlock
+    r ▸ expect RULEBLOCK ▸ ownName withRuleBlock
     ▸ algorithms ▸ activationLine
     ▸ expect ACCU ▸ expect COLON ▸ accumulation ▸ expect SEMICOLON
     ▸ rule ▸ repeated RULE rule ▸ expect END-RULEBLOCK

@@ -15,13 +15,13 @@ use Rattle.cursor.proofs.Laws as cursor
 use Rattle.block_tables.specs.declared.Tables.{Tables}
 use Rattle.block_tables.specs.View.{blockView, Holds}
 use Rattle.block_updates.specs.Changes.{Changes}
-use Rattle.parse_state.specs.declared.Reading.{Reading}
+use Rattle.parse_state.specs.declared.ParseState.{ParseState}
 use Rattle.parse_state.specs.Reads.{view, Good, Reads}
 
-abbrev pub at : Cursor → Tables → Reading
+abbrev pub at : Cursor → Tables → ParseState
 at c t = record { cursor = c; tables = t }
 
-module _ (s : List ℕ) (p : Reading) where
+module _ (s : List ℕ) (p : ParseState) where
   pub kind-view : kind (view s p) ≡ p .cursor .kind
   unfolding view
   kind-view = cursor.kind-seen s (p .cursor) (blockView s (p .tables)) 0
@@ -44,11 +44,11 @@ unfolding view
 step {part} {s} {c} {d} t h q = record { reads = q .reads (blockView s t) 0; fewer = q .fewer; good = record { fits = q .fits; holds = h } }
 
 -- one after the other
-pub next : {f g : Part} {s : List ℕ} {a b c : Reading} → Reads f s a b → Reads g s b c → Reads (λ r. g (f r)) s a c
+pub next : {f g : Part} {s : List ℕ} {a b c : ParseState} → Reads f s a b → Reads g s b c → Reads (λ r. g (f r)) s a c
 next {f} {g} {s} {a} {b} {c} p q = record { reads = q .reads ∙ ap g (p .reads); fewer = let u = p .fewer in let v = q .fewer in omega arith; good = q .good }
 
 -- the same part by another name
-pub also : {f g : Part} {s : List ℕ} {a b : Reading} → Reads f s a b → f (view s a) ≡ g (view s a) → Reads g s a b
+pub also : {f g : Part} {s : List ℕ} {a b : ParseState} → Reads f s a b → f (view s a) ≡ g (view s a) → Reads g s a b
 also {f} {g} {s} {a} {b} p e = record { reads = p .reads ∙ e; fewer = p .fewer; good = p .good }
 
 -- the tables changed, at a token
@@ -69,15 +69,15 @@ module _ {part : Part} {s : List ℕ} {c : Cursor} {t : Tables} (cs : Checks) (n
   unfolding judged
   refuses {d} w f h g q = also (step t g q) (sym (e ∙ same-end cs (view s (at c t)) nxt ∙ cursor.judged-bad (view s (at c t)) nxt w cs [] f h))
 
-  pub passes : {f : Part} {r : Reading} → cursor.numbered cs ≡ true → fault cs ≡ 0 → Reads f s (at c t) r → f (view s (at c t)) ≡ nxt → Reads part s (at c t) r
+  pub passes : {f : Part} {r : ParseState} → cursor.numbered cs ≡ true → fault cs ≡ 0 → Reads f s (at c t) r → f (view s (at c t)) ≡ nxt → Reads part s (at c t) r
   unfolding judged
   passes {f} {r} n z x y = also x (y ∙ sym (e ∙ same-end cs (view s (at c t)) nxt ∙ cursor.judged-good (view s (at c t)) nxt cs [] n z))
 
 -- AGAIN AND AGAIN: some fuel that is enough gives what is asked for
-abbrev pub Runs : ℕ → Part → List ℕ → Reading → Reading → Type 0
+abbrev pub Runs : ℕ → Part → List ℕ → ParseState → ParseState → Type 0
 Runs k part s p₀ p = (n : ℕ) × (left s (p .cursor) < n) × (repeatOn n k part (view s p) ≡ repeated k part (view s p₀))
 
-abbrev pub Going : ℕ → Part → List ℕ → Reading → Reading → Type 0
+abbrev pub Going : ℕ → Part → List ℕ → ParseState → ParseState → Type 0
 Going k part s p₀ p = (left s (p .cursor) ≤ left s (p₀ .cursor)) × Good s p × Runs k part s p₀ p
 
 module _ (n k : ℕ) (part : Part) (r : Parse) where
@@ -90,27 +90,27 @@ module _ (n k : ℕ) (part : Part) (r : Parse) where
   rest e = simp (repeatOn, e)
 
 module _ (k : ℕ) (part : Part) (s : List ℕ) where
-  pub begins : (p : Reading) → Good s p → Going k part s p p
+  pub begins : (p : ParseState) → Good s p → Going k part s p p
   unfolding repeated view
   begins p g = (omega arith, g, (suc (length (view s p .rest)), cursor.enough s (p .cursor) (blockView s (p .tables)) 0, refl))
 
-  opened : (p₀ p : Reading) (g : Runs k part s p₀ p) → repeatOn (suc (g .0 - 1)) k part (view s p) ≡ repeated k part (view s p₀)
+  opened : (p₀ p : ParseState) (g : Runs k part s p₀ p) → repeatOn (suc (g .0 - 1)) k part (view s p) ≡ repeated k part (view s p₀)
   opened p₀ p g = let q : suc (g .0 - 1) ≡ g .0 = omega arith in ap (λ (m : ℕ). repeatOn m k part (view s p)) q ∙ g .2
 
-  pub goes : (p₀ p r : Reading) → Going k part s p₀ p → p .cursor .kind ≡ k → Reads part s p r → left s (r .cursor) < left s (p .cursor) → Going k part s p₀ r
+  pub goes : (p₀ p r : ParseState) → Going k part s p₀ p → p .cursor .kind ≡ k → Reads part s p r → left s (r .cursor) < left s (p .cursor) → Going k part s p₀ r
   goes p₀ p r g h q m =
       let i : is k (view s p) ≡ true = simp (kind-view s p, eq-eqb _ _ h) in
       let e = sym (turn (g .2 .0 - 1) k part (view s p) i) ∙ opened p₀ p (g .2) in
       let z = g .2 .1 in
       (omega arith, q .good, (g .2 .0 - 1, omega arith, ap (repeatOn (g .2 .0 - 1) k part) (q .reads) ∙ e))
 
-  pub leaves : (p₀ p : Reading) → Going k part s p₀ p → (p .cursor .kind ≡ k → ⊥) → Reads (repeated k part) s p₀ p
+  pub leaves : (p₀ p : ParseState) → Going k part s p₀ p → (p .cursor .kind ≡ k → ⊥) → Reads (repeated k part) s p₀ p
   leaves p₀ p g h =
       let i : is k (view s p) ≡ false = simp (kind-view s p, ne-eqb _ _ h) in
       record { reads = sym (rest (g .2 .0 - 1) k part (view s p) i) ∙ opened p₀ p (g .2); fewer = g .0; good = g .1 }
 
 -- before the token that it asks for, expect advances
-pub expect-advance : (k : ℕ) (s : List ℕ) (p : Reading) → p .cursor .kind ≡ k → expect k (view s p) ≡ advance (view s p)
+pub expect-advance : (k : ℕ) (s : List ℕ) (p : ParseState) → p .cursor .kind ≡ k → expect k (view s p) ≡ advance (view s p)
 unfolding expect
 expect-advance k s p h = simp (kind-view s p, eq-eqb _ _ h)
 
@@ -119,13 +119,13 @@ module _ (part : Part) (s : List ℕ) where
   abbrev pub again : Part
   again r = part (expect COMMA r)
 
-  pub list-goes : (q₀ q r : Reading) (d : Cursor) → Going COMMA again s q₀ q → q .cursor .kind ≡ COMMA → Step advance s (q .cursor) d → left s d < left s (q .cursor)
+  pub list-goes : (q₀ q r : ParseState) (d : Cursor) → Going COMMA again s q₀ q → q .cursor .kind ≡ COMMA → Step advance s (q .cursor) d → left s d < left s (q .cursor)
       → Reads part s (at d (q .tables)) r → Going COMMA again s q₀ r
   list-goes q₀ q r d g k a m x =
       let y = also (next (step (q .tables) (g .1 .holds) a) x) (ap part (sym (expect-advance COMMA s q k))) in
       let z = x .fewer in
       goes COMMA again s q₀ q r g k y (omega arith)
 
-  pub list-leaves : (p q₀ q : Reading) → Reads part s p q₀ → Going COMMA again s q₀ q → (q .cursor .kind ≡ COMMA → ⊥) → Reads (listed part) s p q
+  pub list-leaves : (p q₀ q : ParseState) → Reads part s p q₀ → Going COMMA again s q₀ q → (q .cursor .kind ≡ COMMA → ⊥) → Reads (listed part) s p q
   unfolding listed
   list-leaves p q₀ q x g k = also (next x (leaves COMMA again s q₀ q g k)) refl

@@ -2,7 +2,7 @@
 use cursor::Cursor;
 use block_tables::Tables;
 
-pub struct Reading {
+pub struct ParseState {
     pub cursor: Cursor,
     pub tables: Tables,
 }

@@ -4,25 +4,25 @@ ghost use lib.ListN.{length};
 ghost use Rattle.model.specs.Outcome.{lengthIn, bufferAfter};
 ghost use Rattle.model.specs.Refusals.{writtenOf};
 ghost use Rattle.model.specs.Reader.{start};
-ghost use Rattle.model.specs.Entries.{readsInto};
+ghost use Rattle.model.specs.Buffers.{readsInto};
 ghost use Rattle.parse_state.specs.Reads.{view, Good};
 ghost use Rattle.block_text.specs.Block.{frontText};
 ghost use Prim.Native.Nat.{_≤_};
 use model::Refusal;
 use model::Written;
-use parse_state::Reading;
+use parse_state::ParseState;
 use rule_text::Progress;
 use block_tables::Totals;
 
 // From the rule block on: p is what stands before it.
-fn read_on(s: &[u8], p: Reading, out: &mut [u8]) -> Written
+fn read_on(s: &[u8], p: ParseState, out: &mut [u8]) -> Written
     requires { ⌜ Good (now s) p × (view (now s) p ≡ frontText (start (now s))) × (length (now s) ≤ 65536) ⌝ }
     ensures { λ r. ⌜ writtenOf r ≡ lengthIn (readsInto (length (now (out .entry))) (now (s .entry))) ⌝ }
     ensures buffer { λ r. ⌜ now (out .exit)
         ≡ bufferAfter (now (out .entry)) (readsInto (length (now (out .entry))) (now (s .entry))) ⌝ }
 {
     let t = p.tables;
-    let book = block_symbols::book_of(t);
+    let symbols = block_symbols::symbols_of(t);
     let c = p.cursor;
     let o = rule_heading::rule_heading(s, c);
     let d = o.cursor;
@@ -37,7 +37,7 @@ fn read_on(s: &[u8], p: Reading, out: &mut [u8]) -> Written
     let q = rule_text::rules(
         s,
         &t.names,
-        &book,
+        &symbols,
         &mut rules,
         &mut words,
         &mut conclusions,
@@ -47,7 +47,7 @@ fn read_on(s: &[u8], p: Reading, out: &mut [u8]) -> Written
         },
     );
     let e = q.cursor;
-    let f = block_text::back(s, e, block_text::is_complete(&book));
+    let f = block_text::back(s, e, block_text::is_complete(&symbols));
     if f.why != 0 {
         let r = refusals::refusal_of(f.why, f.place);
         return Written::Refused(r);

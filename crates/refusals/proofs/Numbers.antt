@@ -14,16 +14,16 @@ use Rattle.model.specs.Bounds.{wordLimit, depthLimit}
 use Rattle.model.specs.Block.{Block, Op, Output, and, or}
 use Rattle.model.specs.declared.Pair.{Pair}
 use Rattle.model.specs.Keywords.{END, NAME, OPEN, CLOSE, COMMA, COLON, SEMICOLON, ASSIGN, DOTS, ACCU, ACT, AND, BSUM, CoGS, DEFAULT, DEFUZZIFY, END-DEFUZZIFY, END-FUZZIFY, END-RULEBLOCK, END-VAR, FUNCTION-BLOCK, FUZZIFY, IF, INT, IS, MAX, METHOD, MIN, NC, NOT, OR, PROD, RANGE, REAL, RULE, RULEBLOCK, TERM, THEN, VAR-INPUT, VAR-OUTPUT, WITH}
-use Rattle.model.specs.Parse.{Parse, Part, Checks, is, refuse, advance, change, judged, expect, repeatOn, repeated, listed, named}
-use Rattle.model.specs.Declarations.{variable, inputType, inputDeclaration, outputDeclaration, position, degree, pointFrom, point, endOfPoints, termName, inputTerm, fuzzifyOf, fuzzifyNamed, fuzzify, crisp, upperEnd, rangeFrom, range, figure, singletonNamed, outputTerm, defaultValue, defuzzifyOf, defuzzifyNamed, defuzzify}
-use Rattle.model.specs.Rules.{Got, word, termNamed, termHere, subcondition, chainOn, chain, plain, operand, conditionWith, parenthesis, condition, andPair, orPair, algorithm, algorithmLine, algorithms, activation, activationLine, accumulation, ruleNumber, concludedTerm, conclusion, weight, weighted, ruleGiven, ruleFrom, rule, ruleBlock}
+use Rattle.model.specs.Parse.{Parse, Part, Checks, is, refuse, advance, change, judged, expect, repeatOn, repeated, listed, ownName}
+use Rattle.model.specs.Declarations.{variable, inputType, inputDeclaration, outputDeclaration, pointPosition, pointDegree, pointBody, point, endOfPoints, termName, inputTerm, fuzzifyOf, fuzzifyVariable, fuzzify, lowerEnd, upperEnd, rangeBody, rangePart, figure, singletonBody, outputTerm, defaultValue, defuzzifyOf, defuzzifyVariable, defuzzify}
+use Rattle.model.specs.Rules.{ConditionRead, word, conditionTerm, termOrNot, subcondition, chainOn, chain, plain, operand, conditionWith, parenthesis, condition, andPair, orPair, algorithm, algorithmLine, algorithms, activation, activationLine, accumulation, ruleNumber, concludedTerm, conclusion, weight, weighted, ruleGiven, ruleFrom, rule, ruleBlock}
 use Rattle.model.specs.Reader.{endOfBlock, functionBlock, start}
 use Rattle.refusals.specs.Known.{Known}
 
 abbrev Keeps : Part → Type 0
 Keeps part = (r : Parse) → Known r → Known (part r)
 
-abbrev KeepsTree : (Parse → Got) → Type 0
+abbrev KeepsTree : (Parse → ConditionRead) → Type 0
 KeepsTree part = (r : Parse) → Known r → Known (part r .parse)
 
 -- a part more
@@ -36,7 +36,7 @@ either : {p q : Parse} (b : Bool) → Known p → Known q → Known (if b then p
 either true k l = k
 either false k l = l
 
-either-tree : (g h : Got) (b : Bool) → Known (g .parse) → Known (h .parse) → Known ((if b then g else h) .parse)
+either-tree : (g h : ConditionRead) (b : Bool) → Known (g .parse) → Known (h .parse) → Known ((if b then g else h) .parse)
 either-tree g h true k l = k
 either-tree g h false k l = l
 
@@ -90,8 +90,8 @@ keeps-listed : {part : Part} → Keeps part → Keeps (listed part)
 unfolding listed
 keeps-listed {part} f r k = k ▹ f ▹ keeps-repeated COMMA (λ q l. l ▹ keeps-expect COMMA ▹ f)
 
-keeps-named : (with : List ℕ → Block → Block) → Keeps (named with)
-unfolding named
+keeps-named : (with : List ℕ → Block → Block) → Keeps (ownName with)
+unfolding ownName
 keeps-named with r k = known-judged _ refl k (k ▹ keeps-change _ ▹ keeps-advance)
 
 -- DECLARATIONS
@@ -111,16 +111,16 @@ keeps-outputDeclaration : Keeps outputDeclaration
 unfolding outputDeclaration
 keeps-outputDeclaration r k = k ▹ keeps-listed (keeps-variable _ _ _) ▹ keeps-expect COLON ▹ keeps-expect REAL ▹ keeps-expect SEMICOLON
 
-keeps-position : (i : ℕ) → Keeps (position i)
-unfolding position
+keeps-position : (i : ℕ) → Keeps (pointPosition i)
+unfolding pointPosition
 keeps-position i r k = known-judged _ refl k (keeps-advance r k)
 
-keeps-degree : (i : ℕ) (x : ℤ) → Keeps (degree i x)
-unfolding degree
+keeps-degree : (i : ℕ) (x : ℤ) → Keeps (pointDegree i x)
+unfolding pointDegree
 keeps-degree i x r k = known-judged _ refl k (k ▹ keeps-change _ ▹ keeps-advance)
 
-keeps-pointFrom : (i : ℕ) → Keeps (pointFrom i)
-unfolding pointFrom
+keeps-pointFrom : (i : ℕ) → Keeps (pointBody i)
+unfolding pointBody
 keeps-pointFrom i r k = k ▹ keeps-position i ▹ keeps-expect COMMA ▹ keeps-degree i _ ▹ keeps-expect CLOSE
 
 keeps-point : (i : ℕ) → Keeps (point i)
@@ -146,31 +146,31 @@ keeps-fuzzifyOf i r k =
     known-judged _ refl k (k ▹ keeps-advance ▹ keeps-inputTerm i ▹ keeps-repeated TERM (keeps-inputTerm i) ▹ keeps-expect END-FUZZIFY)
 
 keeps-fuzzify : Keeps fuzzify
-unfolding fuzzify fuzzifyNamed
+unfolding fuzzify fuzzifyVariable
 keeps-fuzzify r k = k ▹ keeps-expect FUZZIFY ▹ keeps-fuzzifyOf _
 
-keeps-crisp : Keeps crisp
-unfolding crisp
+keeps-crisp : Keeps lowerEnd
+unfolding lowerEnd
 keeps-crisp r k = known-judged _ refl k (keeps-advance r k)
 
 keeps-upperEnd : (o : ℕ) (x : ℤ) → Keeps (upperEnd o x)
 unfolding upperEnd
 keeps-upperEnd o x r k = known-judged _ refl k (k ▹ keeps-change _ ▹ keeps-advance)
 
-keeps-rangeFrom : (o : ℕ) → Keeps (rangeFrom o)
-unfolding rangeFrom
+keeps-rangeFrom : (o : ℕ) → Keeps (rangeBody o)
+unfolding rangeBody
 keeps-rangeFrom o r k = k ▹ keeps-crisp ▹ keeps-expect DOTS ▹ keeps-upperEnd o _ ▹ keeps-expect CLOSE ▹ keeps-expect SEMICOLON
 
-keeps-range : (o : ℕ) → Keeps (range o)
-unfolding range
+keeps-range : (o : ℕ) → Keeps (rangePart o)
+unfolding rangePart
 keeps-range o r k = either (is RANGE r) (k ▹ keeps-advance ▹ keeps-expect OPEN ▹ keeps-rangeFrom o) k
 
 keeps-figure : (with : ℤ → Output → Output) (o : ℕ) → Keeps (figure with o)
 unfolding figure
 keeps-figure with o r k = known-judged _ refl k (k ▹ keeps-change _ ▹ keeps-advance)
 
-keeps-singletonNamed : (o : ℕ) → Keeps (singletonNamed o)
-unfolding singletonNamed
+keeps-singletonNamed : (o : ℕ) → Keeps (singletonBody o)
+unfolding singletonBody
 keeps-singletonNamed o r k = known-judged _ refl k (k ▹ keeps-advance ▹ keeps-expect ASSIGN ▹ keeps-figure _ o ▹ keeps-expect SEMICOLON)
 
 keeps-outputTerm : (o : ℕ) → Keeps (outputTerm o)
@@ -190,7 +190,7 @@ keeps-defuzzifyOf o r k =
     ▹ keeps-expect DEFAULT ▹ keeps-expect ASSIGN ▹ keeps-defaultValue o ▹ keeps-expect SEMICOLON ▹ keeps-expect END-DEFUZZIFY)
 
 keeps-defuzzify : Keeps defuzzify
-unfolding defuzzify defuzzifyNamed
+unfolding defuzzify defuzzifyVariable
 keeps-defuzzify r k = k ▹ keeps-expect DEFUZZIFY ▹ keeps-defuzzifyOf _
 
 -- CONDITIONS
@@ -198,25 +198,25 @@ keeps-word : Keeps word
 unfolding word
 keeps-word r k = either (ltb (r .words) wordLimit) (record { most = k .most; not-one = k .not-one }) (keeps-refuse 6 (omega arith) (omega arith) r k)
 
-keeps-termNamed : (i : ℕ) → KeepsTree (termNamed i)
-unfolding termNamed
+keeps-termNamed : (i : ℕ) → KeepsTree (conditionTerm i)
+unfolding conditionTerm
 keeps-termNamed i r k = known-judged _ refl k (keeps-advance r k)
 
-keeps-termHere : (i : ℕ) → KeepsTree (termHere i)
-unfolding termHere
+keeps-termHere : (i : ℕ) → KeepsTree (termOrNot i)
+unfolding termOrNot
 keeps-termHere i r k = either-tree _ _ (is NOT r) (keeps-termNamed i (word r) (keeps-word r k)) (keeps-termNamed i r k)
 
 keeps-subcondition : KeepsTree subcondition
 unfolding subcondition
 keeps-subcondition r k = keeps-termHere _ _ (known-judged _ refl k (keeps-word r k) ▹ keeps-expect IS)
 
-module _ (part : Parse → Got) (f : KeepsTree part) (t : ℕ) (o : Op) where
-  known-chainOn : (n : ℕ) (g : Got) → Known (g .parse) → Known (chainOn n part t o g .parse)
+module _ (part : Parse → ConditionRead) (f : KeepsTree part) (t : ℕ) (o : Op) where
+  known-chainOn : (n : ℕ) (g : ConditionRead) → Known (g .parse) → Known (chainOn n part t o g .parse)
   unfolding chainOn
   known-chainOn zero g k = k
   known-chainOn (suc n) g k = go (is t (g .parse)) _ (known-chainOn n _ (f _ (keeps-word (g .parse) k)))
     where
-      go : (b : Bool) (h : Got) → Known (h .parse) → Known ((elim b as (λ x. Got) [ true ↦ h | false ↦ g ]) .parse)
+      go : (b : Bool) (h : ConditionRead) → Known (h .parse) → Known ((elim b as (λ x. ConditionRead) [ true ↦ h | false ↦ g ]) .parse)
       go true h l = l
       go false h l = k
 
@@ -224,7 +224,7 @@ module _ (part : Parse → Got) (f : KeepsTree part) (t : ℕ) (o : Op) where
   unfolding chain
   keeps-chain r k = known-chainOn (suc (length (r .rest))) (part r) (f r k)
 
-module _ (inner : Parse → Got) (f : KeepsTree inner) where
+module _ (inner : Parse → ConditionRead) (f : KeepsTree inner) where
   keeps-plain : KeepsTree (plain inner)
   unfolding plain
   keeps-plain r k = either-tree _ _ (is OPEN r) (f r k) (keeps-subcondition r k)
@@ -294,7 +294,7 @@ keeps-weighted : Keeps weighted
 unfolding weighted weight
 keeps-weighted r k = either (is WITH r) (let l = keeps-advance r k in known-judged _ refl l (l ▹ keeps-change _ ▹ keeps-advance)) k
 
-known-given : (n : ℕ) (g : Got) → Known (g .parse) → Known (ruleGiven n g)
+known-given : (n : ℕ) (g : ConditionRead) → Known (g .parse) → Known (ruleGiven n g)
 unfolding ruleGiven
 known-given n g k = k ▹ keeps-change _ ▹ keeps-expect THEN ▹ keeps-listed keeps-conclusion ▹ keeps-weighted ▹ keeps-expect SEMICOLON
 

@@ -18,7 +18,7 @@ use Rattle.model.specs.declared.Accumulation.{Accumulation}
 use Rattle.model.specs.declared.Accumulation.the-variants.{Max as by-max, Bsum as by-bsum}
 use Rattle.model.specs.Image.{pairOf}
 use Rattle.model.specs.Keywords.{ACT, AND, BSUM, COLON, MAX, MIN, OR, PROD, SEMICOLON}
-use Rattle.model.specs.Parse.{Parse, Part, kind, text, refuse, advance, change, judged, expect, aName, named, withRuleBlock, withPair, withAct, withAccu}
+use Rattle.model.specs.Parse.{Parse, Part, kind, text, refuse, advance, change, judged, expect, aName, ownName, withRuleBlock, withPair, withAct, withAccu}
 use Rattle.model.specs.Rules.{samePair, andPair, orPair, algorithm, algorithmLine, algorithms, activation, activationLine, accumulation}
 use Rattle.cursor.specs.declared.Cursor.{Cursor}
 use Rattle.cursor.specs.View.{seen, textOf, Fits, Step, fault}
@@ -70,12 +70,12 @@ module _ (s : List ℕ) (p : Opened) where
   pub name-headed : Fits s (p .cursor) → Headed s h → Headed s with-name
   name-headed f k = record { order = f .order; inside = f .inside; pair = k .pair; accu = k .accu; act = k .act }
 
-  pub name-fault : (w : ℕ) (b : Block) (n : ℕ) → w ≡ fault (aName (view s p b n) []) → (w ≡ 0 → ⊥) → named withRuleBlock (view s p b n) ≡ refuse w (view s p b n)
-  unfolding named
+  pub name-fault : (w : ℕ) (b : Block) (n : ℕ) → w ≡ fault (aName (view s p b n) []) → (w ≡ 0 → ⊥) → ownName withRuleBlock (view s p b n) ≡ refuse w (view s p b n)
+  unfolding ownName
   name-fault w b n e z = let y = view s p b n in judged-bad y (advance (change (withRuleBlock (text y)) y)) w (aName y []) [] (sym e) z
 
-  pub name-given : (b : Block) (n : ℕ) → 0 ≡ fault (aName (view s p b n) []) → p .cursor .why ≡ 0 → named withRuleBlock (view s p b n) ≡ advance (seen s (p .cursor) (headed s with-name b) n)
-  unfolding named judged numbered
+  pub name-given : (b : Block) (n : ℕ) → 0 ≡ fault (aName (view s p b n) []) → p .cursor .why ≡ 0 → ownName withRuleBlock (view s p b n) ≡ advance (seen s (p .cursor) (headed s with-name b) n)
+  unfolding ownName judged numbered
   name-given b n e z =
       let y = view s p b n in
       judged-good y (advance (change (withRuleBlock (text y)) y)) (aName y []) [] refl (sym e)

@@ -13,7 +13,7 @@ use Rattle.model.specs.declared.Activation.the-variants.{Min as by-min}
 use Rattle.model.specs.declared.Accumulation.the-variants.{Max as by-max}
 use Rattle.model.specs.Image.{pairOf, accuOf, actOf}
 use Rattle.model.specs.Keywords.{AND, ACCU, COLON, RULEBLOCK, SEMICOLON}
-use Rattle.model.specs.Parse.{Part, expect, named, withRuleBlock}
+use Rattle.model.specs.Parse.{Part, expect, ownName, withRuleBlock}
 use Rattle.model.specs.Rules.{andPair, orPair, algorithms, activationLine, accumulation}
 use Rattle.cursor.specs.View.{seen, Fits, left}
 use Rattle.block_tables.specs.declared.Heading.{Heading}
@@ -23,7 +23,7 @@ use Rattle.rule_heading.specs.declared.Opened.{Opened}
 -- RULEBLOCK, before its rules
 unfoldable pub opening : Part
 opening r =
-    r ▸ expect RULEBLOCK ▸ named withRuleBlock
+    r ▸ expect RULEBLOCK ▸ ownName withRuleBlock
     ▸ algorithms ▸ activationLine
     ▸ expect ACCU ▸ expect COLON ▸ accumulation ▸ expect SEMICOLON
 

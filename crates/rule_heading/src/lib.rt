@@ -5,7 +5,7 @@ ghost use Prim.Native.Nat.{ℕ, _≤_, _<_};
 ghost use Rattle.model.specs.Basic.{_▸_};
 ghost use Rattle.model.specs.Block.{Block};
 ghost use Rattle.model.specs.Keywords.{COLON, SEMICOLON, ACCU};
-ghost use Rattle.model.specs.Parse.{refuse, expect, named, withRuleBlock};
+ghost use Rattle.model.specs.Parse.{refuse, expect, ownName, withRuleBlock};
 ghost use Rattle.model.specs.Rules.{andPair, orPair, algorithm as algorithmOf, algorithmLine, algorithms as algorithmsOf, activation as activationOf, activationLine, accumulation as accumulationOf};
 ghost use Rattle.cursor.specs.View.{seen, Fits, left};
 ghost use Rattle.block_tables.specs.View.{Headed};
@@ -48,7 +48,7 @@ fn expected(s: &[u8], p: Opened, k: u8) -> Opened
 // The block's own name.
 fn block_name(s: &[u8], p: Opened) -> Opened
     requires { ⌜ Fits (now s) (p .cursor) × Headed (now s) (p .heading) ⌝ }
-    ensures { λ r. ⌜ Opens (named withRuleBlock) (now (s .entry)) p r ⌝ }
+    ensures { λ r. ⌜ Opens (ownName withRuleBlock) (now (s .entry)) p r ⌝ }
 {
     let c = p.cursor;
     let w = cursor::name_fault(c);

@@ -16,14 +16,14 @@ use Rattle.model.specs.Keywords.{NUMBER, NAME, COMMA, SEMICOLON, IS, IF, COLON,
 use Rattle.model.specs.Parse.{Parse, Part, kind, text, is, refuse, advance, change, judged, expect, repeatOn, repeated, listed, aName, aUnit}
 use Rattle.model.specs.Tokens.{decimal, unitOf, isRuleNumber}
 use Rattle.model.specs.Declarations.{inputOf, outputOf, termOf, singletonOf, isOutput, isSingleton}
-use Rattle.model.specs.Rules.{Got, addRule, changeRule, withConclusion, withWeight, ruleNumber, concludedTerm, conclusion, weight, weighted, condition, conditionWith, parenthesis, ruleGiven, ruleFrom, rule}
+use Rattle.model.specs.Rules.{ConditionRead, addRule, changeRule, withConclusion, withWeight, ruleNumber, concludedTerm, conclusion, weight, weighted, condition, conditionWith, parenthesis, ruleGiven, ruleFrom, rule}
 use Rattle.cursor.specs.declared.Cursor.{Cursor}
 use Rattle.cursor.specs.View.{seen, textOf, Fits, left, Step, fault}
 use Rattle.cursor.proofs.Laws.{enough, kind-seen, text-seen, block-seen, changed, unchanged, clash, judged-bad, judged-good, numbered, lost-is, lost-expect, lost-judged, lost-repeated}
 use Rattle.block_tables.specs.declared.Totals.{Totals}
 use Rattle.block_tables.specs.Stored.{ruleRow}
 use Rattle.block_tables.proofs.Lists.{updateLast-snoc}
-use Rattle.symbol_table.specs.Book.{Describes, outputCount, termCount, first, among}
+use Rattle.symbol_table.specs.Symbols.{Describes, outputCount, termCount, first, among}
 use Rattle.condition_text.specs.Pending.{Adds}
 use Rattle.condition_text.proofs.Laws.{adds, words-put}
 use Rattle.rule_text.specs.declared.Concluded.{Concluded}
@@ -53,7 +53,7 @@ length-postfix (neg c) = let e = length-postfix c in simp length-append (omega a
 length-postfix (two o a b) = let e = length-postfix a in let f = length-postfix b in simp length-append (omega arith)
 
 -- OTHER RULES: the names are declared as before
-pub describes : {s names book : List ℕ} {b : Block} (rs : List Rule) → Describes s names book b → Describes s names book (holding rs b)
+pub describes : {s names symbols : List ℕ} {b : Block} (rs : List Rule) → Describes s names symbols b → Describes s names symbols (holding rs b)
 unfolding inputOf outputOf termOf singletonOf termsOf singletonsOf inputFirst outputFirst
 describes rs d = record {
   inputs = d .inputs;
@@ -211,11 +211,11 @@ as-well e x = record { more = x .more; reads = x .reads ∙ sym e; count = x .co
 pub step-onward : {f : Part} {s : List ℕ} {p r : Concluded} {d : Cursor} → Step f s (p .cursor) d → Onward s (record { cursor = d; count = p .count }) r → Onward s p r
 step-onward {f} {s} {p} {r} {d} a x = record { fewer = let u = x .fewer in let v = a .fewer in omega arith; fits = x .fits; grows = x .grows; count = x .count }
 
-module _ (s names book : List ℕ) (b : Block) (D : Describes s names book b) (rs : List Rule) (q : Rule) (c : Cursor) (m : ℕ) where
+module _ (s names symbols : List ℕ) (b : Block) (D : Describes s names symbols b) (rs : List Rule) (q : Rule) (c : Cursor) (m : ℕ) where
   abbrev here : Parse
   here = seen s c (midst b rs q) m
 
-  D′ : Describes s names book (midst b rs q)
+  D′ : Describes s names symbols (midst b rs q)
   D′ = describes (rs ++ (q ∷ [])) D
 
   module _ (w : ℕ) (e : w ≡ fault (aName here [])) (h : w ≡ 0 → ⊥) where
@@ -232,22 +232,22 @@ module _ (s names book : List ℕ) (b : Block) (D : Describes s names book b) (r
         judged-bad here (concludedTerm (outputOf (text here) (here .block)) (expect IS (advance here)))
         w (aName here []) ((isOutput (text here) (here .block), 5) ∷ (ltb (length (conclusions (here .block))) 128, 6) ∷ []) (sym e) h
 
-  module _ (e : 0 ≡ fault (aName here [])) (o : ℕ) (f : o ≡ among s names (textOf s c) (outputCount book) 8) where
+  module _ (e : 0 ≡ fault (aName here [])) (o : ℕ) (f : o ≡ among s names (textOf s c) (outputCount symbols) 8) where
     the-output : outputOf (text here) (here .block) ≡ o
     the-output = simp (text-seen, block-seen) (D′ .output (textOf s c) ∙ sym f)
 
-    output-named : conclusion here ≡ judged ((ltb o (outputCount book), 5) ∷ (ltb (length (conclusions (here .block))) 128, 6) ∷ []) here (concludedTerm o (expect IS (advance here)))
+    output-named : conclusion here ≡ judged ((ltb o (outputCount symbols), 5) ∷ (ltb (length (conclusions (here .block))) 128, 6) ∷ []) here (concludedTerm o (expect IS (advance here)))
     unfolding conclusion numbered
     output-named =
         judged-good here (concludedTerm (outputOf (text here) (here .block)) (expect IS (advance here)))
         (aName here []) ((isOutput (text here) (here .block), 5) ∷ (ltb (length (conclusions (here .block))) 128, 6) ∷ []) refl (sym e)
         ∙ simp (the-output, ap (λ (y : Block). length (y .outputs)) (block-seen s c (midst b rs q) m) ∙ D′ .outputs)
 
-    pub output-unknown : outputCount book ≤ o → conclusion here ≡ refuse 5 here
+    pub output-unknown : outputCount symbols ≤ o → conclusion here ≡ refuse 5 here
     unfolding judged
     output-unknown h = output-named ∙ simp (le-ltb _ _ h)
 
-    module _ (n : ℕ) (k : length (gather (λ x. x .conclusions) (midst b rs q .rules)) ≡ n) (g : o < outputCount book) where
+    module _ (n : ℕ) (k : length (gather (λ x. x .conclusions) (midst b rs q .rules)) ≡ n) (g : o < outputCount symbols) where
       how-many : length (conclusions (here .block)) ≡ n
       how-many = ap (λ (y : Block). length (conclusions y)) (block-seen s c (midst b rs q) m) ∙ k
 
@@ -259,14 +259,14 @@ module _ (s names book : List ℕ) (b : Block) (D : Describes s names book b) (r
       unfolding judged
       output-known h = output-named ∙ simp (lt-ltb _ _ g, how-many, lt-ltb _ _ h)
 
-  module _ (e : 0 ≡ fault (aName here [])) (o : ℕ) (g : o < outputCount book) (j : ℕ) (f : j ≡ among s names (textOf s c) (termCount book (8 + o)) (14 + (8 + o) * 7)) where
+  module _ (e : 0 ≡ fault (aName here [])) (o : ℕ) (g : o < outputCount symbols) (j : ℕ) (f : j ≡ among s names (textOf s c) (termCount symbols (8 + o)) (14 + (8 + o) * 7)) where
     the-term : singletonOf o (text here) (here .block) ≡ j
     the-term = simp (text-seen, block-seen) (D′ .singleton (textOf s c) o g ∙ sym f)
 
     abbrev its : Conclusion
-    its = record { output = o; term = first book (8 + o) + j }
+    its = record { output = o; term = first symbols (8 + o) + j }
 
-    term-named : concludedTerm o here ≡ (if ltb j (termCount book (8 + o)) then advance (change (changeRule (withConclusion its)) here) else refuse 5 here)
+    term-named : concludedTerm o here ≡ (if ltb j (termCount symbols (8 + o)) then advance (change (changeRule (withConclusion its)) here) else refuse 5 here)
     unfolding concludedTerm judged numbered
     term-named =
         judged-good here
@@ -274,10 +274,10 @@ module _ (s names book : List ℕ) (b : Block) (D : Describes s names book b) (r
         (aName here []) ((isSingleton o (text here) (here .block), 5) ∷ []) refl (sym e)
         ∙ simp (the-term, ap (λ (y : Block). length (singletonsOf o y)) (block-seen s c (midst b rs q) m) ∙ D′ .singletons o g, ap (outputFirst o) (block-seen s c (midst b rs q) m) ∙ D′ .outputFirst o g)
 
-    pub term-unknown : termCount book (8 + o) ≤ j → concludedTerm o here ≡ refuse 5 here
+    pub term-unknown : termCount symbols (8 + o) ≤ j → concludedTerm o here ≡ refuse 5 here
     term-unknown h = term-named ∙ simp (le-ltb _ _ h)
 
-    pub term-known : j < termCount book (8 + o) → c .why ≡ 0 → concludedTerm o here ≡ advance (seen s c (midst b rs (gives (its ∷ []) q)) m)
+    pub term-known : j < termCount symbols (8 + o) → c .why ≡ 0 → concludedTerm o here ≡ advance (seen s c (midst b rs (gives (its ∷ []) q)) m)
     unfolding changeRule
     term-known h z =
         term-named ∙ simp (lt-ltb _ _ h)
@@ -401,7 +401,7 @@ module _ (s : List ℕ) (b : Block) (rs : List Rule) (q : Rule) (m : ℕ) (c : C
 
 -- A RULE, whole
 -- after a refused condition nothing more is read
-pub given-lost : (s : List ℕ) (d : Cursor) (b : Block) (m n : ℕ) (g : Got) → Fits s d → (d .why ≡ 0 → ⊥) → seen s d b m ≡ g .parse → ruleGiven n g ≡ seen s d b m
+pub given-lost : (s : List ℕ) (d : Cursor) (b : Block) (m n : ℕ) (g : ConditionRead) → Fits s d → (d .why ≡ 0 → ⊥) → seen s d b m ≡ g .parse → ruleGiven n g ≡ seen s d b m
 unfolding ruleGiven listed conclusion weighted
 given-lost s d b m n g f h e =
     ap (λ (y : Parse). expect SEMICOLON (weighted (listed conclusion (expect THEN (change (addRule n (g .tree)) y))))) (sym e)
@@ -427,7 +427,7 @@ from-number s c f b m e =
 abbrev pub begun : ℕ → Condition → Rule
 begun n t = record { number = n; condition = t; conclusions = []; weight = M }
 
-pub given-begun : (s : List ℕ) (d : Cursor) (b : Block) (m n : ℕ) (g : Got) → d .why ≡ 0 → seen s d b m ≡ g .parse
+pub given-begun : (s : List ℕ) (d : Cursor) (b : Block) (m n : ℕ) (g : ConditionRead) → d .why ≡ 0 → seen s d b m ≡ g .parse
     → ruleGiven n g ≡ expect SEMICOLON (weighted (listed conclusion (expect THEN (seen s d (midst b (b .rules) (begun n (g .tree))) m))))
 unfolding ruleGiven addRule
 given-begun s d b m n g h e =

@@ -13,7 +13,7 @@ ghost use Rattle.model.specs.Parse.{refuse, expect, repeated, listed};
 ghost use Rattle.model.specs.Tokens.{decimal};
 ghost use Rattle.model.specs.Rules.{ruleNumber, concludedTerm, conclusion as conclusionOf, withWeight, weighted as weightedOf, ruleFrom, rule as ruleOf};
 ghost use Rattle.cursor.specs.View.{seen, textOf, Fits, left, Step, Moves};
-ghost use Rattle.symbol_table.specs.Book.{Book, Describes, outputCount};
+ghost use Rattle.symbol_table.specs.Symbols.{Symbols, Describes, outputCount};
 ghost use Rattle.condition_text.specs.Pending.{Adds};
 ghost use Rattle.rule_text.specs.Progress.{Kept, Few, Rows, Concludes, Onward, Ends, Goes, Within, midst};
 use condition_text::Pending;
@@ -102,15 +102,15 @@ fn not_concluded(p: Concluded, why: u8) -> Concluded
 fn concluded_term(
     s: &[u8],
     names: &[usize; 224],
-    book: &[usize; 17],
+    symbols: &[usize; 17],
     conclusions: &mut [u32; 256],
     p: Concluded,
     o: usize,
 ) -> Concluded
-    requires { ⌜ Fits (now s) (p .cursor) × Book (now s) (now names) (now book) × (o < outputCount (now book))
+    requires { ⌜ Fits (now s) (p .cursor) × Symbols (now s) (now names) (now symbols) × (o < outputCount (now symbols))
         × (p .count < 128) ⌝ }
     ensures { λ r. ⌜ ((b : Block) (rs : List Rule) (q : Rule) (m : ℕ)
-        → Describes (now (s .entry)) (now (names .entry)) (now (book .entry)) b
+        → Describes (now (s .entry)) (now (names .entry)) (now (symbols .entry)) b
         → Concludes (concludedTerm o) (now (s .entry)) b rs q m p r
         (now (conclusions .entry)) (now (conclusions .exit))) ⌝ }
     ensures onward { λ r. ⌜ Onward (now (s .entry)) p r ⌝ }
@@ -121,14 +121,14 @@ fn concluded_term(
         return not_concluded(p, w);
     }
     let v = 8 + o;
-    let j = symbol_table::term_of(s, names, book, v, c);
-    if book[v + 1] - book[v] <= j {
+    let j = symbol_table::term_of(s, names, symbols, v, c);
+    if symbols[v + 1] - symbols[v] <= j {
         return not_concluded(p, 5);
     }
     let d = cursor::advance(s, c);
     let n = p.count;
     conclusions[n * 2] = o as u32;
-    conclusions[n * 2 + 1] = (book[v] + j) as u32;
+    conclusions[n * 2 + 1] = (symbols[v] + j) as u32;
     Concluded {
         cursor: d,
         count: n + 1,
@@ -139,13 +139,13 @@ fn concluded_term(
 fn conclusion(
     s: &[u8],
     names: &[usize; 224],
-    book: &[usize; 17],
+    symbols: &[usize; 17],
     conclusions: &mut [u32; 256],
     p: Concluded,
 ) -> Concluded
-    requires { ⌜ Fits (now s) (p .cursor) × Book (now s) (now names) (now book) × (p .count ≤ 128) ⌝ }
+    requires { ⌜ Fits (now s) (p .cursor) × Symbols (now s) (now names) (now symbols) × (p .count ≤ 128) ⌝ }
     ensures { λ r. ⌜ ((b : Block) (rs : List Rule) (q : Rule) (m : ℕ)
-        → Describes (now (s .entry)) (now (names .entry)) (now (book .entry)) b
+        → Describes (now (s .entry)) (now (names .entry)) (now (symbols .entry)) b
         → length (conclusionsOf (midst b rs q)) ≡ p .count
         → Concludes conclusionOf (now (s .entry)) b rs q m p r (now (conclusions .entry)) (now (conclusions .exit))) ⌝ }
     ensures onward { λ r. ⌜ Onward (now (s .entry)) p r ⌝ }
@@ -155,8 +155,8 @@ fn conclusion(
     if w != 0 {
         return not_concluded(p, w);
     }
-    let o = symbol_table::output_of(s, names, book, c);
-    if book[16] <= o {
+    let o = symbol_table::output_of(s, names, symbols, c);
+    if symbols[16] <= o {
         return not_concluded(p, 5);
     }
     if 128 <= p.count {
@@ -168,26 +168,26 @@ fn conclusion(
         cursor: e,
         count: p.count,
     };
-    concluded_term(s, names, book, conclusions, q, o)
+    concluded_term(s, names, symbols, conclusions, q, o)
 }
 
 // Conclusions, with commas between them.
 fn conclusion_list(
     s: &[u8],
     names: &[usize; 224],
-    book: &[usize; 17],
+    symbols: &[usize; 17],
     conclusions: &mut [u32; 256],
     p: Concluded,
 ) -> Concluded
-    requires { ⌜ Fits (now s) (p .cursor) × Book (now s) (now names) (now book) × (p .count ≤ 128) ⌝ }
+    requires { ⌜ Fits (now s) (p .cursor) × Symbols (now s) (now names) (now symbols) × (p .count ≤ 128) ⌝ }
     ensures { λ r. ⌜ ((b : Block) (rs : List Rule) (q : Rule) (m : ℕ)
-        → Describes (now (s .entry)) (now (names .entry)) (now (book .entry)) b
+        → Describes (now (s .entry)) (now (names .entry)) (now (symbols .entry)) b
         → length (conclusionsOf (midst b rs q)) ≡ p .count
         → Concludes (listed conclusionOf) (now (s .entry)) b rs q m p r
         (now (conclusions .entry)) (now (conclusions .exit))) ⌝ }
     ensures onward { λ r. ⌜ Onward (now (s .entry)) p r ⌝ }
 {
-    let mut q = conclusion(s, names, book, conclusions, p);
+    let mut q = conclusion(s, names, symbols, conclusions, p);
     while q.cursor.kind == token_kinds::COMMA {
         let c = q.cursor;
         let d = cursor::advance(s, c);
@@ -195,7 +195,7 @@ fn conclusion_list(
             cursor: d,
             count: q.count,
         };
-        q = conclusion(s, names, book, conclusions, n);
+        q = conclusion(s, names, symbols, conclusions, n);
     }
     q
 }
@@ -247,17 +247,17 @@ fn put_row(rules: &mut [u32; 256], k: usize, number: u32, words: u32, conclusion
 fn rule_given(
     s: &[u8],
     names: &[usize; 224],
-    book: &[usize; 17],
+    symbols: &[usize; 17],
     rules: &mut [u32; 256],
     conclusions: &mut [u32; 256],
     p: Progress,
     number: u32,
     words: u32,
 ) -> Progress
-    requires { ⌜ Fits (now s) (p .cursor) × Book (now s) (now names) (now book) × Few (p .totals)
+    requires { ⌜ Fits (now s) (p .cursor) × Symbols (now s) (now names) (now symbols) × Few (p .totals)
         × (p .totals .rules < 64) ⌝ }
     ensures { λ r. ⌜ ((b : Block) (rs : List Rule) (q : Rule)
-        → Describes (now (s .entry)) (now (names .entry)) (now (book .entry)) b
+        → Describes (now (s .entry)) (now (names .entry)) (now (symbols .entry)) b
         → length (conclusionsOf (midst b rs q)) ≡ p .totals .conclusions → q .weight ≡ M
         → Ends (λ y. expect SEMICOLON (weightedOf (listed conclusionOf (expect THEN y))))
         (now (s .entry)) b rs q p r number words
@@ -271,7 +271,7 @@ fn rule_given(
         cursor: d,
         count: t.conclusions,
     };
-    let q = conclusion_list(s, names, book, conclusions, a);
+    let q = conclusion_list(s, names, symbols, conclusions, a);
     let e = q.cursor;
     let x = weighted(s, e);
     let f = x.cursor;
@@ -294,15 +294,15 @@ fn rule_given(
 fn rule_from(
     s: &[u8],
     names: &[usize; 224],
-    book: &[usize; 17],
+    symbols: &[usize; 17],
     rules: &mut [u32; 256],
     words: &mut [u32; 640],
     conclusions: &mut [u32; 256],
     p: Progress,
 ) -> Progress
-    requires { ⌜ Fits (now s) (p .cursor) × Book (now s) (now names) (now book) × Few (p .totals)
+    requires { ⌜ Fits (now s) (p .cursor) × Symbols (now s) (now names) (now symbols) × Few (p .totals)
         × (p .totals .rules < 64) ⌝ }
-    ensures { λ r. ⌜ ((b : Block) → Describes (now (s .entry)) (now (names .entry)) (now (book .entry)) b
+    ensures { λ r. ⌜ ((b : Block) → Describes (now (s .entry)) (now (names .entry)) (now (symbols .entry)) b
         → Kept (b .rules) (now (rules .entry)) (now (words .entry)) (now (conclusions .entry)) (p .totals)
         → Goes ruleFrom (now (s .entry)) b p r (now (rules .exit)) (now (words .exit)) (now (conclusions .exit))) ⌝ }
     ensures within { λ r. ⌜ Within (now (s .entry)) p r ⌝ }
@@ -318,7 +318,7 @@ fn rule_from(
         words: t.words,
         put: t.words,
     };
-    let q = condition_text::condition(s, names, book, words, a, 8);
+    let q = condition_text::condition(s, names, symbols, words, a, 8);
     let g = q.cursor;
     let u = Totals {
         rules: t.rules,
@@ -333,7 +333,7 @@ fn rule_from(
         return r;
     }
     let k = (q.put - t.words) as u32;
-    rule_given(s, names, book, rules, conclusions, r, n.number, k)
+    rule_given(s, names, symbols, rules, conclusions, r, n.number, k)
 }
 
 fn refused(p: Progress, why: u8) -> Progress
@@ -354,14 +354,14 @@ fn refused(p: Progress, why: u8) -> Progress
 fn rule(
     s: &[u8],
     names: &[usize; 224],
-    book: &[usize; 17],
+    symbols: &[usize; 17],
     rules: &mut [u32; 256],
     words: &mut [u32; 640],
     conclusions: &mut [u32; 256],
     p: Progress,
 ) -> Progress
-    requires { ⌜ Fits (now s) (p .cursor) × Book (now s) (now names) (now book) × Few (p .totals) ⌝ }
-    ensures { λ r. ⌜ ((b : Block) → Describes (now (s .entry)) (now (names .entry)) (now (book .entry)) b
+    requires { ⌜ Fits (now s) (p .cursor) × Symbols (now s) (now names) (now symbols) × Few (p .totals) ⌝ }
+    ensures { λ r. ⌜ ((b : Block) → Describes (now (s .entry)) (now (names .entry)) (now (symbols .entry)) b
         → Kept (b .rules) (now (rules .entry)) (now (words .entry)) (now (conclusions .entry)) (p .totals)
         → Goes ruleOf (now (s .entry)) b p r (now (rules .exit)) (now (words .exit)) (now (conclusions .exit))) ⌝ }
     ensures within { λ r. ⌜ Within (now (s .entry)) p r ⌝ }
@@ -380,29 +380,29 @@ fn rule(
         cursor: d,
         totals: t,
     };
-    rule_from(s, names, book, rules, words, conclusions, q)
+    rule_from(s, names, symbols, rules, words, conclusions, q)
 }
 
 // Rules, one or more.
 pub fn rules(
     s: &[u8],
     names: &[usize; 224],
-    book: &[usize; 17],
+    symbols: &[usize; 17],
     rules: &mut [u32; 256],
     words: &mut [u32; 640],
     conclusions: &mut [u32; 256],
     p: Progress,
 ) -> Progress
-    requires { ⌜ Fits (now s) (p .cursor) × Book (now s) (now names) (now book) × Few (p .totals) ⌝ }
-    ensures { λ r. ⌜ ((b : Block) → Describes (now (s .entry)) (now (names .entry)) (now (book .entry)) b
+    requires { ⌜ Fits (now s) (p .cursor) × Symbols (now s) (now names) (now symbols) × Few (p .totals) ⌝ }
+    ensures { λ r. ⌜ ((b : Block) → Describes (now (s .entry)) (now (names .entry)) (now (symbols .entry)) b
         → Kept (b .rules) (now (rules .entry)) (now (words .entry)) (now (conclusions .entry)) (p .totals)
         → Goes (λ y. repeated RULE ruleOf (ruleOf y)) (now (s .entry)) b p r
         (now (rules .exit)) (now (words .exit)) (now (conclusions .exit))) ⌝ }
     ensures within { λ r. ⌜ Within (now (s .entry)) p r ⌝ }
 {
-    let mut q = rule(s, names, book, rules, words, conclusions, p);
+    let mut q = rule(s, names, symbols, rules, words, conclusions, p);
     while q.cursor.kind == token_kinds::RULE {
-        q = rule(s, names, book, rules, words, conclusions, q);
+        q = rule(s, names, symbols, rules, words, conclusions, q);
     }
     q
 }

@@ -13,7 +13,7 @@ use Rattle.model.specs.WellFormed.{conclusionOk}
 use Rattle.model.specs.Image.{tab, termAt, singletonAt, outputAt, conclusionAt, decode}
 use Rattle.words.proofs.Places.{passed, length-tab}
 use Rattle.layout.specs.Tables.{outputRow, outputNext, outputCount, inputTermsIn, inputRows, outputRows}
-use Rattle.layout.specs.Groups.{frameOk}
+use Rattle.layout.specs.Groups.{tablesOk}
 use Rattle.layout.proofs.TableLaws.{Runs, runs-from, map-tab}
 use Rattle.layout.proofs.Parts.{outputFirst as firstWord, output-row, inputTerms-are}
 use Rattle.layout.proofs.Whole.{outputs-count}
@@ -33,13 +33,13 @@ getD-tab f d zero i j l = absurd (omega arith)
 getD-tab f d (suc k) i zero l = ap f (omega arith)
 getD-tab f d (suc k) i (suc j) l = getD-tab f d k (suc i) j (omega arith) ∙ ap f (omega arith)
 
-module _ (w : ℕ → ℕ) (frame : frameOk w ≡ true) where
+module _ (w : ℕ → ℕ) (frame : tablesOk w ≡ true) where
   inputs-right : inputRows w ≡ true
-  unfolding frameOk
+  unfolding tablesOk
   inputs-right = passed _ frame .1 .0
 
   outputs-right : outputRows w ≡ true
-  unfolding frameOk
+  unfolding tablesOk
   outputs-right = passed _ frame .1 .1 .0
 
   pub input-terms : length (inputTerms (decode w)) ≡ inputTermsIn w

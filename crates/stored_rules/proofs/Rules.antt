@@ -16,7 +16,7 @@ use Rattle.words.proofs.Places.{both, and-i, passed, pass, length-tab, same-eq}
 use Rattle.stored_conditions.specs.Stored.{isCondition, conditionStored}
 use Rattle.layout.specs.Rows.{rowsOk}
 use Rattle.layout.specs.Tables.{ruleRow, ruleNext, sums, wordCount, conclusionCount, inputTermsIn, wordsIn, conclusionsIn, ruleRows, conditionExact, conditionRows}
-use Rattle.layout.specs.Groups.{frameOk, rulesOk}
+use Rattle.layout.specs.Groups.{tablesOk, rulesOk}
 use Rattle.layout.proofs.RowLaws.{stood}
 use Rattle.layout.proofs.TableLaws.{map-tab}
 use Rattle.layout.proofs.Parts.{wordFirst, conclusionFirst, rule-words-row, rule-conclusions-row}
@@ -86,7 +86,7 @@ module _ (w : ℕ → ℕ) where
   unfolding decode ruleAt
   numbers-are = map-tab (λ (r : Rule). r .number) (ruleAt w) (w 6) 0
 
-  module _ (frame : frameOk w ≡ true) (m : ℕ) (terms : m ≡ inputTermsIn w) where
+  module _ (frame : tablesOk w ≡ true) (m : ℕ) (terms : m ≡ inputTermsIn w) where
     condition-stored : (i : ℕ) → conditionStored w (w 14 + wordFirst w i) (wordCount w i) m ≡ conditionExact w i && conditionOk (decode w) (ruleAt w i .condition)
     unfolding conditionStored conditionExact conditionOk ruleAt
     condition-stored i = λ j. isCondition ((terms ∙ sym (input-terms w frame)) j) (sym (tab-plus w (w 14) (wordCount w i) (wordFirst w i)) j)

@@ -7,7 +7,7 @@ ghost use Rattle.model.specs.Basic.{all, between, distinct};
 ghost use Rattle.model.specs.WellFormed.{unitOk, conclusionOk};
 ghost use Rattle.model.specs.Image.{wordAt, tab, conclusionAt, decode};
 ghost use Rattle.layout.specs.Tables.{inputTermsIn};
-ghost use Rattle.layout.specs.Groups.{frameOk, rulesOk};
+ghost use Rattle.layout.specs.Groups.{tablesOk, rulesOk};
 ghost use Rattle.stored_rules.specs.Walk.{ruleNumber, ruleStored, rowStored, rulesWalk};
 use stored_conditions::condition_ok;
 use words::word;
@@ -31,7 +31,7 @@ fn weight_ok(d: usize) -> bool
 }
 
 fn conclusion_ok(img: &[u8], i: usize) -> bool
-    requires { ⌜ (frameOk (wordAt (now img)) ≡ true) × (i ≤ 10000000000) ⌝ }
+    requires { ⌜ (tablesOk (wordAt (now img)) ≡ true) × (i ≤ 10000000000) ⌝ }
     ensures { λ r. ⌜ r ≡ conclusionOk (decode (wordAt (now (img .entry)))) (conclusionAt (wordAt (now (img .entry))) i) ⌝ }
 {
     let o = word(img, 15) + i * 2;
@@ -50,7 +50,7 @@ fn conclusion_ok(img: &[u8], i: usize) -> bool
 
 // k conclusions from s on.
 fn conclusions_ok(img: &[u8], s: usize, k: usize) -> bool
-    requires { ⌜ (frameOk (wordAt (now img)) ≡ true) × (s ≤ 4294967295) × (k ≤ 4294967295) ⌝ }
+    requires { ⌜ (tablesOk (wordAt (now img)) ≡ true) × (s ≤ 4294967295) × (k ≤ 4294967295) ⌝ }
     ensures { λ r. ⌜ r ≡ all (conclusionOk (decode (wordAt (now (img .entry))))) (tab (conclusionAt (wordAt (now (img .entry)))) k s) ⌝ }
 {
     let e = s + k;
@@ -65,7 +65,7 @@ fn conclusions_ok(img: &[u8], s: usize, k: usize) -> bool
 }
 
 fn rule_ok(img: &[u8], m: usize, i: usize) -> bool
-    requires { ⌜ (frameOk (wordAt (now img)) ≡ true) × (m ≤ 4294967295) × (i ≤ 64) ⌝ }
+    requires { ⌜ (tablesOk (wordAt (now img)) ≡ true) × (m ≤ 4294967295) × (i ≤ 64) ⌝ }
     ensures { λ r. ⌜ r ≡ ruleStored (wordAt (now (img .entry))) m i ⌝ }
 {
     let o = word(img, 13) + i * 6;
@@ -91,7 +91,7 @@ fn rule_ok(img: &[u8], m: usize, i: usize) -> bool
 
 // n condition words and k conclusions stand before the rule's.
 fn row_ok(img: &[u8], m: usize, i: usize, n: usize, k: usize) -> bool
-    requires { ⌜ (frameOk (wordAt (now img)) ≡ true) × (m ≤ 4294967295) × (i ≤ 64) ⌝ }
+    requires { ⌜ (tablesOk (wordAt (now img)) ≡ true) × (m ≤ 4294967295) × (i ≤ 64) ⌝ }
     ensures { λ r. ⌜ r ≡ rowStored (wordAt (now (img .entry))) m i n k ⌝ }
 {
     let o = word(img, 13) + i * 6;
@@ -106,7 +106,7 @@ fn row_ok(img: &[u8], m: usize, i: usize, n: usize, k: usize) -> bool
 
 // e rules, whose condition words and conclusions add up to the header's totals.
 fn rows_ok(img: &[u8], m: usize, e: usize) -> bool
-    requires { ⌜ (frameOk (wordAt (now img)) ≡ true) × (m ≤ 4294967295) × (e ≤ 64) ⌝ }
+    requires { ⌜ (tablesOk (wordAt (now img)) ≡ true) × (m ≤ 4294967295) × (e ≤ 64) ⌝ }
     ensures { λ r. ⌜ r ≡ rulesWalk (wordAt (now (img .entry))) m e 0 0 0 ⌝ }
 {
     let o = word(img, 13);
@@ -148,7 +148,7 @@ fn numbers_distinct(img: &[u8], e: usize) -> bool
 
 // The tables of rules, condition words and conclusions, where there are m input terms.
 pub fn rules_ok(img: &[u8], m: usize) -> bool
-    requires { ⌜ (frameOk (wordAt (now img)) ≡ true) × (m ≡ inputTermsIn (wordAt (now img))) × (m ≤ 4294967295) ⌝ }
+    requires { ⌜ (tablesOk (wordAt (now img)) ≡ true) × (m ≡ inputTermsIn (wordAt (now img))) × (m ≤ 4294967295) ⌝ }
     ensures { λ r. ⌜ r ≡ rulesOk (wordAt (now (img .entry))) ⌝ }
 {
     let e = word(img, 6);

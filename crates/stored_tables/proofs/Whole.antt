@@ -8,7 +8,7 @@ use borrow.Author.Tests.{eq-eqb, ne-eqb}
 use Rattle.model.specs.Basic.{every}
 use Rattle.words.proofs.Places.{passed, pass}
 use Rattle.layout.specs.Tables.{inputTermsIn, outputTermsIn, headerOk, inputRows, outputRows, inputTermRows, outputTermRows, outputPointRows}
-use Rattle.layout.specs.Groups.{frameOk}
+use Rattle.layout.specs.Groups.{tablesOk}
 use Rattle.layout.proofs.Bytes.{tests-equal}
 use Rattle.stored_tables.specs.Tests.{termTests}
 use Rattle.stored_tables.proofs.Lists.{clash}
@@ -33,15 +33,15 @@ module _ (t x k a b : ℕ) (et : t ≡ x) (ek : k ≡ a) where
 
 pub frame-left : (w : ℕ → ℕ) (k n : ℕ) → k ≡ inputTermsIn w → n ≡ outputTermsIn w
     → headerOk w ≡ true → inputRows w ≡ true → outputRows w ≡ true → eqb (w 4) (inputTermsIn w + outputTermsIn w) ≡ true
-    → every (termTests w k n) ≡ frameOk w
-unfolding frameOk inputTermRows outputTermRows outputPointRows
+    → every (termTests w k n) ≡ tablesOk w
+unfolding tablesOk inputTermRows outputTermRows outputPointRows
 frame-left w k n ek en a b c d =
-    (λ j. every (termTests w (ek j) (en j))) ∙ tests-equal (every (termTests w (inputTermsIn w) (outputTermsIn w))) (frameOk w) to from
+    (λ j. every (termTests w (ek j) (en j))) ∙ tests-equal (every (termTests w (inputTermsIn w) (outputTermsIn w))) (tablesOk w) to from
   where
-    to : every (termTests w (inputTermsIn w) (outputTermsIn w)) ≡ true → frameOk w ≡ true
+    to : every (termTests w (inputTermsIn w) (outputTermsIn w)) ≡ true → tablesOk w ≡ true
     to h = let t = passed _ h in pass _ (a, (b, (c, (t .0, (t .1 .1 .0, (t .1 .1 .1 .0, (d, (t .1 .0, tt))))))))
 
-    from : frameOk w ≡ true → every (termTests w (inputTermsIn w) (outputTermsIn w)) ≡ true
+    from : tablesOk w ≡ true → every (termTests w (inputTermsIn w) (outputTermsIn w)) ≡ true
     from h =
         let t = passed _ h in
         pass _ (t .1 .1 .1 .0, (t .1 .1 .1 .1 .1 .1 .1 .0, (t .1 .1 .1 .1 .0, (t .1 .1 .1 .1 .1 .0, tt))))

@@ -6,7 +6,7 @@ ghost use lib.Dec.{eqb};
 ghost use Rattle.model.specs.Basic.{every};
 ghost use Rattle.model.specs.Image.{wordAt, wordBytes};
 ghost use Rattle.layout.specs.Tables.{sums, termCount, inputTermsIn, outputTermsIn, inputRows, nameExact, headerOk};
-ghost use Rattle.layout.specs.Groups.{frameOk};
+ghost use Rattle.layout.specs.Groups.{tablesOk};
 ghost use Rattle.stored_tables.specs.Tests.{padStep, padRun, rangeTest, defaultTest, inputTest, outputTest, termTest, outputTermTest, offsetTests, codeTests, outputRowsFrom, termRowsTo, outputTermRowsFrom, outputPointsFrom, termTests};
 use words::word;
 
@@ -349,7 +349,7 @@ fn refused() -> Tables
 }
 
 pub fn frame(img: &[u8]) -> Tables
-    ensures { λ r. ⌜ (r .ok ≡ frameOk (wordAt (now (img .entry)))) × (r .ok ≡ true → r .«input_terms» ≡ inputTermsIn (wordAt (now (img .entry)))) ⌝ }
+    ensures { λ r. ⌜ (r .ok ≡ tablesOk (wordAt (now (img .entry)))) × (r .ok ≡ true → r .«input_terms» ≡ inputTermsIn (wordAt (now (img .entry)))) ⌝ }
     ensures small { λ r. ⌜ (r .«input_terms» ≤ 4294967295) × (r .ok ≡ false → r .«input_terms» ≡ 0) ⌝ }
 {
     if !header_ok(img) {

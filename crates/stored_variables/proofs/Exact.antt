@@ -11,7 +11,7 @@ use Rattle.model.specs.Image.{nameWords, nameAt, tab, termAt, singletonAt, inpu
 use Rattle.words.proofs.Places.{both, passed, at-cut}
 use Rattle.layout.specs.Rows.{rowsOk}
 use Rattle.layout.specs.Tables.{inputRow, inputNext, outputRow, outputNext, termRow, termNext, sums, outputTermAt, inputCount, outputCount, inputTermsIn, outputTermsIn, inputPointsIn, inputRows, outputRows, inputTermRows, outputTermRows, nameExact, headerOk}
-use Rattle.layout.specs.Groups.{frameOk}
+use Rattle.layout.specs.Groups.{tablesOk}
 use Rattle.layout.proofs.RowLaws.{stands, stood}
 use Rattle.layout.proofs.TableLaws.{Runs, runs-from}
 use Rattle.layout.proofs.Parts.{inputFirst, outputFirst, input-row, output-row}
@@ -92,8 +92,8 @@ module _ (w : ℕ → ℕ) where
     pub inputTerms : (i : ℕ) → i < w 2 → Exact w (w 11) 6 (inputCount w i) (inputFirst w i)
     pub outputTerms : (i : ℕ) → i < w 3 → Exact w (w 11) 6 (outputCount w i) (outputFirst w i)
 
-  pub frame-names : frameOk w ≡ true → Names
-  unfolding frameOk headerOk
+  pub frame-names : tablesOk w ≡ true → Names
+  unfolding tablesOk headerOk
   frame-names h =
       let f = passed _ h in
       let d = passed _ (f .0) in

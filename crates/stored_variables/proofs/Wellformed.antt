@@ -13,7 +13,7 @@ use Rattle.words.proofs.Places.{both, length-tab}
 use Rattle.stored_names.specs.Stored.{nameStored}
 use Rattle.stored_names.proofs.Tables.{Stored, map-tab, nameIn, distinct-names, joined-names}
 use Rattle.layout.specs.Tables.{inputCount, outputCount, nameExact}
-use Rattle.layout.specs.Groups.{frameOk, variablesOk}
+use Rattle.layout.specs.Groups.{tablesOk, variablesOk}
 use Rattle.layout.proofs.Parts.{inputFirst, outputFirst}
 use Rattle.stored_variables.specs.Stored.{termStored, termsApart, inputStored, rangeAt, defaultAt, singletonStored, outputStored, variablesApart, variablesStored}
 use Rattle.stored_variables.proofs.Exact.{Span, no-span, span, Exact, frame-names}
@@ -142,7 +142,7 @@ module _ (w : ℕ → ℕ) where
       sym (joined-names w (w 9) 7 (w 2) (w 10) 11 (w 3) p q)
       ∙ (λ j. distinct sameName (sym (map-tab (λ v. v .name) (inputAt w) (w 2) 0) j ++ sym (map-tab (λ v. v .name) (outputAt w) (w 3) 0) j))
 
-  pub variables-same : frameOk w ≡ true → variablesStored w ≡ variablesOk w
+  pub variables-same : tablesOk w ≡ true → variablesStored w ≡ variablesOk w
   unfolding variablesStored variablesOk decode every
   variables-same h =
       let f = frame-names w h in

@@ -8,7 +8,7 @@ ghost use Rattle.model.specs.Basic.{all};
 ghost use Rattle.model.specs.Tokens.{inCrisp};
 ghost use Rattle.model.specs.WellFormed.{pointOk, rising, rangeOk, figureOk, defaultOk};
 ghost use Rattle.model.specs.Image.{wordAt, tab, crispOf, pointAt};
-ghost use Rattle.layout.specs.Groups.{frameOk, variablesOk};
+ghost use Rattle.layout.specs.Groups.{tablesOk, variablesOk};
 ghost use Rattle.stored_variables.specs.Stored.{bias, termStored, termsApart, inputStored, rangeAt, defaultAt, singletonStored, outputStored, variablesApart};
 
 // The word of a position, moved so that words are ordered as positions are.
@@ -298,7 +298,7 @@ fn variables_apart(img: &[u8], n: usize, m: usize) -> bool
 
 // Names, counts, terms and points are those of the variables of a block.
 pub fn variables_ok(img: &[u8]) -> bool
-    requires { ⌜ frameOk (wordAt (now img)) ≡ true ⌝ }
+    requires { ⌜ tablesOk (wordAt (now img)) ≡ true ⌝ }
     ensures { λ r. ⌜ r ≡ variablesOk (wordAt (now (img .entry))) ⌝ }
 {
     if !stored_names::name_ok(img, 20) {

@@ -1,1 +1,1 @@
-pub mod Book
+pub mod Symbols

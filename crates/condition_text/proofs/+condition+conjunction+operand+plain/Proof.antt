@@ -8,7 +8,7 @@ use Rattle.model.specs.Keywords.{AND, OR}
 use Rattle.model.specs.Rules.{chain, plain as plainOf, operand as operandOf, conditionWith, parenthesis}
 use Rattle.cursor.specs.View.{left}
 use Rattle.cursor.proofs.Laws.{kind-seen}
-use Rattle.symbol_table.specs.Book.{Describes}
+use Rattle.symbol_table.specs.Symbols.{Describes}
 use Rattle.condition_text.specs.Pending.{Within}
 use Rattle.condition_text.proofs.Laws as laws
 use borrow.Fn.Kinds.{In}
@@ -74,11 +74,11 @@ abbrev plain-below : ℕ → In 4 plain-kinds.ps
 plain-below t = and 4 plain-kinds.ps (falls 4 plain-kinds.ps _<_ μ-plain t) plain.Pre
 
 abbrev condition-Inv-loop : condition-lts.InvT-loop
-condition-Inv-loop s names book words₀ depth q₀ words q =
-    Within s 0 q₀ q words₀ words × ((b : Block) → Describes s names book b → laws.Going (chain (operandOf (parenthesis depth)) AND andOf) OR orOf s b q₀ words₀ q words)
+condition-Inv-loop s names symbols words₀ depth q₀ words q =
+    Within s 0 q₀ q words₀ words × ((b : Block) → Describes s names symbols b → laws.Going (chain (operandOf (parenthesis depth)) AND andOf) OR orOf s b q₀ words₀ q words)
 
 abbrev condition-μ-loop : condition-lts.MeasureT-loop
-condition-μ-loop s names book words₀ depth q₀ words q = left s (q .cursor)
+condition-μ-loop s names symbols words₀ depth q₀ words q = left s (q .cursor)
 
 condition-conjunction-requires : (t : ℕ) → condition-lts.Need-conjunction-requires (
   conjunction-below t,
@@ -177,11 +177,11 @@ condition-returns t c =
     ((λ b d. laws.stops _ _ _ _ b _ _ (l .q) _ _ _ (l .inv .1 b d) (c .if1 .left) (m .0 b d) (m .1 .fewer)), laws.within-then (m .1) (l .inv .0))
 
 abbrev conjunction-Inv-loop : conjunction-lts.InvT-loop
-conjunction-Inv-loop s names book words₀ depth q₀ words q =
-    Within s 0 q₀ q words₀ words × ((b : Block) → Describes s names book b → laws.Going (operandOf (parenthesis depth)) AND andOf s b q₀ words₀ q words)
+conjunction-Inv-loop s names symbols words₀ depth q₀ words q =
+    Within s 0 q₀ q words₀ words × ((b : Block) → Describes s names symbols b → laws.Going (operandOf (parenthesis depth)) AND andOf s b q₀ words₀ q words)
 
 abbrev conjunction-μ-loop : conjunction-lts.MeasureT-loop
-conjunction-μ-loop s names book words₀ depth q₀ words q = left s (q .cursor)
+conjunction-μ-loop s names symbols words₀ depth q₀ words q = left s (q .cursor)
 
 conjunction-operand-requires : (t : ℕ) → conjunction-lts.Need-operand-requires (
   operand-below t,

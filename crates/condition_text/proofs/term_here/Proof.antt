@@ -2,7 +2,7 @@ use mathlib.Core.Path.{sym}
 use native.Mathlib.Omega.{arith}
 use borrow.Author.Tests.{eq-eqb, ne-eqb}
 use borrow.Author.Needs.{needs}
-use Rattle.model.specs.Rules.{termHere}
+use Rattle.model.specs.Rules.{termOrNot}
 use Rattle.cursor.proofs.Laws.{kind-seen}
 use Rattle.condition_text.proofs.Laws as laws
 use Rattle.condition_text.proofs.term_here.Statement.{statement}
@@ -12,7 +12,7 @@ term-named-requires : tie.Need-term-named-requires
 term-named-requires c κs = search needs
 
 returns : tie.Need-returns
-unfolding termHere
+unfolding termOrNot
 returns c = ((λ b d. simp (kind-seen, ne-eqb _ _ (c .before .before .if1 .taken)) (c .term-named .ensures .0 b d)), c .term-named .ensures .1)
 
 count-requires : tie.Need-count-requires
@@ -33,7 +33,7 @@ put-requires c κs =
     (w .room .put, w .room .words, λ h. omega (arith, n .words (w .sticky h), n .put, w .even h, g .3 z))
 
 returns-2 : tie.Need-returns-2
-unfolding termHere
+unfolding termOrNot
 returns-2 c =
     let n = c .before .before .before .before .count .ensures .1 in
     let g = c .before .before .before .before .before .before .before .before .before .pre in

@@ -6,7 +6,7 @@ use native.Mathlib.Omega.{arith}
 use lib.IntN.{pos}
 use lib.ListN.{length, set, replicate}
 use Rattle.model.specs.Image.{wordAt, tab, decode}
-use Rattle.model.specs.Evaluation.{answersFrom, noAnswer, padded, heldOf}
+use Rattle.model.specs.Evaluation.{outputAnswers, noAnswer, padded, heldOf}
 use Rattle.model.specs.declared.Answer.{Answer}
 use Rattle.model.specs.declared.Crisp.{Crisp}
 use Rattle.defuzzification.specs.Outputs.{heightOf, answersBy}
@@ -100,7 +100,7 @@ returns c =
     let e : l .loop .i ≡ w 3 = omega (arith, l .before .word .ensures .0) in
     let k : length (t .args .t4) ≡ 6 = omega (arith, t .good) in
     let g : answersBy w (t .args .hs) (t .args .m) (t .args .t4) ≡ tab f (w 3) 0 =
-    ap (λ (n : ℕ). answersFrom h n (decode w .outputs) (map (λ x. x .0) (t .args .t4))) (t .pre .1) ∙ answers-are w h (t .args .t4) (t .pre .0) k in (
+    ap (λ (n : ℕ). outputAnswers h n (decode w .outputs) (map (λ x. x .0) (t .args .t4))) (t .pre .1) ∙ answers-are w h (t .args .t4) (t .pre .0) k in (
       l .loop .inv .2 ∙ ap (λ (n : ℕ). tab f n 0 ++ replicate (6 - n) noAnswer) e ∙ padded-is f (w 3) ∙ ap (padded noAnswer) (sym g),
       ap (λ (x : List Crisp). record { figures = x })
           (l .loop .inv .3 ∙ ap (λ (n : ℕ). tab (λ j. f j .thousandths) n 0 ++ replicate (6 - n) (record { 0 = pos 0 })) e ∙ held-is f (w 3))

@@ -1,6 +1,6 @@
 use mathlib.Core.Path.{sym, _∙_, subst}
 use Rattle.model.specs.Outcome.{Outcome}
-use Rattle.model.specs.Evaluation.{Evaluated, evaluate}
+use Rattle.model.specs.Evaluation.{CallResult, evaluate}
 use Rattle.model.specs.declared.Evaluation.{Evaluation}
 use Rattle.evaluation.specs.Tells.{Tells}
 use Rattle.evaluation.proofs.Laws.{tells-11, evaluate-yes, evaluate-no}
@@ -22,7 +22,7 @@ evaluate-accepted-requires c κs = c .before .examine .ensures .1 .0 (c .if1 .ta
 returns : tie.Need-returns
 returns c =
     let a = c .before .before .before .before .args in
-    subst (λ (o : Outcome Evaluated). Tells (c .evaluate-accepted .result) (a .before) o)
+    subst (λ (o : Outcome CallResult). Tells (c .evaluate-accepted .result) (a .before) o)
     (sym (evaluate-yes (a .img .now) (a .rs) (a .n) (a .before) (sym (c .before .before .examine .ensures .0) ∙ c .before .if1 .taken))) (c .evaluate-accepted .ensures)
 
 refused-requires : tie.Need-refused-requires

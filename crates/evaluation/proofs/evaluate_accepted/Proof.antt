@@ -11,7 +11,7 @@ use Rattle.model.specs.Image.{wordAt, decode}
 use mathlib.Core.Option.{some}
 use Rattle.model.specs.Outcome.{Outcome, refused}
 use Rattle.model.specs.declared.Verdict.the-variants.{Accepted}
-use Rattle.model.specs.Evaluation.{Evaluated, called, answers, noAnswer, padded, heldOf, heldOk, figuresOf}
+use Rattle.model.specs.Evaluation.{CallResult, evaluateBlock, blockAnswers, noAnswer, padded, heldOf, heldOk, figuresOf}
 use Rattle.model.specs.declared.Answer.{Answer}
 use Rattle.model.specs.declared.Evaluation.{Evaluation}
 use Rattle.layout.proofs.Whole.{inputs-count}
@@ -55,8 +55,8 @@ returns c =
     let w = c .before .before .before .before in
     let a = w .before .before .args in
     let b = decode (wordAt (a .img .now)) in
-    subst (λ (r : Evaluation). Tells r (a .before) (called b (a .rs) (a .n) (a .before))) (sym (c .refused .ensures))
-    (tells-12 (a .before) (called b (a .rs) (a .n) (a .before)) (called-12 b (a .rs) (a .n) (a .before) (λ e. c .before .if1 .taken (e ∙ inputs-are w))))
+    subst (λ (r : Evaluation). Tells r (a .before) (evaluateBlock b (a .rs) (a .n) (a .before))) (sym (c .refused .ensures))
+    (tells-12 (a .before) (evaluateBlock b (a .rs) (a .n) (a .before)) (called-12 b (a .rs) (a .n) (a .before) (λ e. c .before .if1 .taken (e ∙ inputs-are w))))
 
 refused-requires-2 : tie.Need-refused-requires-2
 refused-requires-2 c κs = search needs
@@ -66,8 +66,8 @@ returns-2 c =
     let e = c .before .before in
     let a = e .before .before .before .before .before .args in
     let b = decode (wordAt (a .img .now)) in
-    subst (λ (r : Evaluation). Tells r (a .before) (called b (a .rs) (a .n) (a .before))) (sym (c .refused2 .ensures))
-    (tells-13 (a .before) (called b (a .rs) (a .n) (a .before))
+    subst (λ (r : Evaluation). Tells r (a .before) (evaluateBlock b (a .rs) (a .n) (a .before))) (sym (c .refused2 .ensures))
+    (tells-13 (a .before) (evaluateBlock b (a .rs) (a .n) (a .before))
     (called-13 b (a .rs) (a .n) (a .before) (count-right e) (sym (e .before .record-ok .ensures) ∙ not-true (e .before .record-ok .result) (c .before .if2 .taken))))
 
 input-values-requires : tie.Need-input-values-requires
@@ -84,8 +84,8 @@ returns-3 c =
     let b = decode (wordAt (a .img .now)) in
     let v = c .before .before .input-values in
     let h : v .result .wrong < length (b .inputs) = omega (arith, inputs-are (e .before .before .before), c .before .if3 .taken) in
-    subst (λ (r : Evaluation). Tells r (a .before) (called b (a .rs) (a .n) (a .before))) (sym (c .refused3 .ensures))
-    (tells-14 (a .before) (called b (a .rs) (a .n) (a .before)) (v .result .wrong)
+    subst (λ (r : Evaluation). Tells r (a .before) (evaluateBlock b (a .rs) (a .n) (a .before))) (sym (c .refused3 .ensures))
+    (tells-14 (a .before) (evaluateBlock b (a .rs) (a .n) (a .before)) (v .result .wrong)
     (called-14 b (a .rs) (a .n) (a .before) (count-right e) (held-right k) (subst (λ (k : ℕ). k < length (b .inputs)) (v .ensures .0) h)
     ∙ ap (λ (k : ℕ). refused 14 (some k)) (sym (v .ensures .0))))
 
@@ -116,7 +116,7 @@ returns-4 c =
     let l : length (b .inputs) ≤ v .result .wrong = omega (arith, inputs-are (e .before .before .before), i .if3 .left) in
     let g = answers-are w (t .pre .0) (a .rs) (figuresOf (a .before)) (a .m) (t .pre .1) (v .result .wrong) (v .result .at) (d .term-degrees .result) (p .heights .result)
     (omega (arith, l, inputs-count w)) (v .ensures .1 .0) (d .term-degrees .ensures .0) (p .heights .ensures .0) in
-    subst (λ (x : Outcome Evaluated). Tells (record { verdict = Accepted; answers = o .result .answers; held = o .result .held }) (a .before) x)
+    subst (λ (x : Outcome CallResult). Tells (record { verdict = Accepted; answers = o .result .answers; held = o .result .held }) (a .before) x)
     (sym (called-ok b (a .rs) (a .n) (a .before) (count-right e) (held-right k) (subst (λ (k : ℕ). length (b .inputs) ≤ k) (v .ensures .0) l)))
     (record { verdict = refl; answers = o .ensures .0 ∙ ap (padded noAnswer) g; held = o .ensures .1 ∙ ap (λ (x : List Answer). heldOf (map (λ y. y .thousandths .0) x)) g })
 

@@ -6,7 +6,7 @@ use native.Mathlib.Omega.{arith}
 use lib.ListN.{getD}
 use borrow.Author.Tests.{not-true, not-false}
 use Rattle.model.specs.Image.{wordAt, decode, isImageOf}
-use Rattle.layout.specs.Groups.{frameOk, variablesOk}
+use Rattle.layout.specs.Groups.{tablesOk, variablesOk}
 use Rattle.load.proofs.Laws.{wrong-length, no-frame, no-variables, by-rules}
 use Rattle.load.proofs.examine.Statement.{statement}
 use Rattle.load.proofs.examine.Tie as tie
@@ -22,7 +22,7 @@ use Rattle.words.proofs.word.Reads as word-reads
 small : (c : tie.After-word) → (k : ℕ) → getD (c .before .before .args .img .now) k 0 < 256
 small c k = omega (arith, c .before .shared-slice-known .given k)
 
-framed : (c : tie.Else2) → frameOk (wordAt (c .before .before .before .before .before .before .args .img .now)) ≡ true
+framed : (c : tie.Else2) → tablesOk (wordAt (c .before .before .before .before .before .before .args .img .now)) ≡ true
 framed c = sym (c .before .before .frame .ensures .0 .0) ∙ not-false (c .before .before .frame .result .ok) (c .if2 .left)
 
 spoken : (c : tie.Else3) → variablesOk (wordAt (c .before .before .before .before .before .before .before .before .args .img .now)) ≡ true

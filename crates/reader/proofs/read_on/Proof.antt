@@ -10,17 +10,17 @@ use Rattle.rule_text.specs.Progress.{holding}
 use Rattle.reader.proofs.read_on.Statement.{statement}
 use Rattle.reader.proofs.read_on.Tie as tie
 
-book-of-requires : tie.Need-book-of-requires
-book-of-requires c κs = (c .before .before .before .pre .0 .holds .inputTerms, c .before .before .before .pre .0 .holds .outputTerms)
+symbols-of-requires : tie.Need-symbols-of-requires
+symbols-of-requires c κs = (c .before .before .before .pre .0 .holds .inputTerms, c .before .before .before .pre .0 .holds .outputTerms)
 
 rule-heading-requires : tie.Need-rule-heading-requires
 rule-heading-requires c κs = c .before .before .before .before .before .pre .0 .fits
 
 rules-requires : tie.Need-rules-requires
-rules-requires c κs = (c .before .before .before .before .before .before .before .rule-heading .ensures .1 .1, c .before .before .before .before .before .before .before .before .before .book-of .ensures .0 _ (c .before .before .before .before .before .before .before .before .before .before .before .before .before .pre .0 .holds), record { rules = omega arith; words = omega arith; conclusions = omega arith })
+rules-requires c κs = (c .before .before .before .before .before .before .before .rule-heading .ensures .1 .1, c .before .before .before .before .before .before .before .before .before .symbols-of .ensures .0 _ (c .before .before .before .before .before .before .before .before .before .before .before .before .before .pre .0 .holds), record { rules = omega arith; words = omega arith; conclusions = omega arith })
 
 is-complete-requires : tie.Need-is-complete-requires
-is-complete-requires c κs = let k = c .before .before .before .before .before .before .before .before .before .before .before .before .book-of .ensures .0 _ (c .before .before .before .before .before .before .before .before .before .before .before .before .before .before .before .before .pre .0 .holds) in (k .inputs, k .outputs)
+is-complete-requires c κs = let k = c .before .before .before .before .before .before .before .before .before .before .before .before .symbols-of .ensures .0 _ (c .before .before .before .before .before .before .before .before .before .before .before .before .before .before .before .before .pre .0 .holds) in (k .inputs, k .outputs)
 
 back-requires : tie.Need-back-requires
 back-requires c κs = c .before .before .before .rules2 .ensures .1 .fits
@@ -30,7 +30,7 @@ refusal-of-requires c κs = let s = c .before .before .before .before .before .b
     let p = c .before .before .before .before .before .before .before .before .before .before .before .before .before .before .before .before .before .before .before .before .args .p in
     let t = p .tables in
     let h = c .before .before .before .before .before .before .before .before .before .before .before .before .before .before .rule-heading .result .heading in
-    let k = c .before .before .before .before .before .before .before .before .before .before .before .before .before .before .before .before .book-of .ensures in
+    let k = c .before .before .before .before .before .before .before .before .before .before .before .before .before .before .before .before .symbols-of .ensures in
     let g = c .before .before .before .before .before .before .before .before .before .before .before .before .before .before .before .before .before .before .before .before .pre .0 .holds in
     let b = headed s h (blockView s t) in
     let G = c .before .before .before .before .before .before .rules2 .ensures .0 b (k .1 s b g (laws.inputs-headed s t h) (laws.outputs-headed s t h)) (laws.kept-none s t h _ _ _ refl refl refl) in
@@ -43,7 +43,7 @@ returns c = let s = c .before .before .before .before .before .before .before .b
     let p = c .before .before .before .before .before .before .before .before .before .before .before .before .before .before .before .before .before .before .before .before .before .args .p in
     let t = p .tables in
     let h = c .before .before .before .before .before .before .before .before .before .before .before .before .before .before .before .rule-heading .result .heading in
-    let k = c .before .before .before .before .before .before .before .before .before .before .before .before .before .before .before .before .before .book-of .ensures in
+    let k = c .before .before .before .before .before .before .before .before .before .before .before .before .before .before .before .before .before .symbols-of .ensures in
     let g = c .before .before .before .before .before .before .before .before .before .before .before .before .before .before .before .before .before .before .before .before .before .pre .0 .holds in
     let b = headed s h (blockView s t) in
     let G = c .before .before .before .before .before .before .before .rules2 .ensures .0 b (k .1 s b g (laws.inputs-headed s t h) (laws.outputs-headed s t h)) (laws.kept-none s t h _ _ _ refl refl refl) in
@@ -63,7 +63,7 @@ returns-2 c = let s = c .before .before .before .before .before .before .before 
     let p = c .before .before .before .before .before .before .before .before .before .before .before .before .before .before .before .before .before .before .before .before .before .before .before .before .before .before .before .before .before .args .p in
     let t = p .tables in
     let h = c .before .before .before .before .before .before .before .before .before .before .before .before .before .before .before .before .before .before .before .before .before .before .before .rule-heading .result .heading in
-    let k = c .before .before .before .before .before .before .before .before .before .before .before .before .before .before .before .before .before .before .before .before .before .before .before .before .before .book-of .ensures in
+    let k = c .before .before .before .before .before .before .before .before .before .before .before .before .before .before .before .before .before .before .before .before .before .before .before .before .before .symbols-of .ensures in
     let g = c .before .before .before .before .before .before .before .before .before .before .before .before .before .before .before .before .before .before .before .before .before .before .before .before .before .before .before .before .before .pre .0 .holds in
     let b = headed s h (blockView s t) in
     let G = c .before .before .before .before .before .before .before .before .before .before .before .before .before .before .before .rules2 .ensures .0 b (k .1 s b g (laws.inputs-headed s t h) (laws.outputs-headed s t h)) (laws.kept-none s t h _ _ _ refl refl refl) in
@@ -77,7 +77,7 @@ pub read-on-spec : {M : Type 1} → statement M
 read-on-spec =
     tie.close
     (tie.spec
-    book-of-requires
+    symbols-of-requires
     rule-heading-requires
     rules-requires
     is-complete-requires

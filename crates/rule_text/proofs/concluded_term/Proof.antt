@@ -115,7 +115,7 @@ returns-3 c = let t = c .before .before .before .before .before .before .before 
     let a = c .before .advance .ensures .0 in
     let k = c .before .before .before .before .before .before .before .name-fault .ensures .1 (c .before .before .before .before .before .before .if1 .left) in (
       (λ b rs q m d. laws.concludes-one m _ _ p _ a
-          (laws.term-known s _ _ b d rs q (p .cursor) m (sym (c .before .before .before .before .before .before .if1 .left) ∙ c .before .before .before .before .before .before .before .name-fault .ensures .0 s (g .0) (midst b rs q) m) _ (g .2) _ (c .before .before .before .before .before .term-of .ensures .0) (c .before .before .if2 .left) (g .0 .halted (λ z. omega (arith, k)))) _ (laws.two-put (t .args .conclusions .now) (p .count * 2) (t .args .o) (getD (t .args .book .now) (8 + t .args .o) 0 + c .before .before .before .before .before .term-of .result))),
+          (laws.term-known s _ _ b d rs q (p .cursor) m (sym (c .before .before .before .before .before .before .if1 .left) ∙ c .before .before .before .before .before .before .before .name-fault .ensures .0 s (g .0) (midst b rs q) m) _ (g .2) _ (c .before .before .before .before .before .term-of .ensures .0) (c .before .before .if2 .left) (g .0 .halted (λ z. omega (arith, k)))) _ (laws.two-put (t .args .conclusions .now) (p .count * 2) (t .args .o) (getD (t .args .symbols .now) (8 + t .args .o) 0 + c .before .before .before .before .before .term-of .result))),
       record { fewer = a .fewer; fits = a .fits; grows = search needs; count = search needs },
     )
 

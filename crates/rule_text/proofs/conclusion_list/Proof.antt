@@ -7,7 +7,7 @@ use Rattle.model.specs.Block.{Block, Rule}
 use Rattle.model.specs.Parse.{listed}
 use Rattle.cursor.specs.View.{seen, left}
 use Rattle.cursor.proofs.Laws.{enough}
-use Rattle.symbol_table.specs.Book.{Describes}
+use Rattle.symbol_table.specs.Symbols.{Describes}
 use Rattle.rule_text.specs.Progress.{Onward, midst, gives}
 use native.Mathlib.Omega.{arith}
 use borrow.Author.Needs.{needs}
@@ -16,11 +16,11 @@ use Rattle.rule_text.proofs.conclusion_list.Statement.{statement}
 use Rattle.rule_text.proofs.conclusion_list.Tie as tie
 
 abbrev Inv-loop : tie.InvT-loop
-Inv-loop s names book conclusions₀ q₀ conclusions q = Onward s q₀ q × ((b : Block) (rs : List Rule) (x : Rule) (m : ℕ) → Describes s names book b → length (gather (λ r. r .conclusions) (midst b rs x .rules)) ≡ q₀ .count
+Inv-loop s names symbols conclusions₀ q₀ conclusions q = Onward s q₀ q × ((b : Block) (rs : List Rule) (x : Rule) (m : ℕ) → Describes s names symbols b → length (gather (λ r. r .conclusions) (midst b rs x .rules)) ≡ q₀ .count
     → (n : ℕ) → left s (q₀ .cursor) < n → laws.Lists s b rs x m n q₀ q conclusions₀ conclusions)
 
 abbrev μ-loop : tie.MeasureT-loop
-μ-loop s names book conclusions₀ q₀ conclusions q = left s (q .cursor)
+μ-loop s names symbols conclusions₀ q₀ conclusions q = left s (q .cursor)
 
 conclusion-requires : tie.Need-conclusion-requires Inv-loop μ-loop
 conclusion-requires c κs = search needs

@@ -5,7 +5,7 @@ use native.Mathlib.Omega.{arith}
 use Rattle.model.specs.Block.{Block, Rule}
 use Rattle.cursor.specs.View.{left}
 use Rattle.cursor.proofs.Laws.{enough}
-use Rattle.symbol_table.specs.Book.{Describes}
+use Rattle.symbol_table.specs.Symbols.{Describes}
 use Rattle.rule_text.specs.Progress.{Kept, Within, holding}
 use borrow.Author.Needs.{needs}
 use Rattle.rule_text.proofs.Laws as laws
@@ -13,11 +13,11 @@ use Rattle.rule_text.proofs.rules.Statement.{statement}
 use Rattle.rule_text.proofs.rules.Tie as tie
 
 abbrev Inv-loop : tie.InvT-loop
-Inv-loop s names book rules₀ words₀ conclusions₀ q₀ rules words conclusions q = Within s q₀ q × ((b : Block) → Describes s names book b → (rs : List Rule) → (q₀ .cursor .why ≡ 0 → Kept rs rules₀ words₀ conclusions₀ (q₀ .totals))
+Inv-loop s names symbols rules₀ words₀ conclusions₀ q₀ rules words conclusions q = Within s q₀ q × ((b : Block) → Describes s names symbols b → (rs : List Rule) → (q₀ .cursor .why ≡ 0 → Kept rs rules₀ words₀ conclusions₀ (q₀ .totals))
     → (n : ℕ) → left s (q₀ .cursor) < n → laws.Runs s b rs n q₀ q rules words conclusions)
 
 abbrev μ-loop : tie.MeasureT-loop
-μ-loop s names book rules₀ words₀ conclusions₀ q₀ rules words conclusions q = left s (q .cursor)
+μ-loop s names symbols rules₀ words₀ conclusions₀ q₀ rules words conclusions q = left s (q .cursor)
 
 rule-requires : tie.Need-rule-requires Inv-loop μ-loop
 rule-requires c κs = search needs

@@ -3,7 +3,7 @@ use mathlib.Core.Path.{refl, sym, _∙_}
 use Prim.Native.Nat.{ℕ}
 use Rattle.model.specs.Image.{wordAt}
 use Rattle.layout.specs.Tables.{outputTermsIn, outputRows}
-use Rattle.layout.specs.Groups.{frameOk}
+use Rattle.layout.specs.Groups.{tablesOk}
 use Rattle.stored_tables.specs.Tests.{outputRowsFrom}
 use Rattle.stored_tables.proofs.Lists.{clash, fails}
 use Rattle.stored_tables.proofs.Loops.{seen}
@@ -19,7 +19,7 @@ refused-requires : tie.Need-refused-requires
 refused-requires c κs = search needs
 
 returns : tie.Need-returns
-unfolding frameOk
+unfolding tablesOk
 returns c =
     (refuses _ _ (c .refused .ensures .0) (fails _ 0 (sym (c .before .before .header-ok .ensures) ∙ not-true _ (c .before .if1 .taken))), (search needs, (λ e. c .refused .ensures .1)))
 
@@ -30,7 +30,7 @@ refused-requires-2 : tie.Need-refused-requires-2
 refused-requires-2 c κs = search needs
 
 returns-2 : tie.Need-returns-2
-unfolding frameOk
+unfolding tablesOk
 returns-2 c =
     (refuses _ _ (c .refused2 .ensures .0) (fails _ 1 (sym (c .before .before .before .input-rows .ensures .0) ∙ not-true _ (c .before .if2 .taken))), (search needs, (λ e. c .refused2 .ensures .1)))
 
@@ -41,7 +41,7 @@ refused-requires-3 : tie.Need-refused-requires-3
 refused-requires-3 c κs = search needs
 
 returns-3 : tie.Need-returns-3
-unfolding frameOk
+unfolding tablesOk
 returns-3 c =
     let i = c .before .before .before .before .before .input-rows .ensures in
     let g = not-false _ (c .before .before .before .if2 .left) in
@@ -54,7 +54,7 @@ refused-requires-4 : tie.Need-refused-requires-4
 refused-requires-4 c κs = search needs
 
 returns-4 : tie.Need-returns-4
-unfolding frameOk outputRows
+unfolding tablesOk outputRows
 returns-4 c =
     let w = wordAt (c .before .before .before .before .before .before .before .before .before .before .before .before .args .img .now) in
     let i = c .before .before .before .before .before .before .before .before .input-rows .ensures in
@@ -65,7 +65,7 @@ refused-requires-5 : tie.Need-refused-requires-5
 refused-requires-5 c κs = search needs
 
 returns-5 : tie.Need-returns-5
-unfolding frameOk
+unfolding tablesOk
 returns-5 c =
     let i = c .before .before .before .before .before .before .before .before .before .before .input-rows .ensures in
     let g = not-false _ (c .before .before .before .before .before .before .before .before .if2 .left) in

@@ -3,8 +3,8 @@ use borrow.Author.Needs.{needs}
 use Rattle.block_symbols.proofs.Laws as laws
 use lib.ListN.{length}
 use Rattle.block_symbols.specs.Firsts.{termsAt}
-use Rattle.block_symbols.proofs.book_of.Statement.{statement}
-use Rattle.block_symbols.proofs.book_of.Tie as tie
+use Rattle.block_symbols.proofs.symbols_of.Statement.{statement}
+use Rattle.block_symbols.proofs.symbols_of.Tie as tie
 
 with-inputs-requires : tie.Need-with-inputs-requires
 with-inputs-requires c κs = search needs
@@ -22,9 +22,9 @@ returns : tie.Need-returns
 returns c = let a = c .before .before .before .before .args in
     let l : length (c .with-outputs .result) ≡ 17 = search needs in
     let f = c .with-outputs .ensures (termsAt (a .t)) (c .before .before .with-inputs .ensures .0 (termsAt (a .t)) (laws.rows-in (a .t))) (laws.rows-out (a .t)) in
-    ((λ s g. laws.is-book (a .t) (c .with-outputs .result) l f s g), λ s b g x y. laws.describes (a .t) (c .with-outputs .result) l f s g b x y)
+    ((λ s g. laws.is-symbols (a .t) (c .with-outputs .result) l f s g), λ s b g x y. laws.describes (a .t) (c .with-outputs .result) l f s g b x y)
 
-pub book-of-spec : {M : Type 1} → statement M
-book-of-spec =
+pub symbols-of-spec : {M : Type 1} → statement M
+symbols-of-spec =
     tie.close
     (tie.spec with-inputs-requires with-outputs-requires array-write-r array-write-r-2 returns)
