@@ -9,10 +9,10 @@ use lib.Dec.{ltb}
 use lib.ListN.{length, getD, replicate}
 use Rattle.model.specs.Basic.{all, isEmpty}
 use Rattle.model.specs.Block as block
-use Rattle.model.specs.Block.{Block, termsOf, singletonsOf}
+use Rattle.model.specs.Block.{Block, termsOf, singletonsOf, emptyBlock}
 use Rattle.model.specs.Image.{tab}
 use Rattle.model.specs.Keywords.{END, END-FUNCTION-BLOCK, END-RULEBLOCK}
-use Rattle.model.specs.Parse.{Parse, Checks, is, refuse, advance, judged, expect, emptyBlock}
+use Rattle.model.specs.Parse.{Parse, Checks, is, refuse, advance, judged, expect}
 use Rattle.model.specs.Tokens.{tokens}
 use Rattle.model.specs.Reader.{start, partsThere, endOfBlock}
 use Rattle.words.proofs.Places.{all-start}

@@ -2,8 +2,7 @@
 ghost use mathlib.Core.Path.{_≡_};
 ghost use mathlib.Core.List.{List};
 ghost use Prim.Native.Nat.{ℕ, _+_, _≤_};
-ghost use Rattle.model.specs.Block.{Block};
-ghost use Rattle.model.specs.Parse.{emptyBlock};
+ghost use Rattle.model.specs.Block.{Block, emptyBlock};
 ghost use Rattle.model.specs.Reader.{start, partsThere};
 ghost use Rattle.block_tables.specs.View.{blockView, Holds};
 ghost use Rattle.cursor.specs.View.{seen, Fits};

@@ -5,9 +5,9 @@ use Prim.Native.Nat.{ℕ, _+_, _*_, _≤_, _<_}
 use native.Mathlib.Omega.{arith}
 use lib.ListN.{length, set, length-set}
 use lib.Seq.{slice, getD-set-same, getD-set-other}
+use Rattle.model.specs.Block.{withName}
 use Rattle.model.specs.Basic.{if_then_else_}
 use Rattle.model.specs.Image.{tab}
-use Rattle.model.specs.Parse.{withName}
 use Rattle.model.specs.Declarations.{addInput}
 use Rattle.model.specs.declared.InputType.the-variants.{Real as real, Int as int}
 use Rattle.model.specs.declared.Pair.the-variants.{MinMax as min-max}

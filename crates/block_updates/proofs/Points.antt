@@ -7,9 +7,10 @@ use native.Mathlib.Numerals.{add-one}
 use native.Mathlib.Omega.{arith}
 use lib.ListN.{getD, set, length-set}
 use lib.Seq.{slice, getD-set-same, getD-set-other}
+use Rattle.model.specs.Block.{withTerms, withPoint as longerTerm}
 use Rattle.model.specs.Basic.{if_then_else_, updateLast}
 use Rattle.model.specs.Image.{tab}
-use Rattle.model.specs.Declarations.{addPoint, withTerms, withPoint as longerTerm}
+use Rattle.model.specs.Declarations.{addPoint}
 use Rattle.model.specs.declared.InputType.the-variants.{Real as real, Int as int}
 use Rattle.model.specs.declared.Pair.the-variants.{MinMax as min-max}
 use Rattle.model.specs.declared.Activation.the-variants.{Min as by-min}

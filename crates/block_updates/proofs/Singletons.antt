@@ -6,8 +6,9 @@ use native.Mathlib.Nat.{zero-add}
 use native.Mathlib.Omega.{arith}
 use lib.ListN.{length, getD, set, length-set}
 use lib.Seq.{slice, getD-set-same, getD-set-other}
+use Rattle.model.specs.Block.{withSingleton}
 use Rattle.model.specs.Image.{tab}
-use Rattle.model.specs.Declarations.{changeOutput, withSingleton}
+use Rattle.model.specs.Declarations.{changeOutput}
 use Rattle.model.specs.declared.Pair.the-variants.{MinMax as min-max}
 use Rattle.model.specs.declared.Activation.the-variants.{Min as by-min}
 use Rattle.model.specs.declared.Accumulation.the-variants.{Max as by-max}

@@ -10,10 +10,10 @@ use borrow.Author.Tests.{eq-eqb, ne-eqb, lt-ltb, le-ltb}
 use lib.ListN.{length, take, drop, set, length-append}
 use lib.Seq.{take-take, take-at, length-take-le, sets, sets-eq}
 use Rattle.model.specs.Basic.{if_then_else_}
-use Rattle.model.specs.Block.{Block, Op, Condition, term, two}
+use Rattle.model.specs.Block.{Block, Op, Condition, term, two, emptyBlock}
 use Rattle.model.specs.Image.{postfix, opWord}
 use Rattle.model.specs.Keywords.{CLOSE, IS}
-use Rattle.model.specs.Parse.{Parse, Part, kind, text, refuse, advance, judged, expect, aName, emptyBlock}
+use Rattle.model.specs.Parse.{Parse, Part, kind, text, refuse, advance, judged, expect, aName}
 use Rattle.model.specs.Declarations.{inputOf, termOf, isInput, isTerm}
 use Rattle.model.specs.Rules.{ConditionRead, conditionRead, word, conditionTerm, termOrNot, subcondition, negatedRead, closed, chainOn, chain, conditionWith, parenthesis}
 use Rattle.cursor.specs.declared.Cursor.{Cursor}

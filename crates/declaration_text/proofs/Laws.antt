@@ -7,10 +7,10 @@ use native.Mathlib.Omega.{arith}
 use borrow.Author.Tests.{eq-eqb, ne-eqb, lt-ltb, le-ltb}
 use lib.Dec.{ltb}
 use Rattle.model.specs.Basic.{if_then_else_}
-use Rattle.model.specs.Block.{Block}
+use Rattle.model.specs.Block.{Block, withName}
 use Rattle.model.specs.Bounds.{inputLimit}
 use Rattle.model.specs.Keywords.{COLON, SEMICOLON, REAL}
-use Rattle.model.specs.Parse.{Checks, text, refuse, advance, change, expect, listed, aName, ownName, withName}
+use Rattle.model.specs.Parse.{Checks, text, refuse, advance, change, expect, listed, aName, ownName}
 use Rattle.model.specs.Declarations.{inputOf, outputOf, isInput, isOutput, addInput, intFrom, variable, inputType, inputCount, inputDeclaration}
 use Rattle.cursor.specs.declared.Cursor.{Cursor}
 use Rattle.cursor.specs.View.{seen, textOf, Fits, Step, fault}

@@ -2,8 +2,8 @@
 ghost use mathlib.Core.Path.{_≡_};
 ghost use mathlib.Core.Bool.{true};
 ghost use Prim.Native.Nat.{ℕ, _≤_, _<_};
-ghost use Rattle.model.specs.Block.{Block};
-ghost use Rattle.model.specs.Parse.{ownName, withName, listed, repeated};
+ghost use Rattle.model.specs.Block.{Block, withName};
+ghost use Rattle.model.specs.Parse.{ownName, listed, repeated};
 ghost use Rattle.model.specs.Keywords.{NAME};
 ghost use Rattle.model.specs.Bounds.{inputLimit, outputLimit};
 ghost use Rattle.model.specs.Declarations.{variable, addInput, addOutput, inputCount, outputCount, inputType, inputDeclaration, outputDeclaration};

@@ -12,11 +12,11 @@ use lib.ListN.{length}
 use lib.Signed.{leZ, ltZ}
 use Rattle.model.specs.Basic.{if_then_else_, isEmpty, indexOf}
 use Rattle.model.specs.Image.{tab}
-use Rattle.model.specs.Block.{Block, Output, inRange, singletonsOf, rangeOf}
+use Rattle.model.specs.Block.{Block, Output, inRange, singletonsOf, rangeOf, withRange, withSingleton, withDefault}
 use Rattle.model.specs.Keywords.{NUMBER, ASSIGN, DOTS, OPEN, CLOSE, SEMICOLON, TERM}
 use Rattle.model.specs.Tokens.{valueOf, sameName}
 use Rattle.model.specs.Parse.{Parse, Checks, text, is, refuse, advance, change, expect, aName, aCrisp, valueHere}
-use Rattle.model.specs.Declarations.{singletonOf, isSingleton, isOutput, outputOf, lowerEnd, upperEnd, rangeBody, rangePart, figure, singletonBody, outputTerm, defaultValue, defuzzifyOf, defuzzifyVariable, changeOutput, withRange, withSingleton, withDefault}
+use Rattle.model.specs.Declarations.{singletonOf, isSingleton, isOutput, outputOf, lowerEnd, upperEnd, rangeBody, rangePart, figure, singletonBody, outputTerm, defaultValue, defuzzifyOf, defuzzifyVariable, changeOutput}
 use Rattle.cursor.specs.declared.Cursor.{Cursor}
 use Rattle.cursor.specs.View.{seen, textOf, Fits, Step, fault}
 use Rattle.cursor.proofs.Laws.{text-seen, block-seen, fault-bad, fault-good, numbered, lost-expect, lost-judged}

@@ -69,12 +69,10 @@ pub length-taken : (xs : List (Option ℤ)) (i : ℕ) → i ≤ length xs → le
 length-taken xs i h = length-map (take i xs) orZero ∙ length-take-le i xs h
 
 index-some : (o : Option ℤ) (l : List (Option ℤ)) → isNone o ≡ false → indexOf isNone (o ∷ l) ≡ suc (indexOf isNone l)
-unfolding indexOf
 index-some none l e = absurd (let z : _≡_ {A = ℕ} 0 1 = cc in omega arith)
 index-some (some x) l e = refl
 
 index-none : (o : Option ℤ) (l : List (Option ℤ)) → isNone o ≡ true → indexOf isNone (o ∷ l) ≡ 0
-unfolding indexOf
 index-none none l e = refl
 index-none (some x) l e = absurd (let z : _≡_ {A = ℕ} 0 1 = cc in omega arith)
 
@@ -91,7 +89,6 @@ module _ (xs : List (Option ℤ)) (i : ℕ) where
       g ∙ omega (arith, q)
 
   pub none-wrong : length xs ≤ i → firstWrong xs ≡ i + indexOf isNone (drop i xs) → firstWrong xs ≡ i
-  unfolding indexOf
   none-wrong h g =
       let q : indexOf isNone (drop i xs) ≡ 0 = rw (drop-of-length-le xs {i = i} h) refl in
       g ∙ omega (arith, q)

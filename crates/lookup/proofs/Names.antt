@@ -15,7 +15,6 @@ use Rattle.lookup.specs.Names.{nameOf, Placed}
 
 -- NAMES OF DIFFERENT LENGTHS, AND BYTE BY BYTE
 other-length : (v w : List ℕ) → (length v ≡ length w → ⊥) → same v w ≡ false
-unfolding same
 other-length [] [] h = absurd (h refl)
 other-length [] (y ∷ w) h = refl
 other-length (x ∷ v) [] h = refl
@@ -28,18 +27,18 @@ module _ (s : List ℕ) (a e b f : ℕ) (he : e ≤ length s) (hf : f ≤ length
 
   module _ (j : ℕ) (ha : a + j < e) (hb : b + j < f) where
     pub alike-more : getD s (a + j) 0 ≡ getD s (b + j) 0 → sameName (slice (a + j) e s) (slice (b + j) f s) ≡ sameName (slice (a + (j + 1)) e s) (slice (b + (j + 1)) f s)
-    unfolding sameName same
+    unfolding sameName
     alike-more q =
         let ka : a + (j + 1) ≡ suc (a + j) = omega arith in
         let kb : b + (j + 1) ≡ suc (b + j) = omega arith in
         rw (ka, kb, slice-cons (a + j) e s 0 ha he, slice-cons (b + j) f s 0 hb hf) (simp (eq-eqb _ _ q))
 
     pub differ-here : (getD s (a + j) 0 ≡ getD s (b + j) 0 → ⊥) → sameName (slice (a + j) e s) (slice (b + j) f s) ≡ false
-    unfolding sameName same
+    unfolding sameName
     differ-here q = rw (slice-cons (a + j) e s 0 ha he, slice-cons (b + j) f s 0 hb hf) (simp (ne-eqb _ _ q))
 
 pub alike-end : (s : List ℕ) (a e b f : ℕ) → a ≡ e → b ≡ f → sameName (slice a e s) (slice b f s) ≡ true
-unfolding sameName same
+unfolding sameName
 alike-end s a e b f p q = rw (p, q, slice-empty e s, slice-empty f s)
 
 -- THE FIRST OF n VALUES FROM m ON THAT PASSES: from the i-th on, one a turn
@@ -48,17 +47,17 @@ step n i h = omega arith
 
 module _ {A : Type 0} (f : A → Bool) (g : ℕ → A) (n m i : ℕ) where
   first-more : i < n → f (g (m + i)) ≡ false → i + indexOf f (tab g (n - i) (m + i)) ≡ i + 1 + indexOf f (tab g (n - (i + 1)) (m + (i + 1)))
-  unfolding indexOf tab
+  unfolding tab
   first-more h q =
       let k : m + (i + 1) ≡ suc (m + i) = omega arith in
       rw (k, step n i h) (simp q (omega arith))
 
   first-here : i < n → f (g (m + i)) ≡ true → i + indexOf f (tab g (n - i) (m + i)) ≡ i
-  unfolding indexOf tab
+  unfolding tab
   first-here h q = rw (step n i h) (simp q (omega arith))
 
   first-none : n ≤ i → i + indexOf f (tab g (n - i) (m + i)) ≡ i
-  unfolding indexOf tab
+  unfolding tab
   first-none h = let q : n - i ≡ 0 = omega arith in rw q (omega arith)
 
 -- the first i of the names are none of them the text from start to end
@@ -90,7 +89,7 @@ module _ (s names : List ℕ) (from count start end : ℕ) where
 -- rows are found by their names
 pub index-tab : {A : Type 0} (name : A → List ℕ) (f : ℕ → A) (g : ℕ → List ℕ) (w : List ℕ) → ((k : ℕ) → name (f k) ≡ g k)
     → (n i : ℕ) → indexOf (λ v. sameName w (name v)) (tab f n i) ≡ indexOf (sameName w) (tab g n i)
-unfolding indexOf tab
+unfolding tab
 index-tab name f g w e zero i = refl
 index-tab name f g w e (suc n) i =
     λ j. elim (sameName w (e i j)) as (λ b. ℕ) [ true ↦ 0 | false ↦ suc (index-tab name f g w e n (suc i) j) ]

@@ -49,7 +49,7 @@ gather f [] = []
 gather f (x ∷ xs) = f x ++ gather f xs
 
 -- how many elements stand before the first that passes; all of them where none does
-unfoldable pub indexOf : {A : Type 0} → (A → Bool) → List A → ℕ
+abbrev pub indexOf : {A : Type 0} → (A → Bool) → List A → ℕ
 indexOf f [] = 0
 indexOf f (x ∷ xs) = elim (f x) [ true ↦ 0 | false ↦ suc (indexOf f xs) ]
 
@@ -76,7 +76,7 @@ updateLast f (x ∷ []) = f x ∷ []
 updateLast f (x ∷ y ∷ xs) = x ∷ updateLast f (y ∷ xs)
 
 -- two lists of numbers are equal
-unfoldable pub same : List ℕ → List ℕ → Bool
+abbrev pub same : List ℕ → List ℕ → Bool
 same [] [] = true
 same [] (y ∷ ys) = false
 same (x ∷ xs) [] = false

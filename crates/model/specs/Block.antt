@@ -1,7 +1,7 @@
 -- A function block as document 01 speaks of it: variables, terms, points, rules with conditions as trees.
 -- Names are their bytes, crisp values thousandths, degrees and weights millionths.
 use mathlib.Core.Bool.{Bool, true, _&&_}
-use mathlib.Core.List.{List, [], _∷_, map}
+use mathlib.Core.List.{List, [], _∷_, _++_, map}
 use mathlib.Core.Option.{Option, none, some}
 use Prim.Native.Nat.{ℕ, _+_}
 use lib.IntN.{ℤ}
@@ -119,3 +119,60 @@ unfoldable pub mayFollow : List ℤ → ℤ → Bool
 mayFollow [] x = true
 mayFollow (p ∷ []) x = ltZ p x
 mayFollow (p ∷ q ∷ ps) x = mayFollow (q ∷ ps) x
+
+-- A BLOCK, CHANGED
+abbrev pub blockOf : List ℕ → List Input → List Output → List ℕ → Pair → Activation → Accumulation → List Rule → Block
+blockOf n is os w p a c rs =
+    record { name = n; inputs = is; outputs = os; ruleBlock = w; pair = p; act = a; accu = c; rules = rs }
+
+-- none given means MIN/MAX; ACT absent means MIN
+abbrev pub emptyBlock : Block
+emptyBlock = blockOf [] [] [] [] min-max by-min by-max []
+
+abbrev pub withName : List ℕ → Block → Block
+withName w b = blockOf w (b .inputs) (b .outputs) (b .ruleBlock) (b .pair) (b .act) (b .accu) (b .rules)
+
+abbrev pub withRuleBlock : List ℕ → Block → Block
+withRuleBlock w b = blockOf (b .name) (b .inputs) (b .outputs) w (b .pair) (b .act) (b .accu) (b .rules)
+
+abbrev pub withInputs : (List Input → List Input) → Block → Block
+withInputs f b = blockOf (b .name) (f (b .inputs)) (b .outputs) (b .ruleBlock) (b .pair) (b .act) (b .accu) (b .rules)
+
+abbrev pub withOutputs : (List Output → List Output) → Block → Block
+withOutputs f b = blockOf (b .name) (b .inputs) (f (b .outputs)) (b .ruleBlock) (b .pair) (b .act) (b .accu) (b .rules)
+
+abbrev pub withPair : Pair → Block → Block
+withPair p b = blockOf (b .name) (b .inputs) (b .outputs) (b .ruleBlock) p (b .act) (b .accu) (b .rules)
+
+abbrev pub withAct : Activation → Block → Block
+withAct a b = blockOf (b .name) (b .inputs) (b .outputs) (b .ruleBlock) (b .pair) a (b .accu) (b .rules)
+
+abbrev pub withAccu : Accumulation → Block → Block
+withAccu a b = blockOf (b .name) (b .inputs) (b .outputs) (b .ruleBlock) (b .pair) (b .act) a (b .rules)
+
+abbrev pub withRules : (List Rule → List Rule) → Block → Block
+withRules f b = blockOf (b .name) (b .inputs) (b .outputs) (b .ruleBlock) (b .pair) (b .act) (b .accu) (f (b .rules))
+
+abbrev pub asInt : Input → Input
+asInt v = record { name = v .name; type = int; terms = v .terms }
+
+abbrev pub withTerms : (List Term → List Term) → Input → Input
+withTerms f v = record { name = v .name; type = v .type; terms = f (v .terms) }
+
+abbrev pub withPoint : Point → Term → Term
+withPoint p t = record { name = t .name; points = t .points ++ (p ∷ []) }
+
+abbrev pub withSingleton : Singleton → Output → Output
+withSingleton s v = record { name = v .name; terms = v .terms ++ (s ∷ []); range = v .range; default = v .default }
+
+abbrev pub withRange : Range → Output → Output
+withRange g v = record { name = v .name; terms = v .terms; range = some g; default = v .default }
+
+abbrev pub withDefault : ℤ → Output → Output
+withDefault x v = record { name = v .name; terms = v .terms; range = v .range; default = some x }
+
+abbrev pub withConclusion : Conclusion → Rule → Rule
+withConclusion k r = record { number = r .number; condition = r .condition; conclusions = r .conclusions ++ (k ∷ []); weight = r .weight }
+
+abbrev pub withWeight : ℕ → Rule → Rule
+withWeight w r = record { number = r .number; condition = r .condition; conclusions = r .conclusions; weight = w }

@@ -15,6 +15,13 @@ textLimit = 65536
 abbrev pub nameLimit : ℕ
 nameLimit = 16
 
+-- digits of a number, and those after its point
+abbrev pub digitLimit : ℕ
+digitLimit = 7
+
+abbrev pub fractionLimit : ℕ
+fractionLimit = 3
+
 abbrev pub inputLimit : ℕ
 inputLimit = 8
 
@@ -40,6 +47,9 @@ wordLimit = 640
 
 abbrev pub conclusionLimit : ℕ
 conclusionLimit = 128
+
+abbrev pub ruleNumberLeast : ℕ
+ruleNumberLeast = 1
 
 abbrev pub ruleNumberLimit : ℕ
 ruleNumberLimit = 65535

@@ -11,8 +11,8 @@ use Rattle.model.specs.Basic.{if_then_else_, _▸_, isEmpty, indexOf, up
 use Rattle.model.specs.Bounds.{inputLimit, outputLimit, termLimit, pointLeast, pointLimit}
 use Rattle.model.specs.Keywords.{ASSIGN, DOTS, OPEN, CLOSE, COMMA, COLON, SEMICOLON, CoGS, DEFAULT, DEFUZZIFY, END-DEFUZZIFY, END-FUZZIFY, FUZZIFY, METHOD, NC, RANGE, TERM, REAL, INT}
 use Rattle.model.specs.Tokens.{sameName, unitOf}
-use Rattle.model.specs.Block.{Point, Term, Singleton, Input, Range, Output, Block, termsOf, singletonsOf, rangeOf, inRange, mayFollow, real, int}
-use Rattle.model.specs.Parse.{Part, text, is, advance, change, judged, expect, repeated, listed, aName, aCrisp, aUnit, valueHere, withInputs, withOutputs}
+use Rattle.model.specs.Block.{Point, Term, Singleton, Input, Range, Output, Block, termsOf, singletonsOf, rangeOf, inRange, mayFollow, real, int, withInputs, withOutputs, asInt, withTerms, withPoint, withSingleton, withRange, withDefault}
+use Rattle.model.specs.Parse.{Part, text, is, advance, change, judged, expect, repeated, listed, aName, aCrisp, aUnit, valueHere}
 
 -- NAMES AS DECLARED
 unfoldable pub inputOf : List ℕ → Block → ℕ
@@ -47,9 +47,6 @@ addInput w = withInputs (λ vs. vs ++ (record { name = w; type = real; terms = [
 unfoldable pub addOutput : List ℕ → Block → Block
 addOutput w = withOutputs (λ vs. vs ++ (record { name = w; terms = []; range = none; default = none } ∷ []))
 
-abbrev pub asInt : Input → Input
-asInt v = record { name = v .name; type = int; terms = v .terms }
-
 -- INT for the inputs from the n-th on
 unfoldable pub intFrom : ℕ → Block → Block
 intFrom n = withInputs (λ vs. take n vs ++ map asInt (drop n vs))
@@ -72,22 +69,17 @@ inputType n r = if is INT r then advance (change (intFrom n) r) else expect REAL
 
 unfoldable pub inputDeclaration : Part
 inputDeclaration r =
+    let n : ℕ = inputCount (r .block) in
     r ▸ listed (variable addInput inputCount inputLimit)
-    ▸ expect COLON ▸ inputType (inputCount (r .block)) ▸ expect SEMICOLON
+    ▸ expect COLON ▸ inputType n ▸ expect SEMICOLON
 
 unfoldable pub outputDeclaration : Part
 outputDeclaration r =
     r ▸ listed (variable addOutput outputCount outputLimit) ▸ expect COLON ▸ expect REAL ▸ expect SEMICOLON
 
 -- FUZZIFY
-abbrev pub withTerms : (List Term → List Term) → Input → Input
-withTerms f v = record { name = v .name; type = v .type; terms = f (v .terms) }
-
 unfoldable pub addTerm : ℕ → List ℕ → Block → Block
 addTerm i w = withInputs (update (withTerms (λ ts. ts ++ (record { name = w; points = [] } ∷ []))) i)
-
-abbrev pub withPoint : Point → Term → Term
-withPoint p t = record { name = t .name; points = t .points ++ (p ∷ []) }
 
 -- to the last term of input i
 unfoldable pub addPoint : ℕ → Point → Block → Block
@@ -111,7 +103,9 @@ pointDegree i x r =
     judged (aUnit r) r (advance (change (addPoint i (record { at = x; degree = unitOf (text r) })) r))
 
 unfoldable pub pointBody : ℕ → Part
-pointBody i r = r ▸ pointPosition i ▸ expect COMMA ▸ pointDegree i (valueHere r) ▸ expect CLOSE
+pointBody i r =
+    let x : ℤ = valueHere r in
+    r ▸ pointPosition i ▸ expect COMMA ▸ pointDegree i x ▸ expect CLOSE
 
 unfoldable pub point : ℕ → Part
 point i r =
@@ -142,15 +136,6 @@ unfoldable pub fuzzify : Part
 fuzzify r = r ▸ expect FUZZIFY ▸ fuzzifyVariable
 
 -- DEFUZZIFY
-abbrev pub withSingleton : Singleton → Output → Output
-withSingleton s v = record { name = v .name; terms = v .terms ++ (s ∷ []); range = v .range; default = v .default }
-
-abbrev pub withRange : Range → Output → Output
-withRange g v = record { name = v .name; terms = v .terms; range = some g; default = v .default }
-
-abbrev pub withDefault : ℤ → Output → Output
-withDefault x v = record { name = v .name; terms = v .terms; range = v .range; default = some x }
-
 unfoldable pub changeOutput : (Output → Output) → ℕ → Block → Block
 changeOutput f o = withOutputs (update f o)
 
@@ -163,7 +148,9 @@ upperEnd o x r =
     r (advance (change (changeOutput (withRange (record { least = x; most = valueHere r })) o) r))
 
 unfoldable pub rangeBody : ℕ → Part
-rangeBody o r = r ▸ lowerEnd ▸ expect DOTS ▸ upperEnd o (valueHere r) ▸ expect CLOSE ▸ expect SEMICOLON
+rangeBody o r =
+    let least : ℤ = valueHere r in
+    r ▸ lowerEnd ▸ expect DOTS ▸ upperEnd o least ▸ expect CLOSE ▸ expect SEMICOLON
 
 unfoldable pub rangePart : ℕ → Part
 rangePart o r = if is RANGE r then rangeBody o (r ▸ advance ▸ expect OPEN) else r
@@ -176,8 +163,9 @@ figure with o r =
 
 unfoldable pub singletonBody : ℕ → Part
 singletonBody o r =
-    judged (aName r ((not (isSingleton o (text r) (r .block)), 4) ∷ []))
-    r (advance r ▸ expect ASSIGN ▸ figure (λ x. withSingleton (record { name = text r; at = x })) o ▸ expect SEMICOLON)
+    let w : List ℕ = text r in
+    judged (aName r ((not (isSingleton o w (r .block)), 4) ∷ []))
+    r (advance r ▸ expect ASSIGN ▸ figure (λ x. withSingleton (record { name = w; at = x })) o ▸ expect SEMICOLON)
 
 unfoldable pub outputTerm : ℕ → Part
 outputTerm o r =

@@ -1,12 +1,13 @@
 -- Keywords: the words of Table 7 of source 001 in its order, then REAL and INT. They are compared byte by byte.
 use mathlib.Core.Bool.{Bool}
 use mathlib.Core.List.{List, [], _∷_}
-use Prim.Native.Nat.{ℕ}
+use Prim.Native.Nat.{ℕ, _+_}
+use Prim.Native.String.{String}
 use lib.Dec.{ltb}
 use lib.ListN.{length}
 use Rattle.model.specs.Basic.{bytes, same, indexOf}
 
-unfoldable pub keywords : List (List ℕ)
+abbrev pub keywords : List (List ℕ)
 keywords =
     bytes "ACCU" ∷ bytes "ACT" ∷ bytes "AND" ∷ bytes "ASUM" ∷ bytes "BDIF" ∷ bytes "BSUM" ∷ bytes "CoA" ∷
     bytes "CoG" ∷ bytes "CoGS" ∷ bytes "DEFAULT" ∷ bytes "DEFUZZIFY" ∷ bytes "END_DEFUZZIFY" ∷
@@ -18,7 +19,7 @@ keywords =
     bytes "INT" ∷ []
 
 -- the keyword's place in the list; its length for any other word
-unfoldable pub keywordAt : List ℕ → ℕ
+abbrev pub keywordAt : List ℕ → ℕ
 keywordAt w = indexOf (same w) keywords
 
 unfoldable pub isKeyword : List ℕ → Bool
@@ -66,107 +67,110 @@ SEMICOLON = 59
 
 -- keywords are of kind 128 and their place in the list
 
+abbrev pub kindOf : String → ℕ
+kindOf w = 128 + keywordAt (bytes w)
+
 abbrev pub ACCU : ℕ
-ACCU = 128
+ACCU = kindOf "ACCU"
 
 abbrev pub ACT : ℕ
-ACT = 129
+ACT = kindOf "ACT"
 
 abbrev pub AND : ℕ
-AND = 130
+AND = kindOf "AND"
 
 abbrev pub ASUM : ℕ
-ASUM = 131
+ASUM = kindOf "ASUM"
 
 abbrev pub BDIF : ℕ
-BDIF = 132
+BDIF = kindOf "BDIF"
 
 abbrev pub BSUM : ℕ
-BSUM = 133
+BSUM = kindOf "BSUM"
 
 abbrev pub CoGS : ℕ
-CoGS = 136
+CoGS = kindOf "CoGS"
 
 abbrev pub DEFAULT : ℕ
-DEFAULT = 137
+DEFAULT = kindOf "DEFAULT"
 
 abbrev pub DEFUZZIFY : ℕ
-DEFUZZIFY = 138
+DEFUZZIFY = kindOf "DEFUZZIFY"
 
 abbrev pub END-DEFUZZIFY : ℕ
-END-DEFUZZIFY = 139
+END-DEFUZZIFY = kindOf "END_DEFUZZIFY"
 
 abbrev pub END-FUNCTION-BLOCK : ℕ
-END-FUNCTION-BLOCK = 140
+END-FUNCTION-BLOCK = kindOf "END_FUNCTION_BLOCK"
 
 abbrev pub END-FUZZIFY : ℕ
-END-FUZZIFY = 141
+END-FUZZIFY = kindOf "END_FUZZIFY"
 
 abbrev pub END-RULEBLOCK : ℕ
-END-RULEBLOCK = 143
+END-RULEBLOCK = kindOf "END_RULEBLOCK"
 
 abbrev pub END-VAR : ℕ
-END-VAR = 144
+END-VAR = kindOf "END_VAR"
 
 abbrev pub FUNCTION-BLOCK : ℕ
-FUNCTION-BLOCK = 145
+FUNCTION-BLOCK = kindOf "FUNCTION_BLOCK"
 
 abbrev pub FUZZIFY : ℕ
-FUZZIFY = 146
+FUZZIFY = kindOf "FUZZIFY"
 
 abbrev pub IF : ℕ
-IF = 147
+IF = kindOf "IF"
 
 abbrev pub IS : ℕ
-IS = 148
+IS = kindOf "IS"
 
 abbrev pub MAX : ℕ
-MAX = 150
+MAX = kindOf "MAX"
 
 abbrev pub METHOD : ℕ
-METHOD = 151
+METHOD = kindOf "METHOD"
 
 abbrev pub MIN : ℕ
-MIN = 152
+MIN = kindOf "MIN"
 
 abbrev pub NC : ℕ
-NC = 153
+NC = kindOf "NC"
 
 abbrev pub NOT : ℕ
-NOT = 154
+NOT = kindOf "NOT"
 
 abbrev pub OR : ℕ
-OR = 157
+OR = kindOf "OR"
 
 abbrev pub PROD : ℕ
-PROD = 158
+PROD = kindOf "PROD"
 
 abbrev pub RANGE : ℕ
-RANGE = 159
+RANGE = kindOf "RANGE"
 
 abbrev pub RULE : ℕ
-RULE = 161
+RULE = kindOf "RULE"
 
 abbrev pub RULEBLOCK : ℕ
-RULEBLOCK = 162
+RULEBLOCK = kindOf "RULEBLOCK"
 
 abbrev pub TERM : ℕ
-TERM = 163
+TERM = kindOf "TERM"
 
 abbrev pub THEN : ℕ
-THEN = 164
+THEN = kindOf "THEN"
 
 abbrev pub VAR-INPUT : ℕ
-VAR-INPUT = 166
+VAR-INPUT = kindOf "VAR_INPUT"
 
 abbrev pub VAR-OUTPUT : ℕ
-VAR-OUTPUT = 167
+VAR-OUTPUT = kindOf "VAR_OUTPUT"
 
 abbrev pub WITH : ℕ
-WITH = 168
+WITH = kindOf "WITH"
 
 abbrev pub REAL : ℕ
-REAL = 169
+REAL = kindOf "REAL"
 
 abbrev pub INT : ℕ
-INT = 170
+INT = kindOf "INT"

@@ -102,35 +102,6 @@ aUnit r = (is NUMBER r, 2) ∷ (isUnit (text r), 3) ∷ []
 abbrev pub valueHere : Parse → ℤ
 valueHere r = valueOf (text r)
 
--- THE BLOCK, CHANGED
-abbrev pub withInputs : (List Input → List Input) → Block → Block
-withInputs f b = record { name = b .name; inputs = f (b .inputs); outputs = b .outputs; ruleBlock = b .ruleBlock; pair = b .pair; act = b .act; accu = b .accu; rules = b .rules }
-
-abbrev pub withOutputs : (List Output → List Output) → Block → Block
-withOutputs f b = record { name = b .name; inputs = b .inputs; outputs = f (b .outputs); ruleBlock = b .ruleBlock; pair = b .pair; act = b .act; accu = b .accu; rules = b .rules }
-
-abbrev pub withRules : (List Rule → List Rule) → Block → Block
-withRules f b = record { name = b .name; inputs = b .inputs; outputs = b .outputs; ruleBlock = b .ruleBlock; pair = b .pair; act = b .act; accu = b .accu; rules = f (b .rules) }
-
-abbrev pub withName : List ℕ → Block → Block
-withName w b = record { name = w; inputs = b .inputs; outputs = b .outputs; ruleBlock = b .ruleBlock; pair = b .pair; act = b .act; accu = b .accu; rules = b .rules }
-
-abbrev pub withRuleBlock : List ℕ → Block → Block
-withRuleBlock w b = record { name = b .name; inputs = b .inputs; outputs = b .outputs; ruleBlock = w; pair = b .pair; act = b .act; accu = b .accu; rules = b .rules }
-
-abbrev pub withPair : Pair → Block → Block
-withPair p b = record { name = b .name; inputs = b .inputs; outputs = b .outputs; ruleBlock = b .ruleBlock; pair = p; act = b .act; accu = b .accu; rules = b .rules }
-
-abbrev pub withAct : Activation → Block → Block
-withAct a b = record { name = b .name; inputs = b .inputs; outputs = b .outputs; ruleBlock = b .ruleBlock; pair = b .pair; act = a; accu = b .accu; rules = b .rules }
-
-abbrev pub withAccu : Accumulation → Block → Block
-withAccu a b = record { name = b .name; inputs = b .inputs; outputs = b .outputs; ruleBlock = b .ruleBlock; pair = b .pair; act = b .act; accu = a; rules = b .rules }
-
--- none given means MIN/MAX; ACT absent means MIN
-abbrev pub emptyBlock : Block
-emptyBlock = record { name = []; inputs = []; outputs = []; ruleBlock = []; pair = min-max; act = by-min; accu = by-max; rules = [] }
-
 -- a name of its own: of the function block, of the rule block
 unfoldable pub ownName : (List ℕ → Block → Block) → Part
 ownName with r = judged (aName r []) r (advance (change (with (text r)) r))

@@ -10,8 +10,8 @@ use Rattle.model.specs.Bounds.{textLimit}
 use Rattle.model.specs.Outcome.{Outcome, accepted, refused}
 use Rattle.model.specs.Keywords.{END, NAME, DEFUZZIFY, END-FUNCTION-BLOCK, END-VAR, FUNCTION-BLOCK, FUZZIFY, VAR-INPUT, VAR-OUTPUT}
 use Rattle.model.specs.Tokens.{tokens}
-use Rattle.model.specs.Block.{Block}
-use Rattle.model.specs.Parse.{Parse, Part, is, advance, judged, expect, repeated, withName, emptyBlock, ownName}
+use Rattle.model.specs.Block.{Block, withName, emptyBlock}
+use Rattle.model.specs.Parse.{Parse, Part, is, advance, judged, expect, repeated, ownName}
 use Rattle.model.specs.Declarations.{inputDeclaration, outputDeclaration, fuzzify, defuzzify}
 use Rattle.model.specs.Rules.{ruleBlock}
 

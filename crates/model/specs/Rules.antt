@@ -9,8 +9,8 @@ use Rattle.model.specs.Basic.{if_then_else_, _▸_, all, updateLast}
 use Rattle.model.specs.Bounds.{M, ruleLimit, wordLimit, conclusionLimit, depthLimit}
 use Rattle.model.specs.Keywords.{NUMBER, OPEN, CLOSE, COLON, SEMICOLON, ACCU, ACT, AND, ASUM, BDIF, BSUM, END-RULEBLOCK, IF, IS, MAX, MIN, NOT, OR, PROD, RULE, RULEBLOCK, THEN, WITH}
 use Rattle.model.specs.Tokens.{decimal, unitOf, isRuleNumber}
-use Rattle.model.specs.Block.{Op, Condition, Conclusion, Rule, Pair, Block, inputFirst, outputFirst, conclusions, and, or, term, neg, two, min-max, prod-asum, bdif-bsum, by-max, by-bsum, by-min, by-prod}
-use Rattle.model.specs.Parse.{Parse, Part, restOf, kind, text, is, refuse, advance, change, judged, expect, repeated, listed, aName, aUnit, withRules, withRuleBlock, withPair, withAct, withAccu, ownName}
+use Rattle.model.specs.Block.{Op, Condition, Conclusion, Rule, Pair, Block, inputFirst, outputFirst, conclusions, and, or, term, neg, two, min-max, prod-asum, bdif-bsum, by-max, by-bsum, by-min, by-prod, withRules, withRuleBlock, withPair, withAct, withAccu, withConclusion, withWeight}
+use Rattle.model.specs.Parse.{Parse, Part, restOf, kind, text, is, refuse, advance, change, judged, expect, repeated, listed, aName, aUnit, ownName}
 use Rattle.model.specs.Declarations.{inputOf, outputOf, isInput, isOutput, termOf, singletonOf, isTerm, isSingleton}
 
 -- CONDITIONS
@@ -45,7 +45,8 @@ termOrNot i r = if is NOT r then negatedRead (conditionTerm i (word r)) else con
 -- input IS [NOT] term
 unfoldable pub subcondition : Parse → ConditionRead
 subcondition r =
-    termOrNot (inputOf (text r) (r .block))
+    let i : ℕ = inputOf (text r) (r .block) in
+    termOrNot i
     (judged (aName r ((isInput (text r) (r .block), 5) ∷ [])) r (word r) ▸ expect IS)
 
 -- part {k part}, grouped to the left
@@ -85,12 +86,6 @@ condition = conditionWith (parenthesis depthLimit)
 -- RULEBLOCK
 unfoldable pub addRule : ℕ → Condition → Block → Block
 addRule n c = withRules (λ rs. rs ++ (record { number = n; condition = c; conclusions = []; weight = M } ∷ []))
-
-abbrev pub withConclusion : Conclusion → Rule → Rule
-withConclusion k r = record { number = r .number; condition = r .condition; conclusions = r .conclusions ++ (k ∷ []); weight = r .weight }
-
-abbrev pub withWeight : ℕ → Rule → Rule
-withWeight w r = record { number = r .number; condition = r .condition; conclusions = r .conclusions; weight = w }
 
 unfoldable pub changeRule : (Rule → Rule) → Block → Block
 changeRule f = withRules (updateLast f)
@@ -153,8 +148,9 @@ concludedTerm o r =
 
 unfoldable pub conclusion : Part
 conclusion r =
+    let o : ℕ = outputOf (text r) (r .block) in
     judged (aName r ((isOutput (text r) (r .block), 5) ∷ (ltb (length (conclusions (r .block))) conclusionLimit, 6) ∷ []))
-    r (advance r ▸ expect IS ▸ concludedTerm (outputOf (text r) (r .block)))
+    r (advance r ▸ expect IS ▸ concludedTerm o)
 
 unfoldable pub weight : Part
 weight r =
@@ -168,7 +164,9 @@ ruleGiven n g =
     g .parse ▸ change (addRule n (g .tree)) ▸ expect THEN ▸ listed conclusion ▸ weighted ▸ expect SEMICOLON
 
 unfoldable pub ruleFrom : Part
-ruleFrom r = ruleGiven (decimal (text r)) (r ▸ ruleNumber ▸ expect COLON ▸ expect IF ▸ condition)
+ruleFrom r =
+    let n : ℕ = decimal (text r) in
+    ruleGiven n (r ▸ ruleNumber ▸ expect COLON ▸ expect IF ▸ condition)
 
 unfoldable pub rule : Part
 rule r = judged ((is RULE r, 2) ∷ (ltb (length (r .block .rules)) ruleLimit, 6) ∷ []) r (ruleFrom (advance r))

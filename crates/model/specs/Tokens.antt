@@ -8,7 +8,7 @@ use lib.IntN.{ℤ, pos, negℤ, natAbs}
 use lib.ListN.{length, take, drop}
 use lib.Signed.{leZ}
 use Rattle.model.specs.Basic.{if_then_else_, bytes, between, all, run, same}
-use Rattle.model.specs.Bounds.{crispLimit, nameLimit, ruleNumberLimit}
+use Rattle.model.specs.Bounds.{crispLimit, nameLimit, digitLimit, fractionLimit, ruleNumberLeast, ruleNumberLimit}
 use Rattle.model.specs.Keywords.{keywordAt, isKeyword, END, WRONG, NAME, NUMBER, ASSIGN, DOTS, BLANK, OPEN, CLOSE, COMMA, COLON, SEMICOLON}
 
 -- BYTES
@@ -84,7 +84,7 @@ valueOf w = if starts (eqb 45) w then negℤ (pos (magnitude w)) else pos (magni
 
 -- 1 to 7 digits, and after a point 1 to 3
 abbrev pub digitsFit : List ℕ → Bool
-digitsFit w = leb (length (whole w)) 7 && leb (length (fraction w)) 3
+digitsFit w = leb (length (whole w)) digitLimit && leb (length (fraction w)) fractionLimit
 
 abbrev pub inCrisp : ℤ → Bool
 inCrisp z = leb (natAbs z) crispLimit
@@ -102,7 +102,8 @@ unitOf w = magnitude w * 1000
 
 -- neither sign nor point
 unfoldable pub isRuleNumber : List ℕ → Bool
-isRuleNumber w = all isDigit w && (leb (length w) 7 && between 1 ruleNumberLimit (decimal w))
+isRuleNumber w =
+    all isDigit w && (leb (length w) digitLimit && between ruleNumberLeast ruleNumberLimit (decimal w))
 
 -- TOKENS
 pub record Token : Type 0 where

@@ -8,7 +8,7 @@ use lib.IntN.{ℤ}
 use lib.ListN.{length}
 use lib.Signed.{ltZ}
 use Rattle.model.specs.Basic.{between, isEmpty, every, all, total, distinct}
-use Rattle.model.specs.Bounds.{M, inputLimit, outputLimit, termLimit, pointLeast, pointLimit, ruleLimit, wordLimit, conclusionLimit, ruleNumberLimit, depthLimit}
+use Rattle.model.specs.Bounds.{M, inputLimit, outputLimit, termLimit, pointLeast, pointLimit, ruleLimit, wordLimit, conclusionLimit, ruleNumberLeast, ruleNumberLimit, depthLimit}
 use Rattle.model.specs.Tokens.{isName, sameName, inCrisp}
 use Rattle.model.specs.Block.{Point, Term, Singleton, Input, Range, Output, Condition, term, neg, two, Conclusion, Rule, Block, inputTerms, outputFirst, conclusions, size, singletonsOf, inRange, mayFollow}
 use Rattle.model.specs.Parentheses.{depth}
@@ -84,7 +84,7 @@ conclusionOk b k = every (
 
 unfoldable pub ruleOk : Block → Rule → Bool
 ruleOk b r = every (
-    between 1 ruleNumberLimit (r .number)
+    between ruleNumberLeast ruleNumberLimit (r .number)
     ∷ conditionOk b (r .condition)
     ∷ not (isEmpty (r .conclusions))
     ∷ all (conclusionOk b) (r .conclusions)

@@ -9,7 +9,7 @@ use borrow.Author.Tests.{eq-eqb, ne-eqb}
 use lib.Dec.{eqb}
 use lib.Seq.{slice-empty}
 use Rattle.model.specs.Basic.{if_then_else_}
-use Rattle.model.specs.Block.{Block}
+use Rattle.model.specs.Block.{Block, withRuleBlock, withPair, withAct, withAccu}
 use Rattle.model.specs.declared.Pair.{Pair}
 use Rattle.model.specs.declared.Pair.the-variants.{MinMax as min-max}
 use Rattle.model.specs.declared.Activation.{Activation}
@@ -18,7 +18,7 @@ use Rattle.model.specs.declared.Accumulation.{Accumulation}
 use Rattle.model.specs.declared.Accumulation.the-variants.{Max as by-max, Bsum as by-bsum}
 use Rattle.model.specs.Image.{pairOf}
 use Rattle.model.specs.Keywords.{ACT, AND, BSUM, COLON, MAX, MIN, OR, PROD, SEMICOLON}
-use Rattle.model.specs.Parse.{Parse, Part, kind, text, refuse, advance, change, judged, expect, aName, ownName, withRuleBlock, withPair, withAct, withAccu}
+use Rattle.model.specs.Parse.{Parse, Part, kind, text, refuse, advance, change, judged, expect, aName, ownName}
 use Rattle.model.specs.Rules.{samePair, andPair, orPair, algorithm, algorithmLine, algorithms, activation, activationLine, accumulation}
 use Rattle.cursor.specs.declared.Cursor.{Cursor}
 use Rattle.cursor.specs.View.{seen, textOf, Fits, Step, fault}

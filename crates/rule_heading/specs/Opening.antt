@@ -6,14 +6,14 @@ use Prim.Native.Nat.{ℕ, _≤_}
 use lib.Dec.{eqb}
 use lib.Seq.{slice}
 use Rattle.model.specs.Basic.{if_then_else_, _▸_}
-use Rattle.model.specs.Block.{Block}
+use Rattle.model.specs.Block.{Block, withRuleBlock}
 use Rattle.model.specs.declared.Pair.{Pair}
 use Rattle.model.specs.declared.Pair.the-variants.{MinMax as min-max}
 use Rattle.model.specs.declared.Activation.the-variants.{Min as by-min}
 use Rattle.model.specs.declared.Accumulation.the-variants.{Max as by-max}
 use Rattle.model.specs.Image.{pairOf, accuOf, actOf}
 use Rattle.model.specs.Keywords.{AND, ACCU, COLON, RULEBLOCK, SEMICOLON}
-use Rattle.model.specs.Parse.{Part, expect, ownName, withRuleBlock}
+use Rattle.model.specs.Parse.{Part, expect, ownName}
 use Rattle.model.specs.Rules.{andPair, orPair, algorithms, activationLine, accumulation}
 use Rattle.cursor.specs.View.{seen, Fits, left}
 use Rattle.block_tables.specs.declared.Heading.{Heading}

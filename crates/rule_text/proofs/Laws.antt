@@ -9,14 +9,14 @@ use lib.Dec.{ltb, eqb}
 use lib.ListN.{length, drop, getD, set, length-append, drop-of-length-le}
 use lib.Seq.{getD-take, drop-cons, sets, length-sets}
 use Rattle.model.specs.Basic.{if_then_else_, all, gather, total}
-use Rattle.model.specs.Block.{Block, Rule, Condition, Conclusion, size, term, neg, two, inputFirst, outputFirst, termsOf, singletonsOf, conclusions}
+use Rattle.model.specs.Block.{Block, Rule, Condition, Conclusion, size, term, neg, two, inputFirst, outputFirst, termsOf, singletonsOf, conclusions, withConclusion, withWeight}
 use Rattle.model.specs.Bounds.{M}
 use Rattle.model.specs.Image.{postfix, conclusionWords}
 use Rattle.model.specs.Keywords.{NUMBER, NAME, COMMA, SEMICOLON, IS, IF, COLON, RULE, THEN, WITH}
 use Rattle.model.specs.Parse.{Parse, Part, kind, text, is, refuse, advance, change, judged, expect, repeatOn, repeated, listed, aName, aUnit}
 use Rattle.model.specs.Tokens.{decimal, unitOf, isRuleNumber}
 use Rattle.model.specs.Declarations.{inputOf, outputOf, termOf, singletonOf, isOutput, isSingleton}
-use Rattle.model.specs.Rules.{ConditionRead, addRule, changeRule, withConclusion, withWeight, ruleNumber, concludedTerm, conclusion, weight, weighted, condition, conditionWith, parenthesis, ruleGiven, ruleFrom, rule}
+use Rattle.model.specs.Rules.{ConditionRead, addRule, changeRule, ruleNumber, concludedTerm, conclusion, weight, weighted, condition, conditionWith, parenthesis, ruleGiven, ruleFrom, rule}
 use Rattle.cursor.specs.declared.Cursor.{Cursor}
 use Rattle.cursor.specs.View.{seen, textOf, Fits, left, Step, fault}
 use Rattle.cursor.proofs.Laws.{enough, kind-seen, text-seen, block-seen, changed, unchanged, clash, judged-bad, judged-good, numbered, lost-is, lost-expect, lost-judged, lost-repeated}

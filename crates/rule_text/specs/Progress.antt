@@ -4,10 +4,9 @@ use mathlib.Core.List.{List, [], _∷_, _++_}
 use Prim.Native.Nat.{ℕ, _+_, _*_, _≤_}
 use lib.ListN.{length, take}
 use Rattle.model.specs.Basic.{gather, total}
-use Rattle.model.specs.Block.{Block, Rule, Conclusion, size}
+use Rattle.model.specs.Block.{Block, Rule, Conclusion, size, withRules, withWeight}
 use Rattle.model.specs.Image.{conclusionWords}
-use Rattle.model.specs.Parse.{Part, withRules}
-use Rattle.model.specs.Rules.{withWeight}
+use Rattle.model.specs.Parse.{Part}
 use Rattle.cursor.specs.View.{seen, Fits, left}
 use Rattle.block_tables.specs.declared.Totals.{Totals}
 use Rattle.block_tables.specs.Stored.{Stored, ruleRow}

@@ -21,37 +21,37 @@ nots zero = term 0
 nots (suc n) = neg (nots n)
 
 eight-deep : isCondition 3 (postfix (nested 8)) ≡ true
-unfolding same postfix grown trees treeOf form depth termsBelow
+unfolding postfix grown trees treeOf form depth termsBelow
 eight-deep = refl
 
 nine-deep : isCondition 3 (postfix (nested 9)) ≡ false
-unfolding same postfix grown trees treeOf form depth termsBelow
+unfolding postfix grown trees treeOf form depth termsBelow
 nine-deep = refl
 
 ten-nots : isCondition 3 (postfix (nots 10)) ≡ true
-unfolding same postfix grown trees treeOf form depth termsBelow
+unfolding postfix grown trees treeOf form depth termsBelow
 ten-nots = refl
 
 eleven-nots : isCondition 3 (postfix (nots 11)) ≡ false
-unfolding same postfix grown trees treeOf form depth termsBelow
+unfolding postfix grown trees treeOf form depth termsBelow
 eleven-nots = refl
 
 term-past : isCondition 3 (19 ∷ []) ≡ false
-unfolding same postfix grown trees treeOf form depth termsBelow
+unfolding postfix grown trees treeOf form depth termsBelow
 term-past = refl
 
 no-word : isCondition 3 (16 ∷ 3 ∷ []) ≡ false
-unfolding same postfix grown trees treeOf form depth termsBelow
+unfolding postfix grown trees treeOf form depth termsBelow
 no-word = refl
 
 operand-too-many : isCondition 3 (16 ∷ 16 ∷ []) ≡ false
-unfolding same postfix grown trees treeOf form depth termsBelow
+unfolding postfix grown trees treeOf form depth termsBelow
 operand-too-many = refl
 
 operator-too-many : isCondition 3 (16 ∷ 1 ∷ []) ≡ false
-unfolding same postfix grown trees treeOf form depth termsBelow
+unfolding postfix grown trees treeOf form depth termsBelow
 operator-too-many = refl
 
 nothing : isCondition 3 [] ≡ false
-unfolding same postfix grown trees treeOf form depth termsBelow
+unfolding postfix grown trees treeOf form depth termsBelow
 nothing = refl

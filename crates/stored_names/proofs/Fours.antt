@@ -19,7 +19,6 @@ four f o =
 
 module _ (f g : ℕ → ℕ) (o q : ℕ) where
   spread : same (tab f 4 o) (tab g 4 q) ≡ eqb (f o) (g q) && (eqb (f (o + 1)) (g (q + 1)) && (eqb (f (o + 2)) (g (q + 2)) && (eqb (f (o + 3)) (g (q + 3)) && true)))
-  unfolding same
   spread = λ j. same (four f o j) (four g q j)
 
   module _ {x y : ℕ} where

@@ -93,7 +93,7 @@ module _ (a b c d : ℕ) where
 
 -- KEYWORDS
 found : {A : Type 0} (f : A → Bool) (xs : List A) → not (ltb (indexOf f xs) (length xs)) ≡ all (λ x. not (f x)) xs
-unfolding all indexOf
+unfolding all
 found f [] = refl
 found f (x ∷ xs) = go (found f xs) (f x) refl
   where
@@ -106,7 +106,7 @@ abbrev clean : List ℕ → Bool
 clean k = if leb (length k) nameLimit then same k (before (bytesOf (nameWords k))) else true
 
 clean-keywords : all clean keywords ≡ true
-unfolding all keywords same run bytesOf gather nameWords wordAt
+unfolding all run bytesOf gather nameWords wordAt
 clean-keywords = refl
 
 abbrev fitting : List ℕ → List (List ℕ)
@@ -147,7 +147,7 @@ arranged true true true k true m f = and-true k ∙ f refl
 arranged true true true k false m f = and-false k
 
 stored-words : (a b c d : ℕ) → isName (name a b c d) && same (ws a b c d) (nameWords (name a b c d)) ≡ spelt a b c d && absent same (ws a b c d) keywordWords
-unfolding isName isKeyword keywordAt keywordWords spelt steps bytesOf gather
+unfolding isName isKeyword keywordWords spelt steps bytesOf gather
 stored-words a b c d =
     let v = ws a b c d in
     let n = name a b c d in

@@ -24,7 +24,6 @@ and-assoc true b c = refl
 and-assoc false b c = refl
 
 same-append : (xs ys us bs : List ℕ) → length xs ≡ length ys → same (xs ++ us) (ys ++ bs) ≡ same xs ys && same us bs
-unfolding same
 same-append [] [] us bs e = refl
 same-append [] (y ∷ ys) us bs e = absurd (omega arith)
 same-append (x ∷ xs) [] us bs e = absurd (omega arith)
@@ -46,7 +45,7 @@ crisp-same x h = eq-eqb _ _ (sym (word-crisp x h))
 range-case : (f a b : ℕ) → a ≤ 4294967295 → b ≤ 4294967295
     → same (f ∷ a ∷ b ∷ []) (rangeWords (if eqb f 0 then none else some (record { least = crispOf a; most = crispOf b })))
     ≡ (if eqb f 0 then every (eqb a 0 ∷ eqb b 0 ∷ []) else eqb f 1)
-unfolding same every
+unfolding every
 range-case f a b ha hb = go (eqb f 0) refl
   where
     go : (t : Bool) → eqb f 0 ≡ t
@@ -57,7 +56,6 @@ range-case f a b ha hb = go (eqb f 0) refl
 
 default-case : (f a : ℕ) → a ≤ 4294967295
     → same (f ∷ a ∷ []) (defaultWords (if eqb f 0 then none else some (crispOf a))) ≡ (if eqb f 0 then eqb a 0 else eqb f 1)
-unfolding same
 default-case f a ha = go (eqb f 0) refl
   where
     go : (t : Bool) → eqb f 0 ≡ t
@@ -82,7 +80,7 @@ module _ (w : ℕ → ℕ) where
   counted f m k s e = and-i _ _ (eq-eqb _ _ (ap w e ∙ sym (length-tab f (w k) s))) refl
 
   pub input-row : (i p : ℕ) → same (tab w 7 (w 9 + i * 7)) (inputRow p (inputAt w i)) ≡ inputTest w (w 9 + i * 7) p
-  unfolding inputTest inputAt every same tab
+  unfolding inputTest inputAt every tab
   input-row i p =
       let o = w 9 + i * 7 in
       let e5 : suc (o + 4) ≡ o + 5 = omega arith in
@@ -92,7 +90,7 @@ module _ (w : ℕ → ℕ) where
       ∙ (λ j. nameExact w o && (type-code (w (o + 4)) j && (eqb (w (e5 j)) p && last j)))
 
   pub term-row : (i p : ℕ) → same (tab w 6 (w 11 + i * 6)) (termRow p (termAt w i)) ≡ termTest w (w 11 + i * 6) p
-  unfolding termTest termAt every same tab
+  unfolding termTest termAt every tab
   term-row i p =
       let o = w 11 + i * 6 in
       let e5 : suc (o + 4) ≡ o + 5 = omega arith in
@@ -100,7 +98,7 @@ module _ (w : ℕ → ℕ) where
       row-name 2 o (p ∷ length (termAt w i .points) ∷ []) ∙ (λ j. nameExact w o && (eqb (w (o + 4)) p && last j))
 
   pub output-term-row : (i p : ℕ) → same (tab w 6 (w 11 + i * 6)) (termRow p (outputTermAt w i)) ≡ outputTermTest w (w 11 + i * 6) p
-  unfolding outputTermTest singletonAt every same tab
+  unfolding outputTermTest singletonAt every tab
   output-term-row i p =
       let o = w 11 + i * 6 in
       let e5 : suc (o + 4) ≡ o + 5 = omega arith in
@@ -124,7 +122,7 @@ module _ (w : ℕ → ℕ) where
         ∙ default-case (w o) (w (o + 1)) (fits (o + 1))
 
     pub output-row : (i p : ℕ) → same (tab w 11 (w 10 + i * 11)) (outputRow p (outputAt w i)) ≡ outputTest w (w 10 + i * 11) p
-    unfolding outputTest outputAt every same tab
+    unfolding outputTest outputAt every tab
     output-row i p =
         let o = w 10 + i * 11 in
         let R = rangeWords (outputAt w i .range) in
@@ -144,7 +142,7 @@ module _ (w : ℕ → ℕ) where
         row-name 7 o (p ∷ length (outputAt w i .terms) ∷ (R ++ D)) ∙ (λ j. nameExact w o && (eqb (w (o + 4)) p && (count j && tail j)))
 
     pub point-row : (i : ℕ) → same (tab w 2 (w 12 + i * 2)) (pointWords (outputPointAt w i)) ≡ eqb (w (w 12 + i * 2 + 1)) M
-    unfolding pointAt same tab
+    unfolding pointAt tab
     point-row i =
         let o = w 12 + i * 2 in
         let e1 : suc o ≡ o + 1 = omega arith in

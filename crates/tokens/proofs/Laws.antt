@@ -82,19 +82,15 @@ spelling-more (b ∷ l) (suc k) n = spelling-more l k n
 
 module _ (w l : List ℕ) (k : ℕ) where
   pub same-more : k < length w → (getD l k 0 ≡ 0 → ⊥) → getD w k 0 ≡ getD l k 0 → same (drop k w) (spelling (drop k l)) ≡ same (drop (k + 1) w) (spelling (drop (k + 1) l))
-  unfolding same
   same-more h n e = rw (add-one, drop-cons w k 0 h, spelling-more l k n) (simp (eq-eqb _ _ e))
 
   pub same-short : k < length w → getD l k 0 ≡ 0 → same (drop k w) (spelling (drop k l)) ≡ false
-  unfolding same
   same-short h e = rw (drop-cons w k 0 h, spelling-end l k e)
 
   pub same-stop : k < length w → (getD l k 0 ≡ 0 → ⊥) → (getD w k 0 ≡ getD l k 0 → ⊥) → same (drop k w) (spelling (drop k l)) ≡ false
-  unfolding same
   same-stop h n e = rw (drop-cons w k 0 h, spelling-more l k n) (simp (ne-eqb _ _ e))
 
   pub same-end : length w ≤ k → same (drop k w) (spelling (drop k l)) ≡ eqb (getD l k 0) 0
-  unfolding same
   same-end h = rw (drop-of-length-le w h) (go (eqb (getD l k 0) 0) refl)
     where
       go : (b : Bool) → eqb (getD l k 0) 0 ≡ b → same [] (spelling (drop k l)) ≡ b
@@ -106,33 +102,32 @@ module _ {A : Type 0} (p : A → Bool) (f : ℕ → A) (e i : ℕ) where
   step h = omega arith
 
   pub index-more : i < e → p (f i) ≡ false → i + indexOf p (tab f (e - i) i) ≡ (i + 1) + indexOf p (tab f (e - (i + 1)) (i + 1))
-  unfolding indexOf tab
+  unfolding tab
   index-more h q =
       let z : indexOf p (tab f (e - i) i) ≡ suc (indexOf p (tab f (e - (i + 1)) (i + 1))) = rw (step h) (simp (indexOf, q, add-one)) in
       omega (arith, z)
 
   pub index-here : i < e → p (f i) ≡ true → i + indexOf p (tab f (e - i) i) ≡ i
-  unfolding indexOf tab
+  unfolding tab
   index-here h q =
       let z : indexOf p (tab f (e - i) i) ≡ 0 = rw (step h) (simp q) in
       omega (arith, z)
 
   pub index-end : e ≤ i → i + indexOf p (tab f (e - i) i) ≡ i
-  unfolding indexOf tab
+  unfolding tab
   index-end h =
       let g : e - i ≡ 0 = omega arith in
       let z : indexOf p (tab f (e - i) i) ≡ 0 = rw g in
       omega (arith, z)
 
 same-length : (x y : List ℕ) → (length x ≡ length y → ⊥) → same x y ≡ false
-unfolding same
 same-length [] [] n = absurd (n refl)
 same-length [] (b ∷ y) n = refl
 same-length (a ∷ x) [] n = refl
 same-length (a ∷ x) (b ∷ y) n = rw (same-length x y (λ e. n (ap suc e))) (and-false (eqb a b))
 
 index-length : (n : ℕ) (w : List ℕ) (ks : List (List ℕ)) → n < length w → all (λ k. leb (length k) n) ks ≡ true → indexOf (same w) ks ≡ length ks
-unfolding indexOf all
+unfolding all
 index-length n w [] h e = refl
 index-length n w (k ∷ ks) h e = go (index-length n w ks h) (leb (length k) n) refl e
   where
@@ -143,7 +138,7 @@ index-length n w (k ∷ ks) h e = go (index-length n w ks h) (leb (length k) n) 
 
 -- no keyword is longer than 18 bytes
 pub keyword-long : (w : List ℕ) → 18 < length w → keywordAt w ≡ 43
-unfolding keywordAt keywords all
+unfolding all
 keyword-long w h = index-length 18 w keywords h refl
 
 -- NUMBERS

@@ -71,7 +71,6 @@ module _ {A : Type 0} (f : ℕ → A) where
 
 -- two lists that `same` finds equal are equal
 pub same-eq : (xs ys : List ℕ) → same xs ys ≡ true → xs ≡ ys
-unfolding same
 same-eq [] [] h = refl
 same-eq [] (y ∷ ys) h = let z : _≡_ {A = ℕ} 0 1 = cc in absurd (omega arith)
 same-eq (x ∷ xs) [] h = let z : _≡_ {A = ℕ} 0 1 = cc in absurd (omega arith)
@@ -80,7 +79,6 @@ same-eq (x ∷ xs) (y ∷ ys) h =
     λ j. eqb-true x y (b .0) j ∷ same-eq xs ys (b .1) j
 
 pub same-refl : (xs : List ℕ) → same xs xs ≡ true
-unfolding same
 same-refl [] = refl
 same-refl (x ∷ xs) = and-i (eqb x x) (same xs xs) (eq-eqb x x refl) (same-refl xs)
 

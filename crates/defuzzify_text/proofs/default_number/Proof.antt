@@ -1,8 +1,8 @@
+use Rattle.model.specs.Block.{withDefault}
 use mathlib.Core.Path.{sym, _∙_}
 use native.Mathlib.Omega.{arith}
 use borrow.Author.Needs.{needs}
 use Rattle.defuzzify_text.proofs.Laws as laws
-use Rattle.model.specs.Declarations.{withDefault}
 use Rattle.defuzzify_text.proofs.default_number.Statement.{statement}
 use Rattle.defuzzify_text.proofs.default_number.Tie as tie
 

@@ -1,9 +1,9 @@
+use Rattle.model.specs.Block.{withSingleton}
 use mathlib.Core.Path.{sym, _∙_}
 use native.Mathlib.Omega.{arith}
 use borrow.Author.Needs.{needs}
 use Rattle.defuzzify_text.proofs.Laws as laws
 use lib.Seq.{slice}
-use Rattle.model.specs.Declarations.{withSingleton}
 use Rattle.defuzzify_text.proofs.singleton_at.Statement.{statement}
 use Rattle.defuzzify_text.proofs.singleton_at.Tie as tie
 

@@ -3,9 +3,10 @@ use mathlib.Core.List.{[], _∷_, _++_}
 use Prim.Native.Nat.{ℕ, _-_}
 use lib.ListN.{length}
 use native.Mathlib.Omega.{arith}
+use Rattle.model.specs.Block.{withWeight}
 use Rattle.model.specs.Keywords.{COLON, IF}
 use Rattle.model.specs.Parse.{expect}
-use Rattle.model.specs.Rules.{withWeight, conditionWith, parenthesis}
+use Rattle.model.specs.Rules.{conditionWith, parenthesis}
 use Rattle.model.specs.Tokens.{decimal}
 use Rattle.cursor.specs.View.{seen, textOf}
 use Rattle.cursor.proofs.Laws.{steps}

@@ -3,9 +3,10 @@ use mathlib.Core.List.{[], _∷_}
 use Prim.Native.Nat.{ℕ, _-_}
 use native.Mathlib.Omega.{arith}
 use lib.ListN.{length}
+use Rattle.model.specs.Block.{withWeight}
 use Rattle.model.specs.Keywords.{SEMICOLON}
 use Rattle.model.specs.Parse.{expect, listed}
-use Rattle.model.specs.Rules.{withWeight, conclusion, weighted}
+use Rattle.model.specs.Rules.{conclusion, weighted}
 use Rattle.rule_text.specs.Progress.{midst, gives}
 use Rattle.rule_text.proofs.Laws as laws
 use borrow.Author.Needs.{needs}

@@ -13,7 +13,7 @@ absent-in-requires : tie.Need-absent-in-requires
 absent-in-requires c κs = search needs
 
 returns : tie.Need-returns
-unfolding keywordWords gather keywords nameWords wordAt tab
+unfolding keywordWords gather nameWords wordAt tab
 returns c = c .absent-in .ensures
 
 pub no-keyword-spec : {M : Type 1} → statement M

@@ -14,7 +14,7 @@ row-of-requires : tie.Need-row-of-requires
 row-of-requires c κs = search needs
 
 returns-2 : tie.Need-returns-2
-unfolding keywordAt keywords tab spelling
+unfolding tab spelling
 returns-2 c = c .row-of .ensures
 
 pub keyword-at-spec : {M : Type 1} → statement M

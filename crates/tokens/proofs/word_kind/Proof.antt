@@ -23,11 +23,11 @@ add-result : tie.Need-add-result
 add-result c = search needs
 
 returns-2 : tie.Need-returns-2
-unfolding wordKind isKeyword keywords
+unfolding wordKind isKeyword
 returns-2 c = (simp (sym (c .before .before .before .is-tidy .ensures) ∙ not-false _ (c .before .before .if1 .left), sym (c .before .keyword-at .ensures .0), lt-ltb _ _ (c .if2 .taken)), search needs)
 
 returns-3 : tie.Need-returns-3
-unfolding wordKind isKeyword keywords
+unfolding wordKind isKeyword
 returns-3 c = (simp (sym (c .before .before .before .is-tidy .ensures) ∙ not-false _ (c .before .before .if1 .left), sym (c .before .keyword-at .ensures .0), le-ltb _ _ (c .if2 .left)), search needs)
 
 pub word-kind-spec : {M : Type 1} → statement M
