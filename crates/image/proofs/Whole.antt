@@ -23,7 +23,7 @@ use Rattle.block_tables.specs.declared.Tables.{Tables}
 use Rattle.block_tables.specs.declared.Heading.{Heading}
 use Rattle.block_tables.specs.View.{outputsView, inputView, outputView, wholeView, Holds, Headed}
 use Rattle.block_tables.specs.Stored.{Stored}
-use Rattle.words.proofs.Places.{length-tab}
+use Rattle.laws.proofs.Places.{length-tab}
 use Rattle.image.specs.declared.Counts.{Counts}
 use Rattle.image.specs.declared.Slots.{Slots}
 use Rattle.image.specs.Rows.{heldIn, variableRows, ruleRows, countList, headWords}

@@ -10,10 +10,12 @@ use lib.ListN.{length}
 use Rattle.model.specs.Basic.{same, gather, all}
 use Rattle.model.specs.Block.{Term, Singleton, Input, Range, Output, inputTerms, outputTerms, conclusions}
 use Rattle.model.specs.Image.{nameWords, rangeWords, defaultWords, postfix, singletonTerm, terms, points, tab, pointAt, termAt, singletonAt, inputAt, outputAt, conclusionAt, ruleAt, decode}
-use Rattle.words.proofs.Places.{both, length-tab, same-eq}
+use Rattle.laws.proofs.Lists.{map-tab, gather-append}
+use Rattle.laws.proofs.Tests.{both}
+use Rattle.laws.proofs.Places.{length-tab, same-eq}
 use Rattle.layout.specs.Tables.{inputRow, inputNext, outputRow, outputNext, termRow, termNext, ruleRow, ruleNext, outputTermAt, outputPointAt, inputCount, outputCount, termCount, wordCount, conclusionCount, inputTermsIn, outputTermsIn, inputPointsIn, wordsIn, conclusionsIn, inputRows, outputRows, inputTermRows, outputTermRows, ruleRows, conditionExact, conditionRows}
 use Rattle.layout.proofs.RowLaws.{stands}
-use Rattle.layout.proofs.TableLaws.{map-tab, gather-append, Each, each, Runs, runs-from, gather-runs, sums-one}
+use Rattle.layout.proofs.TableLaws.{Each, each, Runs, runs-from, gather-runs, sums-one}
 
 -- every row has the words of its table
 pub wide-input : (n : ℕ) (v : Input) → length (inputRow n v) ≡ 7

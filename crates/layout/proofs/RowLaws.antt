@@ -8,7 +8,8 @@ use native.Mathlib.Nat.{suc-mul, zero-mul}
 use lib.ListN.{length, length-append}
 use Rattle.model.specs.Basic.{same}
 use Rattle.model.specs.Image.{tab}
-use Rattle.words.proofs.Places.{both, and-i, At, at-shift, at-cut, at-join, at-tab, tab-at, same-eq, same-refl}
+use Rattle.laws.proofs.Tests.{both, and-i}
+use Rattle.laws.proofs.Places.{At, at-shift, at-cut, at-join, at-tab, tab-at, same-eq, same-refl}
 use Rattle.layout.specs.Rows.{laid, after, rowsOk}
 use Rattle.layout.specs.Tables.{sums}
 

@@ -14,18 +14,13 @@ use Rattle.model.specs.Block.{inRange}
 use Rattle.model.specs.Tokens.{isName, inCrisp}
 use Rattle.model.specs.WellFormed.{outputOk, singletonOk}
 use Rattle.model.specs.Image.{tab, singletonAt, outputAt, decode}
-use Rattle.words.proofs.Places.{both, passed, length-tab}
+use Rattle.laws.proofs.Lists.{all-at}
+use Rattle.laws.proofs.Tests.{both, passed}
+use Rattle.laws.proofs.Places.{length-tab}
 use Rattle.layout.specs.Tables.{sums, outputCount, inputTermsIn, outputRow, outputNext, outputRows}
 use Rattle.layout.specs.Groups.{tablesOk, variablesOk, Sound}
 use Rattle.layout.proofs.TableLaws.{Runs, runs-from}
 use Rattle.layout.proofs.Parts.{outputFirst, output-row}
-
--- one element of a walk
-pub all-at : {A : Type 0} (g : A → Bool) (f : ℕ → A) (n s i : ℕ) → i < n → all g (tab f n s) ≡ true → g (f (s + i)) ≡ true
-unfolding all tab
-all-at g f zero s i h a = absurd (omega arith)
-all-at g f (suc n) s zero h a = ap (λ (k : ℕ). g (f k)) (omega arith) ∙ both (g (f s)) (all g (tab f n (suc s))) a .0
-all-at g f (suc n) s (suc i) h a = ap (λ (k : ℕ). g (f k)) (omega arith) ∙ all-at g f n (suc s) i (omega arith) (both (g (f s)) (all g (tab f n (suc s))) a .1)
 
 -- one first of a run
 pub runs-at : (f c : ℕ → ℕ) (k i p j : ℕ) → j < k → Runs f c k i p → f (i + j) ≡ p + sums c j i

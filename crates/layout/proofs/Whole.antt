@@ -16,11 +16,14 @@ use Rattle.model.specs.declared.Accumulation.the-variants.{Max, Bsum}
 use Rattle.model.specs.declared.Activation.{Activation}
 use Rattle.model.specs.declared.Activation.the-variants.{Min, Prod}
 use Rattle.model.specs.Image.{crispWord, crispOf, nameWords, nameAt, opWord, pairWord, pairOf, accuWord, accuOf, actWord, actOf, terms, points, postfix, inputTable, outputTable, termTable, pointWords, ruleTable, conclusionWords, offsets, endOf, header, words, tab, pointAt, termAt, inputAt, outputAt, conclusionAt, ruleAt, decode}
-use Rattle.words.proofs.Places.{both, and-i, Every, passed, pass, At, at-shift, at-cut, at-join, length-tab}
+use Rattle.laws.proofs.Conditions.{length-postfix}
+use Rattle.laws.proofs.Lists.{gather-append}
+use Rattle.laws.proofs.Tests.{both, and-i, Every, passed, pass}
+use Rattle.laws.proofs.Places.{At, at-shift, at-cut, at-join, length-tab}
 use Rattle.layout.specs.Rows.{laid, rowsOk}
 use Rattle.layout.specs.Tables.{inputRow, inputNext, outputRow, outputNext, termRow, termNext, ruleRow, ruleNext, alone, onward, outputTermAt, outputPointAt, termCount, wordCount, inputTermsIn, outputTermsIn, inputPointsIn, wordsIn, conclusionsIn, inputRows, outputRows, inputTermRows, outputTermRows, outputPointRows, ruleRows, conditionExact, conditionRows, nameExact, headerOk, countsOk, shapeOk}
 use Rattle.layout.proofs.RowLaws.{stands, stood, rows-out, rows-in, length-laid, laid-append, after-sums}
-use Rattle.layout.proofs.TableLaws.{input-table, output-table, term-table, rule-table, gather-laid, gather-append}
+use Rattle.layout.proofs.TableLaws.{input-table, output-table, term-table, rule-table, gather-laid}
 use Rattle.layout.proofs.Parts.{wide-input, wide-output, wide-term, rule-words-row, inputTerms-are, terms-are, points-are, conclusions-are, conditions-are}
 
 -- a crisp value's word is the one it was read from
@@ -37,13 +40,6 @@ at-nth : (f : ℕ → ℕ) (o : ℕ) (xs : List ℕ) (k : ℕ) → k < length xs
 at-nth f o [] k h a = absurd (omega arith)
 at-nth f o (x ∷ xs) zero h a = ap f (omega arith) ∙ a .0
 at-nth f o (x ∷ xs) (suc k) h a = ap f (omega arith) ∙ at-nth f (suc o) xs k (omega arith) (a .1)
-
-pub length-postfix : (c : Condition) → length (postfix c) ≡ size c
-unfolding postfix size
-length-postfix (term t) = refl
-length-postfix (neg c) = length-append (postfix c) (0 ∷ []) ∙ omega (arith, length-postfix c)
-length-postfix (two o a b) =
-    length-append (postfix a) (postfix b ++ (opWord o ∷ [])) ∙ omega (arith, length-append (postfix b) (opWord o ∷ []), length-postfix a, length-postfix b)
 
 pub length-conditions : (rs : List Rule) → length (gather (λ r. postfix (r .condition)) rs) ≡ total (λ r. size (r .condition)) rs
 unfolding gather total

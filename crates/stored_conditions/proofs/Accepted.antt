@@ -13,7 +13,8 @@ use Rattle.model.specs.Block.{Condition, term, neg, two}
 use Rattle.model.specs.Parentheses.{form, besideNot, leftOf, rightOf, depth}
 use Rattle.model.specs.WellFormed.{termsBelow}
 use Rattle.model.specs.Image.{postfix, treeOf}
-use Rattle.words.proofs.Places.{both, and-i, same-eq, same-refl}
+use Rattle.laws.proofs.Tests.{both, and-i, iff}
+use Rattle.laws.proofs.Places.{same-eq, same-refl}
 use Rattle.stored_conditions.specs.Machine.{fold, pass}
 use Rattle.stored_conditions.specs.Shapes.{shape, negatedShape, joinedShape, shapes, isOne, accepts}
 use Rattle.stored_conditions.specs.Stored.{isCondition}
@@ -81,11 +82,6 @@ accepts-out m ws e =
     let r = condition-in m ws e in
     let c = treeOf ws in
     ap (λ (l : List ℕ). isOne (pass (shapes m) l (some []))) (r .0) ∙ ap isOne (pass-postfix (shapes m) c (allowed m c (r .1) (r .2)) (r .2))
-
-iff : (a b : Bool) → (a ≡ true → b ≡ true) → (b ≡ true → a ≡ true) → a ≡ b
-iff true b f g = sym (f refl)
-iff false true f g = g refl
-iff false false f g = refl
 
 -- THE THEOREM
 pub accepts-is : (m : ℕ) (ws : List ℕ) → accepts m ws ≡ isCondition m ws

@@ -10,9 +10,10 @@ use Rattle.model.specs.Block.{Condition, size}
 use Rattle.model.specs.Parentheses.{depth}
 use Rattle.model.specs.WellFormed.{termsBelow}
 use Rattle.model.specs.Image.{postfix, treeOf, tab}
-use Rattle.words.proofs.Places.{At, tab-at, length-tab}
+use Rattle.laws.proofs.Conditions.{length-postfix}
+use Rattle.laws.proofs.Places.{At, tab-at, length-tab}
 use Rattle.stored_conditions.specs.Stored.{isCondition, conditionStored}
-use Rattle.stored_conditions.proofs.Trees.{tree-postfix, length-postfix}
+use Rattle.stored_conditions.proofs.Trees.{tree-postfix}
 use Rattle.stored_conditions.proofs.Accepted.{condition-in, condition-postfix}
 
 -- places counted from o on

@@ -11,28 +11,7 @@ use lib.Seq.{take-suc-set, getD-take, set-at, append-snoc}
 use borrow.Author.Tests.{eq-eqb, eqb-true}
 use Rattle.model.specs.Basic.{every, all, same}
 use Rattle.model.specs.Image.{tab}
-
-pub both : (a b : Bool) → a && b ≡ true → (a ≡ true) × (b ≡ true)
-both true b h = (refl, h)
-both false b h = let z : _≡_ {A = ℕ} 0 1 = cc in absurd (omega arith)
-
-pub and-i : (a b : Bool) → a ≡ true → b ≡ true → a && b ≡ true
-and-i a b p q = rw (p, q)
-
--- tests one by one
-abbrev pub Every : List Bool → Type 0
-Every [] = Unit {0}
-Every (b ∷ bs) = (b ≡ true) × Every bs
-
-pub passed : (bs : List Bool) → every bs ≡ true → Every bs
-unfolding every
-passed [] h = tt
-passed (b ∷ bs) h = let c = both b (every bs) h in (c .0, passed bs (c .1))
-
-pub pass : (bs : List Bool) → Every bs → every bs ≡ true
-unfolding every
-pass [] h = refl
-pass (b ∷ bs) h = and-i b (every bs) (h .0) (pass bs (h .1))
+use Rattle.laws.proofs.Tests.{both, and-i, Every}
 
 -- the list xs stands in f from o on
 abbrev pub At : {A : Type 0} → (ℕ → A) → ℕ → List A → Type 0
