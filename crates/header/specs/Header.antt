@@ -1,4 +1,4 @@
--- A helper: the header as the code holds it is the header's words, which `wordAt` and the places of model's `Image` define.
+-- A helper: the header as the code holds it is made of the words that `wordAt` and the places of `Image` define.
 use mathlib.Core.Path.{_≡_}
 use Prim.Native.Nat.{ℕ, _≤_}
 use Rattle.header.specs.declared.Header.{Header}

@@ -1,4 +1,4 @@
-// The words of a stored image, read where they stand. A byte past the end counts as 0, so no word needs a bound on its place.
+// The words of a stored image, read where they stand. A byte past the end counts as 0, so no place needs a bound.
 ghost use mathlib.Core.Path.{_≡_};
 ghost use Prim.Native.Nat.{_+_, _*_, _≤_};
 ghost use lib.ListN.{getD};
