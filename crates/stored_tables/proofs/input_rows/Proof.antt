@@ -46,7 +46,8 @@ returns c =
     let w = wordAt (start .args .img .now) in
     let o = turn .input-row .ensures .0 w (start .pre) in
     let h = turn .before .if1 .taken in
-    let t = seen (λ (k : ℕ). inputTest w k (l .p)) _ _ _ _ _ o (c .before .input-ok .ensures) (not-true _ (c .if2 .taken)) (input-row w (l .i) (l .p)) in
+    let r = input-row w (l .i) (l .p) in
+    let t = seen (λ (k : ℕ). inputTest w k (l .p)) _ _ _ _ _ o (c .before .input-ok .ensures) (not-true _ (c .if2 .taken)) r in
     (rows-stop inputRow inputNext (inputAt w) w (w 9) 7 _ (l .i) (l .p) _ h t (l .inv .1 .1 .0), (λ q. clash q))
 
 add-word : tie.Need-add-word Inv-loop μ-loop
@@ -73,7 +74,8 @@ loop-again c =
     let o = turn .input-row .ensures .0 w (start .pre) in
     let h = turn .before .if1 .taken in
     let x = c .word .ensures .0 ∙ ap (λ (k : ℕ). w (k + 6)) o in
-    let t = seen (λ (k : ℕ). inputTest w k (l .p)) _ _ _ _ _ o (c .before .before .input-ok .ensures) (not-false _ (c .before .if2 .left)) (input-row w (l .i) (l .p)) in
+    let r = input-row w (l .i) (l .p) in
+    let t = seen (λ (k : ℕ). inputTest w k (l .p)) _ _ _ _ _ o (c .before .before .input-ok .ensures) (not-false _ (c .before .if2 .left)) r in
     let n = input-next w (l .i) (l .p) ∙ ap (λ (k : ℕ). l .p + k) (sym x) in
     let more = rows-more inputRow inputNext (inputAt w) w (w 9) 7 _ (l .i) (l .p) _ _ h t n (l .inv .1 .1 .0) in
     (search needs, (search needs, (more, count-more (inputCount w) _ (l .i) (l .p) _ _ h x (l .inv .1 .1 .1))))

@@ -45,7 +45,8 @@ returns c =
     let w = wordAt (start .args .img .now) in
     let o = turn .output-row .ensures .0 w (start .pre .0) in
     let h = turn .before .if1 .taken in
-    let t = seen (λ (k : ℕ). outputTest w k (l .p)) _ _ _ _ _ o (c .before .output-ok .ensures) (not-true _ (c .if2 .taken)) (output-row w (start .pre .0 .fits) (l .i) (l .p)) in
+    let r = output-row w (start .pre .0 .fits) (l .i) (l .p) in
+    let t = seen (λ (k : ℕ). outputTest w k (l .p)) _ _ _ _ _ o (c .before .output-ok .ensures) (not-true _ (c .if2 .taken)) r in
     (rows-stop outputRow outputNext (outputAt w) w (w 10) 11 _ (l .i) (l .p) _ h t (l .inv .1 .1 .0), (λ q. clash q))
 
 add-word : tie.Need-add-word Inv-loop μ-loop
@@ -72,7 +73,8 @@ loop-again c =
     let o = turn .output-row .ensures .0 w (start .pre .0) in
     let h = turn .before .if1 .taken in
     let x = c .word .ensures .0 ∙ ap (λ (k : ℕ). w (k + 5)) o in
-    let t = seen (λ (k : ℕ). outputTest w k (l .p)) _ _ _ _ _ o (c .before .before .output-ok .ensures) (not-false _ (c .before .if2 .left)) (output-row w (start .pre .0 .fits) (l .i) (l .p)) in
+    let r = output-row w (start .pre .0 .fits) (l .i) (l .p) in
+    let t = seen (λ (k : ℕ). outputTest w k (l .p)) _ _ _ _ _ o (c .before .before .output-ok .ensures) (not-false _ (c .before .if2 .left)) r in
     let n = output-next w (l .i) (l .p) ∙ ap (λ (k : ℕ). l .p + k) (sym x) in
     let more = rows-more outputRow outputNext (outputAt w) w (w 10) 11 _ (l .i) (l .p) _ _ h t n (l .inv .1 .1 .0) in
     (search needs, (search needs, (more, count-more (outputCount w) _ (l .i) (l .p) _ _ h x (l .inv .1 .1 .1))))

@@ -44,7 +44,8 @@ returns c =
     let w = wordAt (start .args .img .now) in
     let o = turn .term-row .ensures .0 w (start .pre .0) in
     let h = turn .before .loop-test .taken in
-    let t = seen (λ (k : ℕ). termTest w k (l .p)) _ _ _ _ _ o (c .before .term-ok .ensures) (not-true _ (c .if1 .taken)) (term-row w (l .i) (l .p)) in
+    let r = term-row w (l .i) (l .p) in
+    let t = seen (λ (k : ℕ). termTest w k (l .p)) _ _ _ _ _ o (c .before .term-ok .ensures) (not-true _ (c .if1 .taken)) r in
     ((rows-stop termRow termNext (termAt w) w (w 11) 6 _ (l .i) (l .p) _ h t (l .inv .1 .1 .0), (λ q. clash q)), search needs)
 
 add-word : tie.Need-add-word Inv-loop μ-loop
@@ -71,7 +72,8 @@ loop-again c =
     let o = turn .term-row .ensures .0 w (start .pre .0) in
     let h = turn .before .loop-test .taken in
     let x = c .word .ensures .0 ∙ ap (λ (k : ℕ). w (k + 5)) o in
-    let t = seen (λ (k : ℕ). termTest w k (l .p)) _ _ _ _ _ o (c .before .before .term-ok .ensures) (not-false _ (c .before .if1 .left)) (term-row w (l .i) (l .p)) in
+    let r = term-row w (l .i) (l .p) in
+    let t = seen (λ (k : ℕ). termTest w k (l .p)) _ _ _ _ _ o (c .before .before .term-ok .ensures) (not-false _ (c .before .if1 .left)) r in
     let n = term-next w (l .i) (l .p) ∙ ap (λ (k : ℕ). l .p + k) (sym x) in
     let more = rows-more termRow termNext (termAt w) w (w 11) 6 _ (l .i) (l .p) _ _ h t n (l .inv .1 .1 .0) in
     (search needs, (search needs, (more, count-more (termCount w) _ (l .i) (l .p) _ _ h x (l .inv .1 .1 .1))))
