@@ -26,7 +26,8 @@ tab-from w o (suc n) i =
 
 module _ (w : ℕ → ℕ) (d : ℕ) where
   pub stored-in : (n m : ℕ) → conditionStored w d n m ≡ true
-      → (tab w n d ≡ postfix (treeOf (tab w n d))) × (size (treeOf (tab w n d)) ≡ n) × (termsBelow m (treeOf (tab w n d)) ≡ true) × (depth (treeOf (tab w n d)) ≤ depthLimit)
+      → let c = treeOf (tab w n d) in
+      (tab w n d ≡ postfix c) × (size c ≡ n) × (termsBelow m c ≡ true) × (depth c ≤ depthLimit)
   unfolding conditionStored
   stored-in n m e =
       let r = condition-in m (tab w n d) e in
