@@ -122,11 +122,16 @@ module _ (w : ℕ → ℕ) where
   inputTerms-are h =
       gather-runs (λ v. v .terms) (inputAt w) (termAt w) inputFirst (inputCount w) (w 2) 0 0 (each _ (λ j. refl) (w 2) 0) (inputFirsts-run h)
 
+  pub outputFirsts-run : outputRows w ≡ true → Runs outputFirst (outputCount w) (w 3) 0 (inputTermsIn w)
+  unfolding outputRows
+  outputFirsts-run h =
+      runs-from outputRow outputNext (outputAt w) w (w 10) 11 (λ n. n) outputFirst (outputCount w) (λ i n e. output-row i n e) (w 3) 0 (inputTermsIn w) h
+
   pub outputTerms-are : outputRows w ≡ true → outputTerms (decode w) ≡ tab (singletonAt w) (outputTermsIn w) (inputTermsIn w)
-  unfolding outputRows decode outputAt
+  unfolding decode outputAt
   outputTerms-are h =
       gather-runs (λ v. v .terms) (outputAt w) (singletonAt w) outputFirst (outputCount w) (w 3) 0 (inputTermsIn w) (each _ (λ j. refl) (w 3) 0)
-      (runs-from outputRow outputNext (outputAt w) w (w 10) 11 (λ n. n) outputFirst (outputCount w) (λ i n e. output-row i n e) (w 3) 0 (inputTermsIn w) h)
+      (outputFirsts-run h)
 
   pub terms-are : inputRows w ≡ true → outputRows w ≡ true
       → terms (decode w) ≡ tab (termAt w) (inputTermsIn w) 0 ++ tab (outputTermAt w) (outputTermsIn w) (inputTermsIn w)
