@@ -2,7 +2,7 @@ use borrow.Author.Needs.{needs}
 use borrow.Author.Tests.{eq-eqb, ne-eqb, le-ltb, eqb-true, ltb-true}
 use Prim.Native.Nat.{_+_}
 use lib.Dec.{eqb}
-use Rattle.tokens.proofs.Laws.{starts-here, starts-end}
+use Rattle.characters.proofs.Laws.{starts-here, starts-end}
 use Rattle.tokens.proofs.is_pair.Statement.{statement}
 use Rattle.tokens.proofs.is_pair.Tie as tie
 

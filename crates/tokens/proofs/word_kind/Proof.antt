@@ -1,7 +1,7 @@
 use borrow.Author.Needs.{needs}
 use borrow.Author.Tests.{le-ltb, lt-ltb, not-true, not-false}
 use mathlib.Core.Path.{sym, _∙_}
-use Rattle.model.specs.Keywords.{keywords, isKeyword}
+use Rattle.model.specs.Keywords.{isKeyword}
 use Rattle.model.specs.Tokens.{wordKind}
 use Rattle.tokens.proofs.word_kind.Statement.{statement}
 use Rattle.tokens.proofs.word_kind.Tie as tie
