@@ -27,7 +27,8 @@ spelling-more (b ∷ l) zero n = simp (ne-eqb b 0 n)
 spelling-more (b ∷ l) (suc k) n = spelling-more l k n
 
 module _ (w l : List ℕ) (k : ℕ) where
-  pub same-more : k < length w → (getD l k 0 ≡ 0 → ⊥) → getD w k 0 ≡ getD l k 0 → same (drop k w) (spelling (drop k l)) ≡ same (drop (k + 1) w) (spelling (drop (k + 1) l))
+  pub same-more : k < length w → (getD l k 0 ≡ 0 → ⊥) → getD w k 0 ≡ getD l k 0
+      → same (drop k w) (spelling (drop k l)) ≡ same (drop (k + 1) w) (spelling (drop (k + 1) l))
   same-more h n e = rw (add-one, drop-cons w k 0 h, spelling-more l k n) (simp (eq-eqb _ _ e))
 
   pub same-short : k < length w → getD l k 0 ≡ 0 → same (drop k w) (spelling (drop k l)) ≡ false
@@ -48,7 +49,8 @@ unfolding all
 index-length n w [] h e = refl
 index-length n w (k ∷ ks) h e = go (index-length n w ks h) (leb (length k) n) refl e
   where
-    go : (all (λ k. leb (length k) n) ks ≡ true → indexOf (same w) ks ≡ length ks) → (b : Bool) → leb (length k) n ≡ b → b && all (λ k. leb (length k) n) ks ≡ true
+    go : (all (λ k. leb (length k) n) ks ≡ true → indexOf (same w) ks ≡ length ks) → (b : Bool) → leb (length k) n ≡ b
+        → b && all (λ k. leb (length k) n) ks ≡ true
         → indexOf (same w) (k ∷ ks) ≡ length (k ∷ ks)
     go ih true q r = let g = leb-true (length k) n q in rw (indexOf, other-length w k (λ e. omega (arith, e, g, h))) (ap suc (ih r))
     go ih false q r = absurd (false≢true r)

@@ -3,3 +3,4 @@ pub mod Places
 pub mod Lists
 pub mod Conditions
 pub mod Search
+pub mod Slices

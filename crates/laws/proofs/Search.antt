@@ -33,7 +33,7 @@ module _ {A : Type 0} (f : A → Bool) (g : ℕ → A) (n m : ℕ) where
     past-more h q p =
         let k : m + (i + 1) ≡ suc (m + i) = omega arith in
         let z : i + indexOf f (tab g (n - i) (m + i)) ≡ i + 1 + indexOf f (tab g (n - (i + 1)) (m + (i + 1))) =
-            rw (k, step n i h) (simp q (omega arith)) in
+        rw (k, step n i h) (simp q (omega arith)) in
         (omega arith, sym z ∙ p .1)
 
     pub past-here : i < n → f (g (m + i)) ≡ true → Past f g n m i → i ≡ indexOf f (tab g n m)

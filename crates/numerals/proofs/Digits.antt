@@ -2,16 +2,17 @@
 use mathlib.Core.Path.{_≡_, refl, sym, ap, _∙_}
 use mathlib.Core.List.{List, [], _∷_}
 use mathlib.Core.Bool.{true, false, _&&_, and-false}
-use Prim.Native.Nat.{ℕ, zero, suc, _+_, _*_, _-_, _^_, _≤_, _<_}
+use Prim.Native.Nat.{ℕ, suc, _+_, _*_, _-_, _^_, _≤_, _<_}
 use native.Mathlib.Nat.{pow-suc, pow-le-pow-right}
 use native.Mathlib.Numerals.{add-one}
 use native.Mathlib.Omega.{arith}
 use borrow.Author.Tests.{le-leb, lt-leb}
 use lib.Dec.{leb}
-use lib.ListN.{length, take, drop, getD, drop-of-length-le, length-drop}
-use lib.Seq.{slice, slice-cons, slice-empty, length-slice, drop-drop, take-length, take-nil}
+use lib.ListN.{length, drop, getD, drop-of-length-le, length-drop}
+use lib.Seq.{slice, slice-cons, slice-empty, length-slice, drop-drop, take-length}
 use Rattle.model.specs.Basic.{run}
 use Rattle.model.specs.Tokens.{isDigit, isSign, unsigned, whole, fraction, decimalFrom, decimal, magnitude, digitsFit}
+use Rattle.laws.proofs.Slices.{cut}
 use Rattle.numerals.specs.Written.{thousandthsOf, magnitudeWritten}
 
 -- THE FIRST BYTE
@@ -79,14 +80,9 @@ pub past-end : (w : List ℕ) (e : ℕ) → length w ≤ e → drop e w ≡ drop
 past-end w e h = drop-of-length-le w {i = e} h ∙ sym (drop-of-length-le w {i = e + 1} (omega arith))
 
 -- THE PARTS OF A NUMBER
-take-drop : (n a : ℕ) (w : List ℕ) → take n (drop a w) ≡ slice a (a + n) w
-take-drop n zero w = let e : 0 + n ≡ n = omega arith in rw e refl
-take-drop n (suc a) [] = let e : suc a + n ≡ suc (a + n) = omega arith in rw e (take-nil n)
-take-drop n (suc a) (c ∷ w) = let e : suc a + n ≡ suc (a + n) = omega arith in rw e (take-drop n a w)
-
 module _ (w : List ℕ) (a e : ℕ) (ha : unsigned w ≡ drop a w) (he : e ≡ a + run isDigit (drop a w)) (hl : e ≤ length w) where
   whole-is : whole w ≡ slice a e w
-  whole-is = rw (ha, he) (take-drop (run isDigit (drop a w)) a w)
+  whole-is = rw (ha, he) (cut a (run isDigit (drop a w)) w)
 
   whole-size : length (whole w) ≡ e - a
   whole-size = ap length whole-is ∙ length-slice a e w hl

@@ -27,6 +27,10 @@ struct Amount {
     thousandths: u64,
 }
 
+const MOST_CRISP: u64 = bounds::CRISP as u64;
+
+const MOST_RULE_NUMBER: u64 = bounds::RULE_NUMBER as u64;
+
 // What a byte counts for as a digit; below '0', nothing.
 fn digit(c: u8) -> u64
     ensures { λ r. ⌜ (r ≡ c - 48) × (r ≤ 207) ⌝ }
@@ -106,13 +110,13 @@ fn amount_of(w: &[u8]) -> Amount
     let a = sign_size(w);
     let e = characters::digits_end(w, a);
     let f = behind(w, e);
-    if 7 < e - a {
+    if bounds::DIGITS < e - a {
         return Amount {
             fits: false,
             thousandths: 0,
         };
     }
-    if 3 < w.len() - f {
+    if bounds::FRACTION < w.len() - f {
         return Amount {
             fits: false,
             thousandths: 0,
@@ -135,7 +139,7 @@ pub fn crisp(w: &[u8]) -> CrispText
             value: Crisp(0),
         };
     }
-    if 1_000_000_000 < n.thousandths {
+    if MOST_CRISP < n.thousandths {
         return CrispText {
             ok: false,
             value: Crisp(0),
@@ -191,14 +195,14 @@ pub fn unit(w: &[u8]) -> UnitText
 pub fn rule_number(w: &[u8]) -> u32
     ensures { λ r. ⌜ (r ≡ ruleNumberWritten (now (w .entry))) × (r ≤ 65535) ⌝ }
 {
-    if 7 < w.len() {
+    if bounds::DIGITS < w.len() {
         return 0;
     }
     if characters::digits_end(w, 0) < w.len() {
         return 0;
     }
     let n = decimal_of(w, 0, w.len());
-    if 65535 < n {
+    if MOST_RULE_NUMBER < n {
         return 0;
     }
     n as u32

@@ -9,15 +9,12 @@ use native.Mathlib.Omega.{arith}
 use borrow.Author.Tests.{eq-eqb, ne-eqb, eqb-true, eqb-false}
 use lib.Dec.{eqb}
 use lib.ListN.{length, take, drop, getD, drop-of-length-le, length-drop}
-use lib.Seq.{drop-cons, drop-drop, take-all, take-nil, slice, slice-empty}
+use lib.Seq.{drop-cons, drop-drop, slice, slice-empty}
 use Rattle.model.specs.Basic.{if_then_else_, run}
 use Rattle.model.specs.Keywords.{END, WRONG, BLANK}
 use Rattle.model.specs.Tokens.{isUnderscore, isDigit, isNameByte, isMark, starts, tidy, wordKind, pointPart, numberPart, commentPart, commentPiece, piece, wordPiece, pieceAt, token, placed, scan}
+use Rattle.laws.proofs.Slices.{cut}
 use Rattle.tokens.specs.Tokens.{tokensFrom, after}
-
--- the text from a place on, as a part of it
-pub part : (s : List ℕ) (a : ℕ) → take (length s - a) (drop a s) ≡ drop a s
-part s a = take-all (length s - a) (drop a s) (omega (arith, length-drop a s))
 
 -- WORDS
 tidy-cons : (c : ℕ) (w : List ℕ) → isUnderscore c ≡ false → tidy (c ∷ w) ≡ tidy w
@@ -61,7 +58,8 @@ number s a e p h q =
     omega (arith, h, z)
 
 -- PIECES
-pub word-piece : (s : List ℕ) (e k : ℕ) → 0 < length s → e ≡ 1 + run isNameByte (drop 1 s) → k ≡ wordKind (take e s) → piece k (e - 1) ≡ wordPiece (getD s 0 0) (drop 1 s)
+pub word-piece : (s : List ℕ) (e k : ℕ) → 0 < length s → e ≡ 1 + run isNameByte (drop 1 s) → k ≡ wordKind (take e s)
+    → piece k (e - 1) ≡ wordPiece (getD s 0 0) (drop 1 s)
 unfolding wordPiece
 word-piece [] e k h p q = absurd (omega arith)
 word-piece (c ∷ s) e k h p q =
@@ -107,7 +105,8 @@ pub comment-begins : (s : List ℕ) → commentFrom s 2 ≡ commentPart (drop 2 
 comment-begins s = longer-zero (commentPart (drop 2 s))
 
 module _ (s : List ℕ) (i : ℕ) (g : 2 ≤ i) (b : Bool) where
-  at-byte : i < length s → b ≡ eqb (getD s i 0) 42 && starts (eqb 41) (drop (i + 1) s) → commentPart (drop i s) ≡ if b then some 2 else longer 1 (commentPart (drop (i + 1) s))
+  at-byte : i < length s → b ≡ eqb (getD s i 0) 42 && starts (eqb 41) (drop (i + 1) s)
+    → commentPart (drop i s) ≡ if b then some 2 else longer 1 (commentPart (drop (i + 1) s))
   at-byte h e = rw (add-one, drop-cons s i 0 h) (comment-cons (getD s i 0) (drop (suc i) s) b (rw add-one at e))
 
   pub comment-more : i < length s → b ≡ eqb (getD s i 0) 42 && starts (eqb 41) (drop (i + 1) s) → b ≡ false → commentFrom s i ≡ commentFrom s (i + 1)
@@ -142,11 +141,6 @@ jump (suc n) p [] h = absurd (omega arith)
 jump (suc n) p (c ∷ s) h =
     let z : suc p + n ≡ p + suc n = omega arith in
     jump n (suc p) s (omega arith) ∙ ap (λ (q : ℕ). scan 0 q (drop n s)) z
-
-cut : (f n : ℕ) (l : List ℕ) → take n (drop f l) ≡ slice f (f + n) l
-cut zero n l = let z : 0 + n ≡ n = omega arith in rw z
-cut (suc f) n [] = let z : suc f + n ≡ suc (f + n) = omega arith in rw z (take-nil {A = ℕ} n)
-cut (suc f) n (x ∷ l) = let z : suc f + n ≡ suc (f + n) = omega arith in rw z (cut f n l)
 
 first : (l : List ℕ) (i k m : ℕ) → m < length l → piece k m ≡ pieceAt (getD l 0 0) (drop 1 l)
     → scan 0 i l ≡ placed (piece k m) i l (scan 0 (i + 1 + m) (drop (suc m) l))

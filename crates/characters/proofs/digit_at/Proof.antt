@@ -13,7 +13,9 @@ is-digit-requires : tie.Need-is-digit-requires
 is-digit-requires c κs = search needs
 
 returns : tie.Need-returns
-returns c = c .is-digit .ensures ∙ sym (starts-here isDigit (c .before .before .before .before .args .s .now) (c .before .before .before .before .args .i) (c .before .before .if1 .taken))
+returns c =
+    let c4 = c .before .before .before .before in
+    c .is-digit .ensures ∙ sym (starts-here isDigit (c4 .args .s .now) (c4 .args .i) (c .before .before .if1 .taken))
 
 returns-2 : tie.Need-returns-2
 returns-2 c = simp (le-ltb _ _ (c .if1 .left), starts-end isDigit (c .before .before .args .s .now) (c .before .before .args .i) (c .if1 .left))

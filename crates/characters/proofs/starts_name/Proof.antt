@@ -13,7 +13,9 @@ returns : tie.Need-returns
 returns c = simp (c .if1 .taken, sym (c .before .is-between .ensures) ∙ c .if1 .taken)
 
 returns-2 : tie.Need-returns-2
-returns-2 c = simp (c .if2 .taken, sym (c .before .before .before .is-between .ensures) ∙ c .before .before .if1 .left, sym (c .before .is-between2 .ensures) ∙ c .if2 .taken)
+returns-2 c =
+    let c3 = c .before .before .before in
+    simp (c .if2 .taken, sym (c3 .is-between .ensures) ∙ c .before .before .if1 .left, sym (c .before .is-between2 .ensures) ∙ c .if2 .taken)
 
 returns-3 : tie.Need-returns-3
 returns-3 c = simp (sym (c .before .before .before .is-between .ensures) ∙ c .before .before .if1 .left, sym (c .before .is-between2 .ensures) ∙ c .if2 .left)

@@ -84,15 +84,18 @@ search-less c = search needs
 search-again : tie.Need-search-again Inv-loop μ-loop Inv-search μ-search
 unfolding nameOf
 search-again c =
-    let o = c .before .before .before .before .before .before .before .before .before .search in
-    let l = c .before .before .before .before .loop in
-    let z = c .before .before .before .before .before .before .before .before .before .before in
+    let c4 = c .before .before .before .before in
+    let c9 = c4 .before .before .before .before .before in
+    let z = c9 .before in
+    let o = c9 .search in
+    let l = c4 .loop in
     let a = z .args in
     let names = a .names .now in
     let k = a .from + o .i in
     let e = z .pre .3 .inside (112 + k) in
     let h = z .pre .3 .order k (omega arith) in
-    let q = laws.differ-here (a .s .now) (a .start) (a .end) (getD names k 0) (getD names (112 + k) 0) (z .pre .1) e (l .j) (omega arith) (omega arith) (c .if2 .taken) in
+    let q = laws.differ-here (a .s .now) (a .start) (a .end) (getD names k 0) (getD names (112 + k) 0) (z .pre .1) e (l .j) (omega arith)
+    (omega arith) (c .if2 .taken) in
     let same = sameName (slice (a .start) (a .end) (a .s .now)) in
     rw (l .inv .0) (past-more same (nameOf (a .s .now) names) (a .count) (a .from) (o .i) (search needs) (sym (l .inv .2) ∙ q) (o .inv))
 
@@ -104,15 +107,18 @@ loop-less c = search needs
 
 loop-again : tie.Need-loop-again Inv-loop μ-loop Inv-search μ-search
 loop-again c =
-    let o = c .before .before .before .before .before .before .before .before .before .search in
-    let l = c .before .before .before .before .loop in
-    let z = c .before .before .before .before .before .before .before .before .before .before in
+    let c4 = c .before .before .before .before in
+    let c9 = c4 .before .before .before .before .before in
+    let z = c9 .before in
+    let o = c9 .search in
+    let l = c4 .loop in
     let a = z .args in
     let names = a .names .now in
     let k = a .from + o .i in
     let e = z .pre .3 .inside (112 + k) in
     let h = z .pre .3 .order k (omega arith) in
-    let q = laws.alike-more (a .s .now) (a .start) (a .end) (getD names k 0) (getD names (112 + k) 0) (z .pre .1) e (l .j) (omega arith) (omega arith) (c .if2 .left) in
+    let q = laws.alike-more (a .s .now) (a .start) (a .end) (getD names k 0) (getD names (112 + k) 0) (z .pre .1) e (l .j) (omega arith) (omega arith)
+    (c .if2 .left) in
     (l .inv .0, search needs, sym q ∙ l .inv .2)
 
 add-i-2 : tie.Need-add-i-2 Inv-loop μ-loop Inv-search μ-search

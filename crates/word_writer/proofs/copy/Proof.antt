@@ -4,10 +4,10 @@ use Prim.Native.Nat.{_+_, _-_, _≤_}
 use native.Mathlib.Omega.{arith}
 use lib.ListN.{length, take}
 use lib.Seq.{take-all}
-use Rattle.image.specs.Over.{Wrote}
-use Rattle.image.proofs.Over.{no-words, word-more, retold}
-use Rattle.image.proofs.copy.Statement.{statement}
-use Rattle.image.proofs.copy.Tie as tie
+use Rattle.word_writer.specs.Over.{Wrote}
+use Rattle.word_writer.proofs.Over.{no-words, word-more, retold}
+use Rattle.word_writer.proofs.copy.Statement.{statement}
+use Rattle.word_writer.proofs.copy.Tie as tie
 
 abbrev Inv-loop : tie.InvT-loop
 Inv-loop ws out₀ at i₀ out i = (i ≤ length ws) × (length out ≡ length out₀) × Wrote at (at + i) (take i ws) out₀ out

@@ -3,10 +3,10 @@ use native.Mathlib.Omega.{arith}
 use lib.ListN.{length-set}
 use Rattle.model.specs.Basic.{gather}
 use Rattle.model.specs.Image.{bytesOf}
-use Rattle.image.specs.Over.{over}
-use Rattle.image.proofs.Over.{one-word}
-use Rattle.image.proofs.word.Statement.{statement}
-use Rattle.image.proofs.word.Tie as tie
+use Rattle.word_writer.specs.Over.{over}
+use Rattle.word_writer.proofs.Over.{one-word}
+use Rattle.word_writer.proofs.word.Statement.{statement}
+use Rattle.word_writer.proofs.word.Tie as tie
 
 mul-k : tie.Need-mul-k
 mul-k c = search needs

@@ -2,8 +2,8 @@ use borrow.Author.Needs.{needs}
 use mathlib.Core.Path.{sym}
 use native.Mathlib.Omega.{arith}
 use lib.Seq.{length-take-le}
-use Rattle.image.proofs.copy_front.Statement.{statement}
-use Rattle.image.proofs.copy_front.Tie as tie
+use Rattle.word_writer.proofs.copy_front.Statement.{statement}
+use Rattle.word_writer.proofs.copy_front.Tie as tie
 
 slice-aggregate-copy : tie.Need-slice-aggregate-copy
 slice-aggregate-copy c = let s = c .before .before .before in sym (length-take-le (s .args .n) (s .args .ws .now) (s .pre .0))

@@ -1,28 +1,20 @@
--- Words laid over a buffer: one after the other, and the rows of a table one a turn.
+-- Words laid over a buffer, one after the other.
 use mathlib.Core.Path.{_≡_, refl, sym, ap, _∙_}
-use mathlib.Core.List.{List, [], _∷_, _++_, append-assoc, append-nil}
-use Prim.Native.Nat.{ℕ, zero, suc, _+_, _*_, _-_, _≤_, _<_}
+use mathlib.Core.List.{List, [], _∷_, _++_, append-assoc}
+use Prim.Native.Nat.{ℕ, suc, _+_, _*_, _≤_, _<_}
 use native.Mathlib.Numerals.{add-one}
 use native.Mathlib.Omega.{arith}
 use lib.ListN.{length, getD, take, drop, set, length-append}
-use lib.Seq.{sets-eq, take-at, drop-append-add, drop-drop, take-suc, take-nil, length-take-le, slice}
+use lib.Seq.{sets-eq, take-at, drop-append-add, drop-drop, take-suc, length-take-le}
 use Rattle.model.specs.Basic.{gather}
 use Rattle.model.specs.Image.{bytesOf}
 use Rattle.words.proofs.Bytes.{length-bytes}
-use Rattle.image.specs.Over.{over, Wrote}
-use Rattle.image.specs.Rows.{rows}
+use Rattle.word_writer.specs.Over.{over, Wrote}
 
 bytes-append : (a b : List ℕ) → bytesOf (a ++ b) ≡ bytesOf a ++ bytesOf b
 unfolding bytesOf gather
 bytes-append [] b = refl
 bytes-append (w ∷ a) b = simp (bytes-append a b, append-assoc)
-
--- a part of a text that is lent
-pub part : (a e : ℕ) (s : List ℕ) → take (e - a) (drop a s) ≡ slice a e s
-part zero e s = let z : e - 0 ≡ e = omega arith in rw z
-part (suc a) zero s = let z : 0 - suc a ≡ 0 = omega arith in rw z
-part (suc a) (suc e) [] = take-nil (suc e - suc a)
-part (suc a) (suc e) (x ∷ s) = let z : suc e - suc a ≡ e - a = omega arith in rw z (part a e s)
 
 -- four stores are one word
 pub one-word : (l : List ℕ) (at a b c d : ℕ) → at * 4 + 4 ≤ length l
@@ -79,34 +71,6 @@ pub word-more : (ws old new new′ : List ℕ) (at i : ℕ) → i < length ws �
 word-more ws old new new′ at i h room p q =
     let e : take (i + 1) ws ≡ take i ws ++ (getD ws i 0 ∷ []) = rw add-one (take-suc ws i 0 h) in
     rw e (joined room p (record { next = omega arith; laid = q }))
-
--- ROWS: what is left from the i-th on, one row a turn
-module _ {S : Type 0} (row : S → ℕ → List ℕ) (next : S → ℕ → S) (n i : ℕ) (σ : S) where
-  pub rows-more : i < n → rows row next (n - i) i σ ≡ row σ i ++ rows row next (n - (i + 1)) (i + 1) (next σ i)
-  unfolding rows
-  rows-more h =
-      let z : n - i ≡ suc (n - (i + 1)) = omega arith in
-      let o : i + 1 ≡ suc i = omega arith in
-      rw (z, o)
-
-  pub rows-end : n ≤ i → rows row next (n - i) i σ ≡ []
-  unfolding rows
-  rows-end h = let z : n - i ≡ 0 = omega arith in rw z
-
--- TABLES: the rows before the i-th are written, and with the others they are the table T
-abbrev pub Going : {S : Type 0} (row : S → ℕ → List ℕ) (next : S → ℕ → S) (T : List ℕ) (n : ℕ) (old : List ℕ) (at i : ℕ) (σ : S) (p : ℕ) (new : List ℕ) → Type 0
-Going row next T n old at i σ p new = (ws : List ℕ) × Wrote at p ws old new × (ws ++ rows row next (n - i) i σ ≡ T)
-
-module _ {S : Type 0} (row : S → ℕ → List ℕ) (next : S → ℕ → S) (T : List ℕ) (n : ℕ) (old : List ℕ) (at : ℕ) where
-  pub begins : (σ : S) → rows row next n 0 σ ≡ T → Going row next T n old at 0 σ at old
-  begins σ e = let z : n - 0 ≡ n = omega arith in ([], no-words at old, rw z e)
-
-  pub goes : (i : ℕ) (σ : S) (p r : ℕ) (new new′ : List ℕ) → i < n → p * 4 ≤ length old → Wrote p r (row σ i) new new′
-      → Going row next T n old at i σ p new → Going row next T n old at (i + 1) (next σ i) r new′
-  goes i σ p r new new′ h room w g = (g .0 ++ row σ i, joined room (g .1) w, rw append-assoc (rw (rows-more row next n i σ h) at (g .2)))
-
-  pub ends : (i : ℕ) (σ : S) (p : ℕ) (new : List ℕ) → n ≤ i → Going row next T n old at i σ p new → Wrote at p T old new
-  ends i σ p new h g = retold (sym (append-nil (g .0)) ∙ rw (rows-end row next n i σ h) at (g .2)) (g .1)
 
 -- words that were written from the start on
 pub from-start : (r n : ℕ) (ws old new : List ℕ) → Wrote 0 r ws old new → length (bytesOf ws) ≡ n → new ≡ bytesOf ws ++ drop n old
