@@ -4,3 +4,4 @@ pub mod Lists
 pub mod Conditions
 pub mod Search
 pub mod Slices
+pub mod Again
