@@ -48,6 +48,12 @@ module _ {A : Type 0} (f : ℕ → A) where
   tab-at i [] h = refl
   tab-at i (x ∷ xs) h = λ j. h .0 j ∷ tab-at (suc i) xs (h .1) j
 
+-- one element of a list that stands in f
+pub at-nth : {A : Type 0} (f : ℕ → A) (o : ℕ) (xs : List A) (k : ℕ) (d : A) → k < length xs → At f o xs → f (o + k) ≡ getD xs k d
+at-nth f o [] k d h a = absurd (omega arith)
+at-nth f o (x ∷ xs) zero d h a = ap f (omega arith) ∙ a .0
+at-nth f o (x ∷ xs) (suc k) d h a = ap f (omega arith) ∙ at-nth f (suc o) xs k d (omega arith) (a .1)
+
 -- two lists that `same` finds equal are equal
 pub same-eq : (xs ys : List ℕ) → same xs ys ≡ true → xs ≡ ys
 same-eq [] [] h = refl

@@ -142,7 +142,8 @@ accuText by-bsum = bytes "BSUM"
 
 unfoldable pub conclusionText : Block → Conclusion → List ℕ
 conclusionText b k =
-    getD (map (λ v. v .name) (b .outputs)) (k .output) [] ⊕ bytes " IS " ⊕ getD (map (λ t. t .name) (terms b)) (k .term) []
+    getD (map (λ v. v .name) (b .outputs)) (k .output) []
+    ⊕ bytes " IS " ⊕ getD (map (λ t. t .name) (terms b)) (k .term) []
 
 abbrev pub weightText : ℕ → List ℕ
 weightText w = if eqb w M then [] else bytes " WITH " ⊕ unitText w

@@ -5,44 +5,44 @@ use Rattle.model.specs.Basic.{if_then_else_}
 use Rattle.model.specs.Block.{Op, and, or, Condition, term, neg, two}
 
 -- THE FORMS: `x IS t`, `x IS NOT t`, a NOT in front, AND, OR
-abbrev pub IS : ℕ
-IS = 0
+abbrev pub TERM-FORM : ℕ
+TERM-FORM = 0
 
-abbrev pub IS-NOT : ℕ
-IS-NOT = 1
+abbrev pub NOT-TERM-FORM : ℕ
+NOT-TERM-FORM = 1
 
-abbrev pub NOT : ℕ
-NOT = 2
+abbrev pub NOT-FORM : ℕ
+NOT-FORM = 2
 
-abbrev pub AND : ℕ
-AND = 3
+abbrev pub AND-FORM : ℕ
+AND-FORM = 3
 
-abbrev pub OR : ℕ
-OR = 4
+abbrev pub OR-FORM : ℕ
+OR-FORM = 4
 
 abbrev pub rank : Op → ℕ
-rank and = AND
-rank or = OR
+rank and = AND-FORM
+rank or = OR-FORM
 
 abbrev pub negatedForm : ℕ → ℕ
-negatedForm k = if eqb k IS then IS-NOT else NOT
+negatedForm k = if eqb k TERM-FORM then NOT-TERM-FORM else NOT-FORM
 
 unfoldable pub form : Condition → ℕ
-form (term t) = IS
+form (term t) = TERM-FORM
 form (neg c) = negatedForm (form c)
 form (two o a b) = rank o
 
 -- THE TABLE: the loosest form that stands without parentheses at each place; equal operators group to the left
 abbrev pub bareBehindNot : ℕ
-bareBehindNot = IS-NOT
+bareBehindNot = NOT-TERM-FORM
 
 abbrev pub bareLeft : Op → ℕ
-bareLeft and = AND
-bareLeft or = OR
+bareLeft and = AND-FORM
+bareLeft or = OR-FORM
 
 abbrev pub bareRight : Op → ℕ
-bareRight and = NOT
-bareRight or = AND
+bareRight and = NOT-FORM
+bareRight or = AND-FORM
 
 -- parentheses open at once, where forms up to l stand bare
 abbrev pub opened : ℕ → ℕ → ℕ → ℕ
