@@ -26,7 +26,11 @@ pub fn number_ok(img: &[u8], h: Header, i: usize) -> bool
     requires { ⌜ Heads (wordAt (now img)) h × (i ≤ ruleLimit) ⌝ }
     ensures { λ r. ⌜ r ≡ between ruleNumberLeast ruleNumberLimit (ruleAt (wordAt (now (img .entry))) i .number) ⌝ }
 {
-    bounds::within(bounds::LEAST_RULE_NUMBER, bounds::RULE_NUMBER, word(img, rule_row(h, i)))
+    bounds::within(
+        bounds::LEAST_RULE_NUMBER,
+        bounds::RULE_NUMBER,
+        word(img, rule_row(h, i)),
+    )
 }
 
 pub fn weight_ok(img: &[u8], h: Header, i: usize) -> bool

@@ -14,7 +14,7 @@ use Rattle.stored_rules.proofs.conclusions_ok.Statement.{statement}
 use Rattle.stored_rules.proofs.conclusions_ok.Tie as tie
 
 abbrev Inv-loop : tie.InvT-loop
-Inv-loop img h i o s k e j₀ j = 
+Inv-loop img h i o s k e j₀ j =
     all (conclusionOk (decode (wordAt img))) (tab (conclusionAt (wordAt img)) (s + k - j) j)
     ≡ all (conclusionOk (decode (wordAt img))) (tab (conclusionAt (wordAt img)) k s)
 

@@ -12,7 +12,7 @@ use Rattle.stored_rules.proofs.rows_ok.Statement.{statement}
 use Rattle.stored_rules.proofs.rows_ok.Tie as tie
 
 abbrev Inv-loop : tie.InvT-loop
-Inv-loop img h m e n₀ k₀ i₀ n k i = 
+Inv-loop img h m e n₀ k₀ i₀ n k i =
     (n ≤ i * 4294967295) × (k ≤ i * 4294967295) × (rulesWalk (wordAt img) (e - i) i n k ≡ rulesWalk (wordAt img) e 0 0 0)
 
 abbrev μ-loop : tie.MeasureT-loop
