@@ -32,10 +32,6 @@ some-are f zero i = refl
 some-are f (suc n) i = sym (le-leb 1 (suc n) (omega arith))
 
 module _ (w : ℕ → ℕ) where
-  -- a field of a row, by the words that the code reads
-  pub field : (o p k v : ℕ) → v ≡ w (o + k) → o ≡ p → v ≡ w (p + k)
-  field o p k v ev eo = ev ∙ ap (λ (x : ℕ). w (x + k)) eo
-
   -- A ROW
   exact-size : (i : ℕ) → conditionExact w i ≡ true → size (ruleAt w i .condition) ≡ wordCount w i
   unfolding conditionExact

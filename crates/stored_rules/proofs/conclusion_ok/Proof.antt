@@ -4,8 +4,8 @@ use mathlib.Core.Path.{refl, sym, ap, _∙_}
 use mathlib.Core.List.{[], _∷_}
 use Rattle.model.specs.Image.{wordAt}
 use Rattle.laws.proofs.Tests.{one-fails, last-decides}
+use Rattle.laws.proofs.Places.{field}
 use Rattle.stored_rules.proofs.Outputs.{conclusion-words}
-use Rattle.stored_rules.proofs.Rules.{field}
 use borrow.Author.Needs.{needs}
 use Rattle.stored_rules.proofs.conclusion_ok.Statement.{statement}
 use Rattle.stored_rules.proofs.conclusion_ok.Tie as tie

@@ -8,8 +8,8 @@ use lib.Dec.{leb}
 use Rattle.model.specs.Basic.{all}
 use Rattle.model.specs.WellFormed.{conclusionOk}
 use Rattle.model.specs.Image.{wordAt, tab, conclusionAt, decode}
-use Rattle.laws.proofs.Places.{all-more, all-stop, all-end, all-start}
-use Rattle.stored_rules.proofs.Rules.{field, conclusions-right, conclusions-words}
+use Rattle.laws.proofs.Places.{field, all-more, all-stop, all-end, all-start}
+use Rattle.stored_rules.proofs.Rules.{conclusions-right, conclusions-words}
 use Rattle.stored_rules.proofs.conclusions_ok.Statement.{statement}
 use Rattle.stored_rules.proofs.conclusions_ok.Tie as tie
 

@@ -4,7 +4,8 @@ use mathlib.Core.List.{[], _∷_}
 use borrow.Author.Tests.{eq-eqb, ne-eqb}
 use Rattle.model.specs.Image.{wordAt}
 use Rattle.laws.proofs.Tests.{one-fails, last-decides}
-use Rattle.stored_rules.proofs.Rules.{field, row-words}
+use Rattle.laws.proofs.Places.{field}
+use Rattle.stored_rules.proofs.Rules.{row-words}
 use borrow.Author.Needs.{needs}
 use Rattle.stored_rules.proofs.row_ok.Statement.{statement}
 use Rattle.stored_rules.proofs.row_ok.Tie as tie

@@ -4,7 +4,8 @@ use Prim.Native.Nat.{_+_}
 use Rattle.model.specs.Parentheses.{form, depth}
 use Rattle.model.specs.Image.{wordAt}
 use Rattle.layout.proofs.Parts.{wordFirst}
-use Rattle.stored_rules.proofs.Rules.{field, condition-stored, condition-tree}
+use Rattle.laws.proofs.Places.{field}
+use Rattle.stored_rules.proofs.Rules.{condition-stored, condition-tree}
 use borrow.Author.Needs.{needs}
 use Rattle.stored_rules.proofs.rule_condition.Statement.{statement}
 use Rattle.stored_rules.proofs.rule_condition.Tie as tie

@@ -5,8 +5,9 @@ use borrow.Author.Tests.{le-leb, lt-leb, not-true, not-false}
 use Rattle.model.specs.Basic.{every}
 use Rattle.model.specs.Image.{wordAt}
 use Rattle.laws.proofs.Tests.{one-fails, last-decides}
+use Rattle.laws.proofs.Places.{field}
 use Rattle.stored_rules.specs.Walk.{ruleStored}
-use Rattle.stored_rules.proofs.Rules.{field, rule-tests, rule-words}
+use Rattle.stored_rules.proofs.Rules.{rule-tests, rule-words}
 use borrow.Author.Needs.{needs}
 use Rattle.stored_rules.proofs.rule_ok.Statement.{statement}
 use Rattle.stored_rules.proofs.rule_ok.Tie as tie

@@ -2,8 +2,8 @@ use native.Mathlib.Omega.{arith}
 use mathlib.Core.Path.{ap, _∙_}
 use Rattle.model.specs.WellFormed.{unitOk}
 use Rattle.model.specs.Image.{wordAt, ruleAt}
-use Rattle.stored_rules.proofs.Rules.{field}
 use borrow.Author.Needs.{needs}
+use Rattle.laws.proofs.Places.{field}
 use Rattle.stored_rules.proofs.weight_ok.Statement.{statement}
 use Rattle.stored_rules.proofs.weight_ok.Tie as tie
 
