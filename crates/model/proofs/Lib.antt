@@ -1,8 +1,11 @@
 pub mod Opened
+pub mod Texts
+pub mod Tokens
 pub mod Example
 pub mod Starred
 pub mod Refused
 pub mod Accepted
+pub mod Limits
 pub mod Crane
 pub mod Images
 pub mod Calls
