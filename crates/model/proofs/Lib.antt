@@ -7,6 +7,10 @@ pub mod Refused
 pub mod Accepted
 pub mod Limits
 pub mod Crane
+pub mod Blocks
 pub mod Images
+pub mod Buffers
+pub mod Listings
+pub mod Degrees
 pub mod Calls
 pub mod Vectors
