@@ -159,7 +159,8 @@ conditions =
     ∷ spelt "a IS t AND NOT (a IS u AND n IS v)" (two and a (neg (two and b c))) "a IS t AND NOT (a IS u AND n IS v)"
     ∷ spelt "(a IS t OR a IS u) AND (n IS v OR a IS t)" (two and (two or a b) (two or c a)) "(a IS t OR a IS u) AND (n IS v OR a IS t)"
     ∷ spelt "(a IS t AND (a IS u OR n IS v)) OR a IS t" (two or (two and a (two or b c)) a) "a IS t AND (a IS u OR n IS v) OR a IS t"
-    ∷ spelt "((a IS t OR a IS u) AND n IS v OR a IS t) AND a IS u" (two and (two or (two and (two or a b) c) a) b) "((a IS t OR a IS u) AND n IS v OR a IS t) AND a IS u"
+    ∷ spelt "((a IS t OR a IS u) AND n IS v OR a IS t) AND a IS u" (two and (two or (two and (two or a b) c) a) b)
+    "((a IS t OR a IS u) AND n IS v OR a IS t) AND a IS u"
     ∷ spelt "NOT (NOT a IS NOT t) OR n IS NOT v" (two or (neg (neg (neg a))) (neg c)) "NOT (NOT a IS NOT t) OR n IS NOT v"
     ∷ []
 

@@ -108,7 +108,9 @@ good =
     ∷ ofPoints (at (negsuc 999999999) 0 ∷ at (pos 0) 1000 ∷ at (pos 1) 999000 ∷ at (pos 1000000000) 1000000 ∷ [])
     ∷ ofOutputs (letters (λ w. record { name = 95 ∷ w; terms = single "k" (pos 0) ∷ []; range = none; default = some (pos 1000000000) }) 6)
     ∷ ofOutput (record { name = bytes "y"; terms = letters (λ w. record { name = w; at = negsuc 0 }) 7; range = none; default = none })
-    ∷ ofOutput (output "y" (single "k" (pos 1000000000) ∷ single "K" (negsuc 999999999) ∷ []) (span (negsuc 999999999) (pos 1000000000)) (some (negsuc 999999999)))
+    ∷ ofOutput (output "y" (single "k" (pos 1000000000) ∷ single "K" (negsuc 999999999) ∷ []) (span (negsuc 999999999) (pos 1000000000)) (some (pos 0)))
+    ∷ ofOutput (output "y" (single "k" (negsuc 4) ∷ []) (span (negsuc 4) (pos 5)) (some (negsuc 4)))
+    ∷ ofOutput (output "y" (single "k" (pos 5) ∷ []) (span (negsuc 4) (pos 5)) (some (pos 5)))
     ∷ ofOutput (output "y" (single "k" (pos 0) ∷ []) (span (negsuc 0) (pos 0)) (some (pos 0)))
     ∷ ofCondition (nots 10) ∷ ofCondition (nested 9) ∷ ofCondition (two or (nested 8) (nots 10))
     ∷ ofConclusion 0 3 ∷ ofConclusion 1 4 ∷ ofConclusion 0 2

@@ -46,7 +46,8 @@ rooms = refl
 lengths : map lengthIn (accepted (7 ∷ 8 ∷ []) ∷ refused 10 (some 2) ∷ refused 11 none ∷ []) ≡ accepted 2 ∷ refused 10 (some 2) ∷ refused 11 none ∷ []
 lengths = refl
 
-verdicts : map (verdictIn {A = List ℕ}) (accepted (7 ∷ []) ∷ refused 2 (some 9) ∷ refused 11 none ∷ []) ≡ accepted tt ∷ refused 2 (some 9) ∷ refused 11 none ∷ []
+verdicts : map (verdictIn {A = List ℕ}) (accepted (7 ∷ []) ∷ refused 2 (some 9) ∷ refused 11 none ∷ [])
+    ≡ accepted tt ∷ refused 2 (some 9) ∷ refused 11 none ∷ []
 verdicts = refl
 
 -- bytes past the end stay, and on a refusal all

@@ -19,7 +19,8 @@ nearest-whole : map (λ a. nearestℤ a 4) (pos 5 ∷ pos 6 ∷ negsuc 0 ∷ neg
     ≡ pos 1 ∷ pos 2 ∷ pos 0 ∷ pos 0 ∷ negsuc 0 ∷ negsuc 0 ∷ negsuc 0 ∷ negsuc 0 ∷ negsuc 1 ∷ []
 nearest-whole = refl
 
-nearest-whole-thirds : map (λ a. nearestℤ a 3) (pos 4 ∷ pos 5 ∷ negsuc 0 ∷ negsuc 1 ∷ negsuc 3 ∷ negsuc 4 ∷ []) ≡ pos 1 ∷ pos 2 ∷ pos 0 ∷ negsuc 0 ∷ negsuc 0 ∷ negsuc 1 ∷ []
+nearest-whole-thirds : map (λ a. nearestℤ a 3) (pos 4 ∷ pos 5 ∷ negsuc 0 ∷ negsuc 1 ∷ negsuc 3 ∷ negsuc 4 ∷ [])
+    ≡ pos 1 ∷ pos 2 ∷ pos 0 ∷ negsuc 0 ∷ negsuc 0 ∷ negsuc 1 ∷ []
 nearest-whole-thirds = refl
 
 -- OPERATORS on some pairs of degrees
@@ -69,7 +70,8 @@ zigzag = at (negsuc 999) 200000 ∷ at (pos 1000) 1000000 ∷ at (pos 2000) 0 �
 
 term-values :
     map (termDegree zigzag)
-    (negsuc 999999999 ∷ negsuc 999 ∷ negsuc 998 ∷ pos 0 ∷ pos 999 ∷ pos 1000 ∷ pos 1001 ∷ pos 1500 ∷ pos 2000 ∷ pos 3000 ∷ pos 3999 ∷ pos 4000 ∷ pos 1000000000 ∷ [])
+    (negsuc 999999999 ∷ negsuc 999 ∷ negsuc 998 ∷ pos 0 ∷ pos 999 ∷ pos 1000 ∷ pos 1001 ∷ pos 1500
+    ∷ pos 2000 ∷ pos 3000 ∷ pos 3999 ∷ pos 4000 ∷ pos 1000000000 ∷ [])
     ≡ 200000 ∷ 200000 ∷ 200400 ∷ 600000 ∷ 999600 ∷ 1000000 ∷ 999000 ∷ 500000 ∷ 0 ∷ 250000 ∷ 499750 ∷ 500000 ∷ 500000 ∷ []
 unfolding opened
 term-values = refl
@@ -96,7 +98,8 @@ condition-values = refl
 
 -- HEIGHTS: 0 without any degree
 height-values :
-    map (accumulateAll by-max 0) ([] ∷ (300000 ∷ 600000 ∷ 200000 ∷ []) ∷ []) ++ map (accumulateAll by-bsum 0) ([] ∷ (300000 ∷ 200000 ∷ []) ∷ (300000 ∷ 600000 ∷ 200000 ∷ []) ∷ [])
+    map (accumulateAll by-max 0) ([] ∷ (300000 ∷ 600000 ∷ 200000 ∷ []) ∷ [])
+    ++ map (accumulateAll by-bsum 0) ([] ∷ (300000 ∷ 200000 ∷ []) ∷ (300000 ∷ 600000 ∷ 200000 ∷ []) ∷ [])
     ≡ 0 ∷ 600000 ∷ 0 ∷ 500000 ∷ 1000000 ∷ []
 unfolding opened
 height-values = refl

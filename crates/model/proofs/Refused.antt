@@ -249,7 +249,8 @@ wrong-name = refl
 abbrev outputs : List ℕ
 outputs =
     opening ++ bytes "a: REAL; END_VAR VAR_OUTPUT y, z: REAL; END_VAR FUZZIFY a TERM t := (0,0),(1,1); END_FUZZIFY DEFUZZIFY y TERM k := 1; "
-    ++ bytes "METHOD : CoGS; DEFAULT := NC; END_DEFUZZIFY DEFUZZIFY z TERM m := 1; METHOD : CoGS; DEFAULT := NC; END_DEFUZZIFY RULEBLOCK r ACCU : MAX; RULE 1: IF a IS t THEN "
+    ++ bytes "METHOD : CoGS; DEFAULT := NC; END_DEFUZZIFY DEFUZZIFY z TERM m := 1; METHOD : CoGS; DEFAULT := NC; END_DEFUZZIFY "
+    ++ bytes "RULEBLOCK r ACCU : MAX; RULE 1: IF a IS t THEN "
 
 abbrev not-declared-texts : List Cut
 not-declared-texts =
