@@ -17,7 +17,9 @@ use Rattle.model.specs.Degrees.{prodOf, conditionDegree}
 use Rattle.model.specs.Evaluation.{ruleDegree}
 use Rattle.model.specs.Image.{tab, treeOf, pairOf, accuOf, decode, termAt, ruleAt, conclusionAt}
 use Rattle.model.specs.WellFormed.{unitOk, outputOk, conditionOk, conclusionOk, ruleOk}
-use Rattle.words.proofs.Places.{both, and-i, passed, length-tab}
+use Rattle.laws.proofs.Lists.{all-at}
+use Rattle.laws.proofs.Tests.{both, and-i, passed}
+use Rattle.laws.proofs.Places.{length-tab}
 use Rattle.stored_conditions.specs.Stored.{isCondition, conditionStored}
 use Rattle.stored_conditions.proofs.Stored.{tab-from}
 use Rattle.layout.specs.Tables.{inputTermsIn, conditionRows, conditionExact}
@@ -30,16 +32,6 @@ pair-last x h k = rw (ne-eqb x 0 h, ne-eqb x 1 k) refl
 
 pub accu-last : (x : ℕ) → (x ≡ 0 → ⊥) → Bsum ≡ accuOf x
 accu-last x h = rw (ne-eqb x 0 h) refl
-
-all-at : {A : Type 0} (g : A → Bool) (f : ℕ → A) (n s i : ℕ) → i < n → all g (tab f n s) ≡ true → g (f (s + i)) ≡ true
-unfolding all tab
-all-at g f zero s i h e = absurd (omega arith)
-all-at g f (suc n) s zero h e =
-    let q : s + 0 ≡ s = omega arith in
-    rw q (both (g (f s)) (all g (tab f n (suc s))) e .0)
-all-at g f (suc n) s (suc i) h e =
-    let q : s + suc i ≡ suc s + i = omega arith in
-    rw q (all-at g f n (suc s) i (omega arith) (both (g (f s)) (all g (tab f n (suc s))) e .1))
 
 own-few : (v : Output) → outputOk v ≡ true → length (v .terms) ≤ 7
 unfolding outputOk

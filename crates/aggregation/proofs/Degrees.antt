@@ -15,7 +15,7 @@ use Rattle.model.specs.Block.{Condition, term, neg, two}
 use Rattle.model.specs.Degrees.{notOf, conditionDegree}
 use Rattle.degrees.specs.Tables.{numbers, Low}
 use Rattle.model.specs.WellFormed.{termsBelow}
-use Rattle.words.proofs.Places.{both}
+use Rattle.laws.proofs.Tests.{both}
 
 pub low-set : (l : List ℕ) (n v : ℕ) → Low l → v ≤ M → Low (set l n v)
 low-set l n v low h k = go (eqb k n) (ltb n (length l)) refl refl

@@ -12,7 +12,7 @@ use Rattle.model.specs.Basic.{if_then_else_, total, gather}
 use Rattle.model.specs.Block as block
 use Rattle.model.specs.Block.{Block, inputFirst, outputFirst}
 use Rattle.model.specs.Image.{tab}
-use Rattle.words.proofs.Places.{length-tab}
+use Rattle.laws.proofs.Places.{length-tab}
 use Rattle.block_tables.specs.declared.Tables.{Tables}
 use Rattle.block_tables.specs.View.{inputRow, outputRow, inputView, outputView, termView, singletonView, inputsView, outputsView, Holds}
 use Rattle.block_updates.proofs.Lookups as lookups

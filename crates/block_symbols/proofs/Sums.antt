@@ -12,7 +12,7 @@ use lib.ListN.{length, take, getD, set, length-append}
 use lib.Seq.{getD-set-same, getD-set-other}
 use Rattle.model.specs.Basic.{total, gather}
 use Rattle.model.specs.Image.{tab}
-use Rattle.words.proofs.Places.{tab-last}
+use Rattle.laws.proofs.Places.{tab-last}
 use Rattle.block_symbols.specs.Firsts.{sums, Firsts}
 
 pub sums-more : (c : ℕ → ℕ) (n : ℕ) → sums c (n + 1) ≡ sums c n + c n

@@ -15,7 +15,7 @@ use Rattle.model.specs.Keywords.{END, END-FUNCTION-BLOCK, END-RULEBLOCK}
 use Rattle.model.specs.Parse.{Parse, Checks, is, refuse, advance, judged, expect}
 use Rattle.model.specs.Tokens.{tokens}
 use Rattle.model.specs.Reader.{start, partsThere, endOfBlock}
-use Rattle.words.proofs.Places.{all-start}
+use Rattle.laws.proofs.Places.{all-start}
 use Rattle.block_tables.specs.declared.Tables.{Tables}
 use Rattle.block_tables.specs.View.{zero-crisp, no-input, no-output, no-point, blockView, Holds}
 use Rattle.block_tables.proofs.Lists.{alike}

@@ -11,7 +11,7 @@ use Rattle.model.specs.Block.{Block, termsOf, singletonsOf, rangeOf}
 use Rattle.model.specs.Image.{tab}
 use Rattle.model.specs.Tokens.{sameName}
 use Rattle.model.specs.Declarations.{inputOf, outputOf, termOf, singletonOf, lastPoints, pointsOf}
-use Rattle.words.proofs.Places.{length-tab, tab-ext, tab-last}
+use Rattle.laws.proofs.Places.{length-tab, tab-ext, tab-last}
 use Rattle.lookup.specs.Names.{nameOf}
 use Rattle.lookup.proofs.Names.{index-tab}
 use Rattle.block_tables.specs.declared.Tables.{Tables}

@@ -15,7 +15,7 @@ use Rattle.model.specs.declared.InputType.the-variants.{Real as real, Int as in
 use Rattle.model.specs.declared.Pair.the-variants.{MinMax as min-max}
 use Rattle.model.specs.declared.Activation.the-variants.{Min as by-min}
 use Rattle.model.specs.declared.Accumulation.the-variants.{Max as by-max}
-use Rattle.words.proofs.Places.{tab-last, tab-ext}
+use Rattle.laws.proofs.Places.{tab-last, tab-ext}
 use Rattle.lookup.specs.Names.{nameOf}
 use Rattle.block_tables.specs.declared.Point.{Point}
 use Rattle.block_tables.specs.declared.Tables.{Tables}

@@ -6,7 +6,7 @@ use native.Mathlib.Omega.{arith}
 use lib.ListN.{take, drop, getD, set}
 use Rattle.model.specs.Basic.{update, updateLast}
 use Rattle.model.specs.Image.{tab}
-use Rattle.words.proofs.Places.{tab-last, tab-ext}
+use Rattle.laws.proofs.Places.{tab-last, tab-ext}
 use Rattle.block_tables.proofs.Lists.{updateLast-snoc}
 
 pub tab-same : {A : Type 0} (f g : ℕ → A) (n : ℕ) → ((k : ℕ) → k < n → g k ≡ f k) → tab g n 0 ≡ tab f n 0

@@ -6,7 +6,7 @@ use lib.ListN.{getD}
 use Rattle.model.specs.Basic.{if_then_else_}
 use Rattle.model.specs.Image.{tab}
 use Rattle.model.specs.declared.InputType.the-variants.{Real as real, Int as int}
-use Rattle.words.proofs.Places.{tab-ext}
+use Rattle.laws.proofs.Places.{tab-ext}
 use Rattle.lookup.specs.Names.{nameOf}
 use Rattle.block_tables.specs.declared.Input.{Input}
 use Rattle.block_tables.specs.declared.Output.{Output}

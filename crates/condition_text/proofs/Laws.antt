@@ -16,6 +16,7 @@ use Rattle.model.specs.Keywords.{CLOSE, IS}
 use Rattle.model.specs.Parse.{Parse, Part, kind, text, refuse, advance, judged, expect, aName}
 use Rattle.model.specs.Declarations.{inputOf, termOf, isInput, isTerm}
 use Rattle.model.specs.Rules.{ConditionRead, conditionRead, word, conditionTerm, termOrNot, subcondition, negatedRead, closed, chainOn, chain, conditionWith, parenthesis}
+use Rattle.laws.proofs.Lists.{sets-append}
 use Rattle.cursor.specs.declared.Cursor.{Cursor}
 use Rattle.cursor.specs.View.{seen, textOf, Fits, left, Step, fault}
 use Rattle.cursor.proofs.Laws.{enough, kind-seen, text-seen, block-seen, words-seen, lost-kind, lost-refuse, lost-expect, judged-bad, judged-good, numbered}
@@ -107,16 +108,10 @@ pub unmoved : {s : List ℕ} {p : Pending} (l : List ℕ) → Room s p → Withi
 unmoved l g = record { fewer = omega arith; room = g; sticky = λ e. e; even = λ e. omega arith; grows = omega arith; stays = refl }
 
 -- WORDS PUT
-sets-append : (v w l : List ℕ) (m : ℕ) → sets l m (v ++ w) ≡ sets (sets l m v) (m + length v) w
-sets-append [] w l m = ap (λ (n : ℕ). sets l n w) (sym (add-zero m))
-sets-append (x ∷ v) w l m =
-    let e : suc m + length v ≡ m + suc (length v) = omega arith in
-    sets-append v w (set l m x) (suc m) ∙ ap (λ (n : ℕ). sets (sets (set l m x) (suc m) v) n w) e
-
 pub adds : {a b c : ℕ} {v w old mid new : List ℕ} → Adds a b v old mid → Adds b c w mid new → Adds a c (v ++ w) old new
 adds {a} {b} {c} {v} {w} {old} {mid} {new} x y = record {
   put = let p = x .put in let q = y .put in simp length-append (omega arith);
-  said = y .said ∙ ap (λ (l : List ℕ). sets l b w) (x .said) ∙ ap (λ (n : ℕ). sets (sets old a v) n w) (x .put) ∙ sym (sets-append v w old a);
+  said = y .said ∙ ap (λ (l : List ℕ). sets l b w) (x .said) ∙ ap (λ (n : ℕ). sets (sets old a v) n w) (x .put) ∙ sym (sets-append old a v w);
 }
 
 -- the words that are put, where the array has room for them

@@ -82,7 +82,7 @@ fn term_named(
     requires { ⌜ Room (now s) p × Symbols (now s) (now names) (now symbols) × (i < inputCount (now symbols))
         × (p .cursor .why ≡ 0 → p .put < p .words) ⌝ }
     ensures { λ r. ⌜ ((b : Block) → Describes (now (s .entry)) (now (names .entry)) (now (symbols .entry)) b
-        → Reads (now (s .entry)) b p r (termNamed i (seen (now (s .entry)) (p .cursor) b (p .words)))
+        → Reads (now (s .entry)) b p r (conditionTerm i (seen (now (s .entry)) (p .cursor) b (p .words)))
         (now (words .entry)) (now (words .exit))) ⌝ }
     ensures within { λ r. ⌜ Within (now (s .entry)) 1 p r (now (words .entry)) (now (words .exit)) ⌝ }
 {
@@ -119,7 +119,7 @@ fn term_here(
     requires { ⌜ Room (now s) p × Symbols (now s) (now names) (now symbols) × (i < inputCount (now symbols))
         × (p .cursor .why ≡ 0 → p .put < p .words) ⌝ }
     ensures { λ r. ⌜ ((b : Block) → Describes (now (s .entry)) (now (names .entry)) (now (symbols .entry)) b
-        → Reads (now (s .entry)) b p r (termHere i (seen (now (s .entry)) (p .cursor) b (p .words)))
+        → Reads (now (s .entry)) b p r (termOrNot i (seen (now (s .entry)) (p .cursor) b (p .words)))
         (now (words .entry)) (now (words .exit))) ⌝ }
     ensures within { λ r. ⌜ Within (now (s .entry)) 1 p r (now (words .entry)) (now (words .exit)) ⌝ }
 {

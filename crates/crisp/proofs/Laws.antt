@@ -1,16 +1,17 @@
 -- Between a crisp value and its distance above the lowest one: back, bounds, order, difference.
 use mathlib.Core.Path.{_≡_, refl, sym, ap, _∙_, subst}
-use mathlib.Core.Bool.{false}
+use mathlib.Core.Bool.{false, _&&_, and-true}
 use Prim.Native.Nat.{ℕ, suc, _+_, _-_, _≤_, _<_}
 use native.Mathlib.Omega.{arith}
 use native.Mathlib.Decide.{decLe}
 use borrow.Author.Tests.{le-leb}
-use lib.Dec.{T, leb, ltb→lt, leb→le, le→leb}
+use lib.Dec.{T, leb, ltb→lt, leb→le, le→leb, leb·suc-suc}
 use lib.IntN.{ℤ, pos, negsuc, natAbs, _+ℤ_, _-ℤ_, subℕ}
 use lib.Signed.{leZ, _<ℤ_, _≤ℤ_}
 use mir.Syntax.{w32}
 use mir.Val.{SFits}
 use Rattle.model.specs.Bounds.{crispLimit}
+use Rattle.model.specs.Tokens.{inCrisp}
 use Rattle.model.specs.Degrees.{distance}
 use Rattle.nearest.proofs.Difference.{sub-pos, by-sign, same, pos-is, negsuc-is, diff-neg, diff-add}
 use Rattle.crisp.specs.Crisp.{InCrisp, above}
@@ -96,3 +97,8 @@ not-at-most (pos m) (pos n) h = record { le = le→leb n m (leb-false m n h) }
 not-at-most (pos m) (negsuc n) h = record { le = tt }
 not-at-most (negsuc m) (pos n) h = absurd (subst T h tt)
 not-at-most (negsuc m) (negsuc n) h = record { le = le→leb m n (leb-false n m h) }
+
+-- the crisp bounds as two comparisons
+pub bounds : (z : ℤ) → inCrisp z ≡ leZ (negsuc 999999999) z && leZ z (pos 1000000000)
+bounds (pos n) = refl
+bounds (negsuc n) = leb·suc-suc n 999999999 ∙ sym (and-true (leb n 999999999))

@@ -1,6 +1,10 @@
 -- The crisp bounds, and distances above the lowest crisp value.
+use mathlib.Core.Bool.{Bool}
+use mathlib.Core.Option.{Option, none, some}
 use Prim.Native.Nat.{ℕ, _≤_}
 use lib.IntN.{ℤ, pos, natAbs, _+ℤ_}
+use Rattle.model.specs.Basic.{if_then_else_}
+use Rattle.model.specs.Block.{Range}
 use Rattle.model.specs.Bounds.{crispLimit}
 
 abbrev pub InCrisp : ℤ → Type 0
@@ -8,3 +12,7 @@ InCrisp z = natAbs z ≤ crispLimit
 
 abbrev pub above : ℤ → ℕ
 above z = natAbs (z +ℤ pos crispLimit)
+
+-- RANGE as three values: whether there is one, and its ends
+abbrev pub rangeGiven : Bool → ℤ → ℤ → Option Range
+rangeGiven ranged a b = if ranged then some (record { least = a; most = b }) else none

@@ -4,9 +4,11 @@ ghost use mathlib.Core.Path.{_≡_};
 ghost use Prim.Native.Nat.{_≤_};
 ghost use lib.IntN.{pos, _-ℤ_};
 ghost use lib.Signed.{ltZ, leZ};
+ghost use Rattle.model.specs.Block.{inRange};
+ghost use Rattle.model.specs.Tokens.{inCrisp};
 ghost use Rattle.model.specs.Bounds.{crispLimit};
 ghost use Rattle.model.specs.Readings.{floatOf};
-ghost use Rattle.crisp.specs.Crisp.{InCrisp, above};
+ghost use Rattle.crisp.specs.Crisp.{InCrisp, above, rangeGiven};
 
 // How far x lies above the lowest crisp value.
 pub fn lift(x: Crisp) -> u32
@@ -34,6 +36,29 @@ pub fn not_above(a: Crisp, b: Crisp) -> bool
     ensures { λ r. ⌜ r ≡ leZ (a .0) (b .0) ⌝ }
 {
     a.0 <= b.0
+}
+
+// In the crisp bounds.
+pub fn in_bounds(x: Crisp) -> bool
+    ensures { λ r. ⌜ r ≡ inCrisp (x .0) ⌝ }
+{
+    if not_above(Crisp(-1_000_000_000), x) {
+        return not_above(x, Crisp(1_000_000_000));
+    }
+    false
+}
+
+// In RANGE, where there is one.
+pub fn in_range(ranged: bool, least: Crisp, most: Crisp, x: Crisp) -> bool
+    ensures { λ r. ⌜ r ≡ inRange (rangeGiven ranged (least .0) (most .0)) (x .0) ⌝ }
+{
+    if ranged {
+        if not_above(least, x) {
+            return not_above(x, most);
+        }
+        return false;
+    }
+    true
 }
 
 // Thousandths over 1000, rounded once.

@@ -14,12 +14,13 @@ use Rattle.model.specs.Evaluation.{moment, sumOf, answerWith, unfired, outputAn
 use Rattle.model.specs.declared.Mark.the-variants.{Fired}
 use Rattle.model.specs.declared.Answer.{Answer}
 use Rattle.model.specs.declared.Crisp.{Crisp}
-use Rattle.words.proofs.Places.{length-tab}
+use Rattle.laws.proofs.Lists.{map-tab}
+use Rattle.laws.proofs.Places.{length-tab}
 use Rattle.centre.specs.Centre.{figureOf}
 use Rattle.held.proofs.Laws.{held-tab}
 use Rattle.layout.specs.Tables.{outputCount, inputTermsIn}
 use Rattle.layout.specs.Groups.{Sound}
-use Rattle.layout.proofs.TableLaws.{Runs, map-tab}
+use Rattle.layout.proofs.TableLaws.{Runs}
 use Rattle.layout.proofs.Parts.{outputFirst}
 use Rattle.layout.proofs.Sound.{outputs-run, outputs-few}
 

@@ -8,6 +8,7 @@ ghost use Rattle.model.specs.Bounds.{M};
 ghost use Rattle.model.specs.Block.{and, or};
 ghost use Rattle.model.specs.Degrees.{notOf, prodOf, asumOf, bdifOf, bsumOf, pairs};
 ghost use Rattle.model.specs.Evaluation.{accumulated};
+ghost use Rattle.model.specs.WellFormed.{unitOk};
 
 pub fn not(a: Degree) -> Degree
     requires { ⌜ a .0 ≤ M ⌝ }
@@ -105,4 +106,14 @@ pub fn accumulate(k: Accumulation, h: Degree, d: Degree) -> Degree
         Accumulation::Max => max(h, d),
         Accumulation::Bsum => bsum(h, d),
     }
+}
+
+// A degree or a weight that a text can give: 0 to 1, in whole thousandths.
+pub fn is_unit(d: u32) -> bool
+    ensures { λ r. ⌜ r ≡ unitOk d ⌝ }
+{
+    if 1_000_000 < d {
+        return false;
+    }
+    d % 1000 == 0
 }

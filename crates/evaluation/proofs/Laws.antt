@@ -21,7 +21,8 @@ use Rattle.model.specs.declared.Held.{Held}
 use Rattle.model.specs.declared.Pair.{Pair}
 use Rattle.model.specs.declared.Reading.{Reading}
 use Rattle.model.specs.declared.Refusal.the-variants.{ImageNotAccepted, WrongCount, WrongHeld, WrongReading}
-use Rattle.words.proofs.Places.{tab-ext, passed, length-tab}
+use Rattle.laws.proofs.Tests.{passed}
+use Rattle.laws.proofs.Places.{tab-ext, length-tab}
 use Rattle.layout.specs.Tables.{inputTermsIn}
 use Rattle.layout.specs.Groups.{tablesOk, Sound}
 use Rattle.layout.proofs.Parts.{inputTerms-are}

@@ -12,12 +12,13 @@ use Rattle.model.specs.Degrees.{termDegree}
 use Rattle.model.specs.declared.Reading.{Reading}
 use Rattle.model.specs.Evaluation.{termDegrees, valuesOf, orZero}
 use Rattle.model.specs.Image.{tab, termAt, inputAt}
-use Rattle.words.proofs.Places.{length-tab}
+use Rattle.laws.proofs.Places.{length-tab}
 use Rattle.layout.specs.Tables.{sums, inputCount}
 use Rattle.layout.specs.Groups.{Sound}
 use Rattle.layout.proofs.Parts.{inputFirst}
 use Rattle.fuzzification.specs.Filled.{filled}
-use Rattle.fuzzification.proofs.Fill.{tab-more, sets-append}
+use Rattle.fuzzification.proofs.Fill.{tab-more}
+use Rattle.laws.proofs.Lists.{sets-append}
 use Rattle.fuzzification.proofs.Entries.{first-is}
 use Rattle.fuzzification.proofs.Wrong.{length-values}
 

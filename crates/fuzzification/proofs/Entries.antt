@@ -14,23 +14,17 @@ use Rattle.model.specs.Bounds.{M, crispLimit}
 use Rattle.model.specs.Block.{Point as BlockPoint}
 use Rattle.model.specs.WellFormed.{unitOk, pointOk, termOk, inputOk}
 use Rattle.model.specs.Image.{tab, pointAt, termAt, inputAt, decode}
+use Rattle.laws.proofs.Lists.{all-at}
+use Rattle.laws.proofs.Tests.{both, passed}
 use Rattle.terms.specs.declared.Point.{Point}
 use Rattle.terms.specs.Points.{PointOk, pointView, noPoint, pointViews, pointAt as point}
-use Rattle.words.proofs.Places.{both, passed, length-tab}
+use Rattle.laws.proofs.Places.{length-tab}
 use Rattle.layout.specs.Tables.{sums, inputCount, termCount}
 use Rattle.layout.specs.Groups.{Sound, tablesOk, variablesOk}
 use Rattle.layout.proofs.TableLaws.{Runs}
 use Rattle.layout.proofs.Parts.{inputFirst, inputFirsts-run}
 use Rattle.fuzzification.specs.Filled.{filled}
 use Rattle.fuzzification.proofs.Fill.{map-take}
-
-pub all-at : {A : Type 0} (g : A → Bool) (f : ℕ → A) (n s i : ℕ) → i < n → all g (tab f n s) ≡ true → g (f (s + i)) ≡ true
-unfolding all tab
-all-at g f zero s i h e = absurd (omega arith)
-all-at g f (suc n) s zero h e = let q : s + 0 ≡ s = omega arith in rw q (both (g (f s)) (all g (tab f n (suc s))) e .0)
-all-at g f (suc n) s (suc i) h e =
-    let q : s + suc i ≡ suc s + i = omega arith in
-    rw q (all-at g f n (suc s) i (omega arith) (both (g (f s)) (all g (tab f n (suc s))) e .1))
 
 runs-at : (f c : ℕ → ℕ) (k s p i : ℕ) → i < k → Runs f c k s p → f (s + i) ≡ p + sums c i s
 unfolding Runs sums

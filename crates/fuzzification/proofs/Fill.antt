@@ -6,7 +6,7 @@ use native.Mathlib.Omega.{arith}
 use lib.ListN.{length, take, drop, getD, set, replicate, length-replicate}
 use lib.Seq.{sets, sets-eq}
 use Rattle.model.specs.Image.{tab}
-use Rattle.layout.proofs.TableLaws.{tab-append}
+use Rattle.laws.proofs.Lists.{tab-append, sets-append}
 use Rattle.fuzzification.specs.Filled.{filled}
 
 pub tab-more : {A : Type 0} (f : ℕ → A) (n s : ℕ) → tab f (n + 1) s ≡ tab f n s ++ (f (s + n) ∷ [])
@@ -14,14 +14,6 @@ unfolding tab
 tab-more f n s = tab-append f n 1 s
 
 module _ {A : Type 0} where
-  pub sets-append : (l : List A) (p : ℕ) (xs ys : List A) → sets l p (xs ++ ys) ≡ sets (sets l p xs) (p + length xs) ys
-  sets-append l p [] ys =
-      let e : p ≡ p + 0 = omega arith in
-      ap (λ (k : ℕ). sets l k ys) e
-  sets-append l p (x ∷ xs) ys =
-      let e : suc p + length xs ≡ p + suc (length xs) = omega arith in
-      sets-append (set l p x) (suc p) xs ys ∙ ap (λ (k : ℕ). sets (sets (set l p x) (suc p) xs) k ys) e
-
   drop-replicate : (n k : ℕ) (a : A) → drop k (replicate n a) ≡ replicate (n - k) a
   drop-replicate zero zero a = refl
   drop-replicate zero (suc k) a =

@@ -22,7 +22,7 @@ use Rattle.model.specs.Image.{tab, inputAt, decode}
 use Rattle.model.specs.declared.Reading.{Reading}
 use Rattle.model.specs.declared.Taken.{Taken}
 use Rattle.model.specs.declared.Taken.the-variants.{Value, Absent as Missing, NotFinite, WrongKind}
-use Rattle.words.proofs.Places.{length-tab}
+use Rattle.laws.proofs.Places.{length-tab}
 
 pub length-values : (vs : List Input) (rs : List Reading) → length (valuesOf vs rs) ≡ length vs
 unfolding valuesOf

@@ -17,7 +17,7 @@ use Rattle.model.specs.Keywords.{ASSIGN, CLOSE, COMMA, END-FUZZIFY, TERM, NUMBE
 use Rattle.model.specs.Tokens.{valueOf, unitOf, sameName}
 use Rattle.model.specs.Parse.{Parse, Part, text, refuse, advance, change, judged, expect, repeated, listed, aName, aCrisp, aUnit, valueHere}
 use Rattle.model.specs.Declarations.{inputOf, isInput, isTerm, addTerm, addPoint, pointsOf, pointPosition, pointDegree, pointBody, point, endOfPoints, termName, inputTerm, fuzzifyOf, fuzzifyVariable}
-use Rattle.words.proofs.Places.{length-tab}
+use Rattle.laws.proofs.Places.{length-tab}
 use Rattle.lookup.specs.Names.{nameOf}
 use Rattle.cursor.specs.declared.Cursor.{Cursor}
 use Rattle.cursor.specs.View.{seen, textOf, Fits, Step, fault}

@@ -14,14 +14,11 @@ use Rattle.model.specs.Basic.{all}
 use Rattle.model.specs.Tokens.{inCrisp}
 use Rattle.model.specs.Image.{outputAt, tab}
 use Rattle.model.specs.Evaluation.{heldOf, heldOk}
-use Rattle.words.proofs.Places.{length-tab, map-replicate}
-use Rattle.layout.proofs.TableLaws.{map-tab}
+use Rattle.laws.proofs.Places.{length-tab, map-replicate}
 use Rattle.held.specs.Places.{fits, isZero}
 use Rattle.model.specs.declared.Crisp.{Crisp}
-
-pub bounds : (z : ℤ) → inCrisp z ≡ leZ (negsuc 999999999) z && leZ z (pos 1000000000)
-bounds (pos n) = refl
-bounds (negsuc n) = leb·suc-suc n 999999999 ∙ sym (and-true (leb n 999999999))
+use Rattle.laws.proofs.Tests.{and-assoc}
+use Rattle.laws.proofs.Lists.{map-tab}
 
 pub zero-below : (z : ℤ) → ltZ z (pos 0) ≡ true → eqb (natAbs z) 0 ≡ false
 zero-below (pos n) h = let l : n < 0 = ltb-true n 0 h in absurd (omega arith)
@@ -53,10 +50,6 @@ zeros-on was (suc k) i e =
     ap (λ (l : List Crisp). all (λ x. eqb (natAbs x) 0) (figures l)) (drop-cons was i (record { 0 = pos 0 }) (omega arith))
     ∙ ap (λ (b : Bool). isZero was i && b) (zeros-on was k (suc i) (omega arith))
 
-and-assoc : (a b c : Bool) → a && (b && c) ≡ (a && b) && c
-and-assoc true b c = refl
-and-assoc false b c = refl
-
 held-on : (w : ℕ → ℕ) (was : List Crisp) (k i m : ℕ) → i + k + m ≡ length was
     → heldOk (tab (outputAt w) k i) (figures (drop i was)) ≡ all (fits w was) (tab (λ j. j) k i) && all (isZero was) (tab (λ j. j) m (i + k))
 unfolding heldOk all tab fits
@@ -64,7 +57,7 @@ held-on w was zero i m e = zeros-on was m i (omega arith) ∙ ap (λ (j : ℕ). 
 held-on w was (suc k) i m e =
     ap (λ (l : List Crisp). heldOk (tab (outputAt w) (suc k) i) (figures l)) (drop-cons was i (record { 0 = pos 0 }) (omega arith))
     ∙ ap (λ (b : Bool). fits w was i && b) (held-on w was k (suc i) m (omega arith) ∙ ap (λ (j : ℕ). all (fits w was) (tab (λ x. x) k (suc i)) && all (isZero was) (tab (λ x. x) m j)) (omega arith))
-    ∙ and-assoc (fits w was i) (all (fits w was) (tab (λ x. x) k (suc i))) (all (isZero was) (tab (λ x. x) m (i + suc k)))
+    ∙ sym (and-assoc (fits w was i) (all (fits w was) (tab (λ x. x) k (suc i))) (all (isZero was) (tab (λ x. x) m (i + suc k))))
 
 pub held-tests : (w : ℕ → ℕ) (was : List Crisp) (n : ℕ) → length was ≡ 6 → n ≤ 6
     → heldOk (tab (outputAt w) n 0) (figures was) ≡ all (fits w was) (tab (λ j. j) n 0) && all (isZero was) (tab (λ j. j) (6 - n) n)

@@ -9,7 +9,7 @@ use lib.Seq.{take-suc-set, getD-set-same, getD-set-other}
 use borrow.Author.Tests.{eqb-true, eqb-false}
 use mathlib.Core.Bool.{Bool, true, false}
 use Rattle.model.specs.Image.{tab}
-use Rattle.words.proofs.Places.{tab-last}
+use Rattle.laws.proofs.Places.{tab-last}
 use Rattle.block_tables.proofs.Lists.{alike}
 use Rattle.layout.specs.Tables.{sums}
 use Rattle.image.specs.declared.Slots.{Slots}

@@ -14,12 +14,13 @@ use Rattle.model.specs.Bounds.{M}
 use Rattle.model.specs.Block as block
 use Rattle.model.specs.declared.InputType.the-variants.{Real as real, Int as int}
 use Rattle.model.specs.Image.{tab, singletonTerm, typeWord, rangeWords, defaultWords, nameWords, inputTable, outputTable, termTable, pointWords}
-use Rattle.words.proofs.Places.{length-tab, tab-ext}
+use Rattle.laws.proofs.Lists.{map-tab, gather-append}
+use Rattle.laws.proofs.Places.{length-tab, tab-ext}
 use Rattle.lookup.specs.Names.{nameOf}
 use Rattle.layout.specs.Rows.{laid}
 use Rattle.layout.specs.Tables.{inputRow, inputNext, outputRow, outputNext, termRow, termNext, alone, sums}
 use Rattle.layout.specs.Tables as layout
-use Rattle.layout.proofs.TableLaws.{input-table, output-table, term-table, gather-laid, gather-append, map-tab}
+use Rattle.layout.proofs.TableLaws.{input-table, output-table, term-table, gather-laid}
 use Rattle.block_tables.specs.declared.Output.{Output}
 use Rattle.block_tables.specs.declared.Tables.{Tables}
 use Rattle.block_tables.specs.View.{zero-crisp, no-input, no-output, rangeView, defaultView, pointView, termView, inputView, singletonView, outputView, inputsView, outputsView, Holds}

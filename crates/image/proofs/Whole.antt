@@ -23,12 +23,13 @@ use Rattle.block_tables.specs.declared.Tables.{Tables}
 use Rattle.block_tables.specs.declared.Heading.{Heading}
 use Rattle.block_tables.specs.View.{outputsView, inputView, outputView, wholeView, Holds, Headed}
 use Rattle.block_tables.specs.Stored.{Stored}
-use Rattle.words.proofs.Places.{length-tab}
+use Rattle.laws.proofs.Places.{length-tab}
 use Rattle.image.specs.declared.Counts.{Counts}
 use Rattle.image.specs.declared.Slots.{Slots}
 use Rattle.image.specs.Rows.{heldIn, variableRows, ruleRows, countList, headWords}
 use Rattle.image.proofs.Views.{Ordered, inputs-laid, outputs-laid, terms-laid, points-laid, first-output, terms-count, points-count}
-use Rattle.layout.proofs.Whole.{length-conditions, pair-code, accu-code, act-code}
+use Rattle.layout.proofs.Whole.{length-conditions}
+use Rattle.layout.proofs.Codes.{pair-code, accu-code, act-code}
 use Rattle.image.proofs.Kept.{length-pairs, words-count, conclusions-count, all-kept}
 
 -- HOW LONG the words of a block are

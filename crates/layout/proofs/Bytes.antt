@@ -10,28 +10,18 @@ use borrow.Author.Tests.{eq-eqb, eqb-true}
 use Rattle.model.specs.Basic.{same}
 use Rattle.model.specs.WellFormed.{wellFormed}
 use Rattle.model.specs.Image.{wordAt, bytesOf, words, image, decode, isImageOf}
-use Rattle.words.proofs.Places.{both, and-i, At, same-eq, same-refl}
-use Rattle.words.proofs.Bytes.{length-bytes, words-at, bytes-at}
+use Rattle.laws.proofs.Tests.{both, and-i, iff}
+use Rattle.laws.proofs.Places.{At, same-eq, same-refl}
+use Rattle.words.proofs.Bytes.{length-bytes, words-at, bytes-at, word-fits}
 use Rattle.layout.specs.Tables.{shapeOk}
 use Rattle.layout.proofs.Whole.{shape-in, shape-out}
-
--- two tests that pass together are one
-pub tests-equal : (a b : Bool) → (a ≡ true → b ≡ true) → (b ≡ true → a ≡ true) → a ≡ b
-tests-equal true b f g = sym (f refl)
-tests-equal false true f g = g refl
-tests-equal false false f g = refl
-
--- four bytes make a word of 32 bits
-pub word-fits : (img : List ℕ) → ((k : ℕ) → getD img k 0 < 256) → (i : ℕ) → wordAt img i ≤ 4294967295
-unfolding wordAt
-word-fits img f i = omega (arith, f (i * 4), f (i * 4 + 1), f (i * 4 + 2), f (i * 4 + 3))
 
 abbrev shaped : List ℕ → Bool
 shaped img = eqb (length img) (wordAt img 1 * 4) && shapeOk (wordAt img)
 
 pub same-image : (img : List ℕ) → ((k : ℕ) → getD img k 0 < 256) → same img (image (decode (wordAt img))) ≡ shaped img
 unfolding image
-same-image img f = tests-equal (same img (bytesOf ws)) (shaped img) to from
+same-image img f = iff (same img (bytesOf ws)) (shaped img) to from
   where
     ws : List ℕ
     ws = words (decode (wordAt img))

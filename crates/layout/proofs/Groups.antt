@@ -8,10 +8,10 @@ use lib.ListN.{length, getD}
 use Rattle.model.specs.Basic.{every}
 use Rattle.model.specs.WellFormed.{wellFormed}
 use Rattle.model.specs.Image.{wordAt, decode, isImageOf}
-use Rattle.words.proofs.Places.{both, and-i, passed, pass}
+use Rattle.laws.proofs.Tests.{both, and-i, passed, pass, iff}
 use Rattle.layout.specs.Tables.{shapeOk, countsOk}
 use Rattle.layout.specs.Groups.{tablesOk, variablesOk, rulesOk}
-use Rattle.layout.proofs.Bytes.{tests-equal, image-tests}
+use Rattle.layout.proofs.Bytes.{image-tests}
 
 abbrev pub grouped : List ℕ → List Bool
 grouped img = eqb (length img) (wordAt img 1 * 4) ∷ tablesOk (wordAt img) ∷ variablesOk (wordAt img) ∷ rulesOk (wordAt img) ∷ []
@@ -77,4 +77,4 @@ module _ (img : List ℕ) where
       )))
 
 pub groups : (img : List ℕ) → ((k : ℕ) → getD img k 0 < 256) → isImageOf img (decode (wordAt img)) ≡ every (grouped img)
-groups img f = image-tests img f ∙ tests-equal (whole img) (every (grouped img)) (to img) (from img)
+groups img f = image-tests img f ∙ iff (whole img) (every (grouped img)) (to img) (from img)

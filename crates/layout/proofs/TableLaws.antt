@@ -8,7 +8,8 @@ use lib.ListN.{length, length-append}
 use Rattle.model.specs.Basic.{same, gather, total}
 use Rattle.model.specs.Block.{Input, Output, Term, Rule, size}
 use Rattle.model.specs.Image.{nameWords, rangeWords, defaultWords, inputTable, outputTable, termTable, ruleTable, tab}
-use Rattle.words.proofs.Places.{both}
+use Rattle.laws.proofs.Lists.{tab-append}
+use Rattle.laws.proofs.Tests.{both}
 use Rattle.layout.specs.Rows.{laid, rowsOk}
 use Rattle.layout.specs.Tables.{inputRow, inputNext, outputRow, outputNext, termRow, termNext, ruleRow, ruleNext, alone, onward, sums}
 
@@ -38,28 +39,6 @@ pub gather-laid : {R : Type 0} (f : R → List ℕ) (rs : List R) → gather f r
 unfolding gather laid
 gather-laid f [] = refl
 gather-laid f (r ∷ rs) = ap (λ (l : List ℕ). f r ++ l) (gather-laid f rs)
-
--- LISTS OF VALUES
-pub tab-append : {A : Type 0} (g : ℕ → A) (m n p : ℕ) → tab g (m + n) p ≡ tab g m p ++ tab g n (p + m)
-unfolding tab
-tab-append g zero n p =
-    let e : 0 + n ≡ n = omega arith in
-    let f : p + 0 ≡ p = omega arith in
-    rw (e, f)
-tab-append {A} g (suc m) n p =
-    let e : suc m + n ≡ suc (m + n) = omega arith in
-    let f : p + suc m ≡ suc p + m = omega arith in
-    rw (e, f) (ap (λ (l : List A). g p ∷ l) (tab-append g m n (suc p)))
-
-pub map-tab : {A B : Type 0} (f : A → B) (g : ℕ → A) (n p : ℕ) → map f (tab g n p) ≡ tab (λ i. f (g i)) n p
-unfolding tab
-map-tab f g zero p = refl
-map-tab {B = B} f g (suc n) p = ap (λ (l : List B). f (g p) ∷ l) (map-tab f g n (suc p))
-
-pub gather-append : {A B : Type 0} (f : A → List B) (xs ys : List A) → gather f (xs ++ ys) ≡ gather f xs ++ gather f ys
-unfolding gather
-gather-append f [] ys = refl
-gather-append {B = B} f (x ∷ xs) ys = ap (λ (l : List B). f x ++ l) (gather-append f xs ys) ∙ sym (append-assoc (f x) (gather f xs) (gather f ys))
 
 -- P holds of k numbers from i on
 unfoldable pub Each : (ℕ → Type 0) → ℕ → ℕ → Type 0

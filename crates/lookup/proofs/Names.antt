@@ -23,7 +23,7 @@ other-length (x ∷ v) (y ∷ w) h = rw (other-length v w (λ e. h (ap suc e))) 
 module _ (s : List ℕ) (a e b f : ℕ) (he : e ≤ length s) (hf : f ≤ length s) where
   pub differ-long : (e - a ≡ f - b → ⊥) → sameName (slice a e s) (slice b f s) ≡ false
   unfolding sameName
-  differ-long h = other-length _ _ (λ q. h (sym (length-slice a e s he) ∙ q ∙ length-slice b f s hf))
+  differ-long h = other-length (slice a e s) (slice b f s) (λ q. h (sym (length-slice a e s he) ∙ q ∙ length-slice b f s hf))
 
   module _ (j : ℕ) (ha : a + j < e) (hb : b + j < f) where
     pub alike-more : getD s (a + j) 0 ≡ getD s (b + j) 0 → sameName (slice (a + j) e s) (slice (b + j) f s) ≡ sameName (slice (a + (j + 1)) e s) (slice (b + (j + 1)) f s)

@@ -21,7 +21,8 @@ bytesOf ws = gather wordBytes ws
 
 -- the i-th word of some bytes; a byte past the end counts as 0
 unfoldable pub wordAt : List ℕ → ℕ → ℕ
-wordAt s i = getD s (i * 4) 0 + getD s (i * 4 + 1) 0 * 256 + getD s (i * 4 + 2) 0 * 65536 + getD s (i * 4 + 3) 0 * 16777216
+wordAt s i =
+    getD s (i * 4) 0 + getD s (i * 4 + 1) 0 * 256 + getD s (i * 4 + 2) 0 * 65536 + getD s (i * 4 + 3) 0 * 16777216
 
 -- two's complement
 abbrev pub crispWord : ℤ → ℕ
@@ -95,7 +96,8 @@ unfoldable pub outputTable : ℕ → List Output → List ℕ
 outputTable n [] = []
 outputTable n (v ∷ vs) =
     nameWords (v .name)
-    ++ (n ∷ length (v .terms) ∷ (rangeWords (v .range) ++ (defaultWords (v .default) ++ outputTable (n + length (v .terms)) vs)))
+    ++ (n ∷ length (v .terms)
+    ∷ (rangeWords (v .range) ++ (defaultWords (v .default) ++ outputTable (n + length (v .terms)) vs)))
 
 -- n is the first point of the next term
 unfoldable pub termTable : ℕ → List Term → List ℕ
@@ -121,8 +123,29 @@ counts b =
     length (b .inputs) ∷ length (b .outputs) ∷ length (terms b) ∷ length (points b)
     ∷ length (b .rules) ∷ total (λ r. size (r .condition)) (b .rules) ∷ length (conclusions b) ∷ []
 
+abbrev pub inputWidth : ℕ
+inputWidth = 7
+
+abbrev pub outputWidth : ℕ
+outputWidth = 11
+
+abbrev pub termWidth : ℕ
+termWidth = 6
+
+abbrev pub pointWidth : ℕ
+pointWidth = 2
+
+abbrev pub ruleWidth : ℕ
+ruleWidth = 6
+
+abbrev pub wordWidth : ℕ
+wordWidth = 1
+
+abbrev pub conclusionWidth : ℕ
+conclusionWidth = 2
+
 abbrev pub widths : List ℕ
-widths = 7 ∷ 11 ∷ 6 ∷ 2 ∷ 6 ∷ 1 ∷ 2 ∷ []
+widths = inputWidth ∷ outputWidth ∷ termWidth ∷ pointWidth ∷ ruleWidth ∷ wordWidth ∷ conclusionWidth ∷ []
 
 -- where each table starts, from o on without gaps, and where the last one ends
 unfoldable pub offsets : ℕ → List ℕ → List ℕ → List ℕ
@@ -142,7 +165,8 @@ unfoldable pub header : Block → List ℕ
 header b =
     layoutWord b ∷ endOf headerSize (counts b) widths
     ∷ (counts b ++ (offsets headerSize (counts b) widths
-    ++ (pairWord (b .pair) ∷ accuWord (b .accu) ∷ actWord (b .act) ∷ 0 ∷ (nameWords (b .name) ++ nameWords (b .ruleBlock)))))
+    ++ (pairWord (b .pair) ∷ accuWord (b .accu) ∷ actWord (b .act) ∷ 0
+    ∷ (nameWords (b .name) ++ nameWords (b .ruleBlock)))))
 
 unfoldable pub words : Block → List ℕ
 words b =
@@ -164,6 +188,86 @@ unfoldable pub tab : {A : Type 0} → (ℕ → A) → ℕ → ℕ → List A
 tab f zero i = []
 tab f (suc n) i = f i ∷ tab f n (suc i)
 
+-- which word of the header holds what: the counts, the offsets of the tables, the algorithms, the two names
+abbrev pub INPUTS : ℕ
+INPUTS = 2
+
+abbrev pub OUTPUTS : ℕ
+OUTPUTS = 3
+
+abbrev pub TERMS : ℕ
+TERMS = 4
+
+abbrev pub POINTS : ℕ
+POINTS = 5
+
+abbrev pub RULES : ℕ
+RULES = 6
+
+abbrev pub WORDS : ℕ
+WORDS = 7
+
+abbrev pub CONCLUSIONS : ℕ
+CONCLUSIONS = 8
+
+abbrev pub INPUT-TABLE : ℕ
+INPUT-TABLE = 9
+
+abbrev pub OUTPUT-TABLE : ℕ
+OUTPUT-TABLE = 10
+
+abbrev pub TERM-TABLE : ℕ
+TERM-TABLE = 11
+
+abbrev pub POINT-TABLE : ℕ
+POINT-TABLE = 12
+
+abbrev pub RULE-TABLE : ℕ
+RULE-TABLE = 13
+
+abbrev pub WORD-TABLE : ℕ
+WORD-TABLE = 14
+
+abbrev pub CONCLUSION-TABLE : ℕ
+CONCLUSION-TABLE = 15
+
+abbrev pub PAIR-WORD : ℕ
+PAIR-WORD = 16
+
+abbrev pub ACCU-WORD : ℕ
+ACCU-WORD = 17
+
+abbrev pub ACT-WORD : ℕ
+ACT-WORD = 18
+
+abbrev pub BLOCK-NAME : ℕ
+BLOCK-NAME = 20
+
+abbrev pub RULE-BLOCK-NAME : ℕ
+RULE-BLOCK-NAME = 24
+
+-- where row i of each table starts
+abbrev pub inputPlace : (ℕ → ℕ) → ℕ → ℕ
+inputPlace w i = w INPUT-TABLE + i * inputWidth
+
+abbrev pub outputPlace : (ℕ → ℕ) → ℕ → ℕ
+outputPlace w i = w OUTPUT-TABLE + i * outputWidth
+
+abbrev pub termPlace : (ℕ → ℕ) → ℕ → ℕ
+termPlace w i = w TERM-TABLE + i * termWidth
+
+abbrev pub pointPlace : (ℕ → ℕ) → ℕ → ℕ
+pointPlace w i = w POINT-TABLE + i * pointWidth
+
+abbrev pub rulePlace : (ℕ → ℕ) → ℕ → ℕ
+rulePlace w i = w RULE-TABLE + i * ruleWidth
+
+abbrev pub wordPlace : (ℕ → ℕ) → ℕ → ℕ
+wordPlace w i = w WORD-TABLE + i
+
+abbrev pub conclusionPlace : (ℕ → ℕ) → ℕ → ℕ
+conclusionPlace w i = w CONCLUSION-TABLE + i * conclusionWidth
+
 -- the bytes before the first zero
 unfoldable pub nameAt : (ℕ → ℕ) → ℕ → List ℕ
 nameAt w o =
@@ -171,21 +275,21 @@ nameAt w o =
     take (run (λ c. not (eqb c 0)) s) s
 
 unfoldable pub pointAt : (ℕ → ℕ) → ℕ → Point
-pointAt w i = record { at = crispOf (w (w 12 + i * 2)); degree = w (w 12 + i * 2 + 1) }
+pointAt w i = record { at = crispOf (w (pointPlace w i)); degree = w (pointPlace w i + 1) }
 
 unfoldable pub termAt : (ℕ → ℕ) → ℕ → Term
 termAt w i =
-    let o : ℕ = w 11 + i * 6 in
+    let o : ℕ = termPlace w i in
     record { name = nameAt w o; points = tab (pointAt w) (w (o + 5)) (w (o + 4)) }
 
 unfoldable pub singletonAt : (ℕ → ℕ) → ℕ → Singleton
 singletonAt w i =
-    let o : ℕ = w 11 + i * 6 in
+    let o : ℕ = termPlace w i in
     record { name = nameAt w o; at = pointAt w (w (o + 4)) .at }
 
 unfoldable pub inputAt : (ℕ → ℕ) → ℕ → Input
 inputAt w i =
-    let o : ℕ = w 9 + i * 7 in
+    let o : ℕ = inputPlace w i in
     record {
       name = nameAt w o;
       type = if eqb (w (o + 4)) 0 then real else int;
@@ -194,11 +298,13 @@ inputAt w i =
 
 unfoldable pub outputAt : (ℕ → ℕ) → ℕ → Output
 outputAt w i =
-    let o : ℕ = w 10 + i * 11 in
+    let o : ℕ = outputPlace w i in
     record {
       name = nameAt w o;
       terms = tab (singletonAt w) (w (o + 5)) (w (o + 4));
-      range = if eqb (w (o + 6)) 0 then none else some (record { least = crispOf (w (o + 7)); most = crispOf (w (o + 8)) });
+      range =
+        if eqb (w (o + 6)) 0 then none
+        else some (record { least = crispOf (w (o + 7)); most = crispOf (w (o + 8)) });
       default = if eqb (w (o + 9)) 0 then none else some (crispOf (w (o + 10)));
     }
 
@@ -227,14 +333,14 @@ unfoldable pub treeOf : List ℕ → Condition
 treeOf ws = getD (trees ws []) 0 (term 0)
 
 unfoldable pub conclusionAt : (ℕ → ℕ) → ℕ → Conclusion
-conclusionAt w i = record { output = w (w 15 + i * 2); term = w (w 15 + i * 2 + 1) }
+conclusionAt w i = record { output = w (conclusionPlace w i); term = w (conclusionPlace w i + 1) }
 
 unfoldable pub ruleAt : (ℕ → ℕ) → ℕ → Rule
 ruleAt w i =
-    let o : ℕ = w 13 + i * 6 in
+    let o : ℕ = rulePlace w i in
     record {
       number = w o;
-      condition = treeOf (tab (λ k. w (w 14 + k)) (w (o + 2)) (w (o + 1)));
+      condition = treeOf (tab (λ k. w (wordPlace w k)) (w (o + 2)) (w (o + 1)));
       conclusions = tab (conclusionAt w) (w (o + 4)) (w (o + 3));
       weight = w (o + 5);
     }
@@ -250,14 +356,14 @@ actOf w = if eqb w 0 then by-min else by-prod
 
 unfoldable pub decode : (ℕ → ℕ) → Block
 decode w = record {
-  name = nameAt w 20;
-  inputs = tab (inputAt w) (w 2) 0;
-  outputs = tab (outputAt w) (w 3) 0;
-  ruleBlock = nameAt w 24;
-  pair = pairOf (w 16);
-  act = actOf (w 18);
-  accu = accuOf (w 17);
-  rules = tab (ruleAt w) (w 6) 0;
+  name = nameAt w BLOCK-NAME;
+  inputs = tab (inputAt w) (w INPUTS) 0;
+  outputs = tab (outputAt w) (w OUTPUTS) 0;
+  ruleBlock = nameAt w RULE-BLOCK-NAME;
+  pair = pairOf (w PAIR-WORD);
+  act = actOf (w ACT-WORD);
+  accu = accuOf (w ACCU-WORD);
+  rules = tab (ruleAt w) (w RULES) 0;
 }
 
 -- THE LOAD CHECK: the bytes are the image of the well-formed block that they stand for

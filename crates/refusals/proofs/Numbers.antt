@@ -18,6 +18,7 @@ use Rattle.model.specs.Parse.{Parse, Part, Checks, is, refuse, advance, change,
 use Rattle.model.specs.Declarations.{variable, inputType, inputDeclaration, outputDeclaration, pointPosition, pointDegree, pointBody, point, endOfPoints, termName, inputTerm, fuzzifyOf, fuzzifyVariable, fuzzify, lowerEnd, upperEnd, rangeBody, rangePart, figure, singletonBody, outputTerm, defaultValue, defuzzifyOf, defuzzifyVariable, defuzzify}
 use Rattle.model.specs.Rules.{ConditionRead, word, conditionTerm, termOrNot, subcondition, chainOn, chain, plain, operand, conditionWith, parenthesis, condition, andPair, orPair, algorithm, algorithmLine, algorithms, activation, activationLine, accumulation, ruleNumber, concludedTerm, conclusion, weight, weighted, ruleGiven, ruleFrom, rule, ruleBlock}
 use Rattle.model.specs.Reader.{endOfBlock, functionBlock, start}
+use Rattle.laws.proofs.Tests.{both}
 use Rattle.refusals.specs.Known.{Known}
 
 abbrev Keeps : Part → Type 0
@@ -56,10 +57,6 @@ keeps-change f r k = either (eqb (r .why) 0) (record { most = k .most; not-one =
 abbrev ranged : Checks → Bool
 ranged [] = true
 ranged ((ok, n) ∷ cs) = between 2 9 n && ranged cs
-
-both : (a b : Bool) → (a && b) ≡ true → (a ≡ true) × (b ≡ true)
-both true b e = (refl, e)
-both false b e = let z : _≡_ {A = ℕ} 0 1 = cc in absurd (omega arith)
 
 known-judged : (cs : Checks) {r next : Parse} → ranged cs ≡ true → Known r → Known next → Known (judged cs r next)
 unfolding judged

@@ -17,6 +17,8 @@ use Rattle.model.specs.Parse.{Parse, Part, kind, text, is, refuse, advance, cha
 use Rattle.model.specs.Tokens.{decimal, unitOf, isRuleNumber}
 use Rattle.model.specs.Declarations.{inputOf, outputOf, termOf, singletonOf, isOutput, isSingleton}
 use Rattle.model.specs.Rules.{ConditionRead, addRule, changeRule, ruleNumber, concludedTerm, conclusion, weight, weighted, condition, conditionWith, parenthesis, ruleGiven, ruleFrom, rule}
+use Rattle.laws.proofs.Conditions.{length-postfix}
+use Rattle.laws.proofs.Lists.{gather-append, gather-last, total-last}
 use Rattle.cursor.specs.declared.Cursor.{Cursor}
 use Rattle.cursor.specs.View.{seen, textOf, Fits, left, Step, fault}
 use Rattle.cursor.proofs.Laws.{enough, kind-seen, text-seen, block-seen, changed, unchanged, clash, judged-bad, judged-good, numbered, lost-is, lost-expect, lost-judged, lost-repeated}
@@ -29,28 +31,6 @@ use Rattle.condition_text.proofs.Laws.{adds, words-put}
 use Rattle.rule_text.specs.declared.Concluded.{Concluded}
 use Rattle.rule_text.specs.declared.Progress.{Progress}
 use Rattle.rule_text.specs.Progress.{Kept, Few, Rows, Concludes, Onward, Goes, Within, holding, midst, gives}
-
--- LISTS
-gather-append : {A B : Type 0} (f : A → List B) (xs ys : List A) → gather f (xs ++ ys) ≡ gather f xs ++ gather f ys
-unfolding gather
-gather-append f [] ys = refl
-gather-append {B = B} f (x ∷ xs) ys = ap (λ (l : List B). f x ++ l) (gather-append f xs ys) ∙ sym (append-assoc (f x) (gather f xs) (gather f ys))
-
--- one more at the end
-gather-last : {A B : Type 0} (f : A → List B) (xs : List A) (x : A) → gather f (xs ++ (x ∷ [])) ≡ gather f xs ++ f x
-unfolding gather
-gather-last {B = B} f xs x = gather-append f xs (x ∷ []) ∙ ap (λ (l : List B). gather f xs ++ l) (append-nil (f x))
-
-total-last : {A : Type 0} (f : A → ℕ) (xs : List A) (x : A) → total f (xs ++ (x ∷ [])) ≡ total f xs + f x
-unfolding total
-total-last f [] x = omega arith
-total-last f (y ∷ xs) x = let e = total-last f xs x in omega arith
-
-length-postfix : (c : Condition) → length (postfix c) ≡ size c
-unfolding postfix size
-length-postfix (term t) = refl
-length-postfix (neg c) = let e = length-postfix c in simp length-append (omega arith)
-length-postfix (two o a b) = let e = length-postfix a in let f = length-postfix b in simp length-append (omega arith)
 
 -- OTHER RULES: the names are declared as before
 pub describes : {s names symbols : List ℕ} {b : Block} (rs : List Rule) → Describes s names symbols b → Describes s names symbols (holding rs b)

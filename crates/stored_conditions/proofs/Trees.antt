@@ -28,10 +28,3 @@ trees-postfix (two o a b) rest st =
 pub tree-postfix : (c : Condition) → treeOf (postfix c) ≡ c
 unfolding treeOf trees
 tree-postfix c = let q = rw (append-nil (postfix c)) at (trees-postfix c [] []) in rw q refl
-
-pub length-postfix : (c : Condition) → length (postfix c) ≡ size c
-unfolding postfix size
-length-postfix (term t) = refl
-length-postfix (neg c) = omega (arith, length-append (postfix c) (0 ∷ []), length-postfix c)
-length-postfix (two o a b) =
-    omega (arith, length-append (postfix a) (postfix b ++ (opWord o ∷ [])), length-append (postfix b) (opWord o ∷ []), length-postfix a, length-postfix b)

@@ -8,8 +8,9 @@ use native.Mathlib.Nat.{suc-mul}
 use Rattle.model.specs.Basic.{distinct, same}
 use Rattle.model.specs.Tokens.{sameName}
 use Rattle.model.specs.Image.{tab, inputAt, outputAt, termAt, singletonAt}
+use Rattle.laws.proofs.Lists.{map-tab}
 use Rattle.stored_names.specs.Stored.{wordsIn, apart}
-use Rattle.stored_names.proofs.Tables.{nameIn, Stored, map-tab, distinct-names, joined-names}
+use Rattle.stored_names.proofs.Tables.{nameIn, Stored, distinct-names, joined-names}
 
 -- entries from the i-th on are a table of their own
 pub moved : {A : Type 0} (g : ℕ → A) (o s n i : ℕ) → tab (λ k. g (o + k * s)) n i ≡ tab (λ k. g (o + i * s + k * s)) n 0

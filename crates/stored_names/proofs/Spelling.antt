@@ -9,7 +9,7 @@ use lib.Dec.{leb, eqb}
 use lib.ListN.{length, take, getD}
 use Rattle.model.specs.Basic.{if_then_else_, between, all, run}
 use Rattle.model.specs.Tokens.{startsName, isNameByte, isUnderscore, starts, tidy}
-use Rattle.words.proofs.Places.{both, and-i}
+use Rattle.laws.proofs.Tests.{both, and-i}
 use Rattle.stored_names.specs.Steps.{step}
 
 -- the bytes before the first zero

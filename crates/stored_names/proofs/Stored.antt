@@ -12,18 +12,13 @@ use Rattle.model.specs.Bounds.{nameLimit}
 use Rattle.model.specs.Keywords.{keywords, keywordAt, isKeyword}
 use Rattle.model.specs.Tokens.{startsName, isNameByte, starts, tidy, isName, sameName}
 use Rattle.model.specs.Image.{wordAt, bytesOf, nameWords, tab, nameAt}
-use Rattle.words.proofs.Places.{both, same-eq, same-refl}
+use Rattle.laws.proofs.Tests.{both, iff}
+use Rattle.laws.proofs.Places.{same-eq, same-refl}
 use Rattle.words.proofs.Bytes.{words-at, length-bytes}
 use Rattle.stored_names.specs.Steps.{steps, spelt}
 use Rattle.stored_names.specs.Stored.{nameStored, absent, keywordWords}
 use Rattle.stored_names.proofs.Fours.{four}
 use Rattle.stored_names.proofs.Spelling.{before, padded, spelling, before-le, before-short, padded-in, padded-out}
-
--- two tests are equal where each passes when the other does
-iff : (a b : Bool) → (a ≡ true → b ≡ true) → (b ≡ true → a ≡ true) → a ≡ b
-iff true b f g = sym (f refl)
-iff false true f g = g refl
-iff false false f g = refl
 
 -- WORDS AND PADDING
 abbrev Agree : List ℕ → List ℕ → Type 0

@@ -9,6 +9,8 @@ use native.Mathlib.Nat.{mul-le-mul-left}
 use Rattle.model.specs.Basic.{all, distinct, same}
 use Rattle.model.specs.Tokens.{sameName}
 use Rattle.model.specs.Image.{tab, nameAt}
+use Rattle.laws.proofs.Lists.{all-append}
+use Rattle.laws.proofs.Tests.{and-assoc}
 use Rattle.stored_names.specs.Stored.{nameStored, wordsIn, absent, apart}
 use Rattle.stored_names.proofs.Stored.{same-names}
 
@@ -32,21 +34,6 @@ module _ {A : Type 0} (eq : A → A → Bool) (f : ℕ → A) (e i : ℕ) where
   pub distinct-end : e ≤ i → distinct eq (tab f (e - i) i) ≡ true
   unfolding distinct tab
   distinct-end h = let g : e - i ≡ 0 = omega arith in rw g
-
--- LISTS
-pub map-tab : {A B : Type 0} (g : A → B) (f : ℕ → A) (n i : ℕ) → map g (tab f n i) ≡ tab (λ k. g (f k)) n i
-unfolding tab
-map-tab g f zero i = refl
-map-tab {B = B} g f (suc n) i = ap {B = List B} (λ l. g (f i) ∷ l) (map-tab g f n (suc i))
-
-and-assoc : (a b c : Bool) → (a && b) && c ≡ a && (b && c)
-and-assoc true b c = refl
-and-assoc false b c = refl
-
-pub all-append : {A : Type 0} (g : A → Bool) (xs ys : List A) → all g (xs ++ ys) ≡ all g xs && all g ys
-unfolding all
-all-append g [] ys = refl
-all-append g (x ∷ xs) ys = ap (λ (b : Bool). g x && b) (all-append g xs ys) ∙ sym (and-assoc (g x) (all g xs) (all g ys))
 
 crossed : (a b c d e : Bool) → (a && b) && (c && (d && e)) ≡ (a && c) && ((b && d) && e)
 crossed true true true d e = refl

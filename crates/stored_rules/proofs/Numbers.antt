@@ -13,7 +13,7 @@ use lib.Seq.{getD-set-same, getD-set-other}
 use Rattle.model.specs.Basic.{all, distinct}
 use Rattle.model.specs.Bounds.{ruleNumberLimit}
 use Rattle.model.specs.Image.{tab}
-use Rattle.words.proofs.Places.{both, passed}
+use Rattle.laws.proofs.Tests.{both, passed}
 use Rattle.stored_rules.specs.Walk.{ruleNumber, ruleStored, rowStored, rulesWalk}
 use Rattle.stored_rules.proofs.Loops.{distinct-more, distinct-stop}
 

@@ -11,10 +11,12 @@ use Rattle.model.specs.Basic.{every, total}
 use Rattle.model.specs.Block.{Output, Singleton, inputTerms, outputFirst, singletonsOf}
 use Rattle.model.specs.WellFormed.{conclusionOk}
 use Rattle.model.specs.Image.{tab, termAt, singletonAt, outputAt, conclusionAt, decode}
-use Rattle.words.proofs.Places.{passed, length-tab}
+use Rattle.laws.proofs.Lists.{map-tab}
+use Rattle.laws.proofs.Tests.{passed}
+use Rattle.laws.proofs.Places.{length-tab}
 use Rattle.layout.specs.Tables.{outputRow, outputNext, outputCount, inputTermsIn, inputRows, outputRows}
 use Rattle.layout.specs.Groups.{tablesOk}
-use Rattle.layout.proofs.TableLaws.{Runs, runs-from, map-tab}
+use Rattle.layout.proofs.TableLaws.{Runs, runs-from}
 use Rattle.layout.proofs.Parts.{outputFirst as firstWord, output-row, inputTerms-are}
 use Rattle.layout.proofs.Whole.{outputs-count}
 

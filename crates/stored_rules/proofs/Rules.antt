@@ -12,16 +12,17 @@ use Rattle.model.specs.Bounds.{ruleLimit, wordLimit, conclusionLimit}
 use Rattle.model.specs.Block.{Rule, size}
 use Rattle.model.specs.WellFormed.{conditionOk, ruleOk}
 use Rattle.model.specs.Image.{tab, postfix, conclusionAt, ruleAt, decode}
-use Rattle.words.proofs.Places.{both, and-i, passed, pass, length-tab, same-eq}
+use Rattle.laws.proofs.Conditions.{length-postfix}
+use Rattle.laws.proofs.Lists.{map-tab}
+use Rattle.laws.proofs.Tests.{both, and-i, passed, pass, iff}
+use Rattle.laws.proofs.Places.{length-tab, same-eq}
 use Rattle.stored_conditions.specs.Stored.{isCondition, conditionStored}
 use Rattle.layout.specs.Rows.{rowsOk}
 use Rattle.layout.specs.Tables.{ruleRow, ruleNext, sums, wordCount, conclusionCount, inputTermsIn, wordsIn, conclusionsIn, ruleRows, conditionExact, conditionRows}
 use Rattle.layout.specs.Groups.{tablesOk, rulesOk}
 use Rattle.layout.proofs.RowLaws.{stood}
-use Rattle.layout.proofs.TableLaws.{map-tab}
 use Rattle.layout.proofs.Parts.{wordFirst, conclusionFirst, rule-words-row, rule-conclusions-row}
-use Rattle.layout.proofs.Whole.{length-postfix, rules-count, words-count, conclusions-count}
-use Rattle.layout.proofs.Bytes.{tests-equal}
+use Rattle.layout.proofs.Whole.{rules-count, words-count, conclusions-count}
 use Rattle.stored_rules.specs.Walk.{ruleNumber, ruleStored, rowStored, rulesWalk}
 use Rattle.stored_rules.proofs.Outputs.{input-terms}
 
@@ -207,4 +208,4 @@ module _ (w : ℕ → ℕ) where
         )
 
     pub rules-words : rulesOk w ≡ every (tests m)
-    rules-words = tests-equal (rulesOk w) (every (tests m)) to from
+    rules-words = iff (rulesOk w) (every (tests m)) to from

@@ -9,10 +9,10 @@ use lib.ListN.{length, take, getD}
 use borrow.Author.Tests.{eq-eqb, eqb-true}
 use Rattle.model.specs.Basic.{run, gather}
 use Rattle.model.specs.Image.{wordAt, wordBytes, bytesOf, nameWords, nameAt, tab}
+use Rattle.laws.proofs.Tests.{iff}
 use Rattle.words.proofs.Bytes.{words-at}
 use Rattle.layout.specs.Tables.{nameExact}
 use Rattle.layout.proofs.RowLaws.{stands, stood}
-use Rattle.layout.proofs.Bytes.{tests-equal}
 use Rattle.stored_tables.specs.Tests.{padStep, padRun}
 use Rattle.stored_tables.proofs.Lists.{clash}
 
@@ -130,7 +130,7 @@ module _ (w : ℕ → ℕ) (o : ℕ) where
       stood w o 4 (nameWords (trim bytes)) refl (sym (a 0 ∙ b .0), (sym (a 1 ∙ b .1 .0), (sym (a 2 ∙ b .1 .1 .0), (sym (a 3 ∙ b .1 .1 .1 .0), tt))))
 
   name-spelt : nameExact w o ≡ leb (padRun 0 bytes) 1
-  name-spelt = tests-equal (nameExact w o) (leb (padRun 0 bytes) 1) to from
+  name-spelt = iff (nameExact w o) (leb (padRun 0 bytes) 1) to from
 
   -- word by word
   pub name-tests : (x y z u a b c : ℕ) → x ≡ w o → y ≡ w (o + 1) → z ≡ w (o + 2) → u ≡ w (o + 3)

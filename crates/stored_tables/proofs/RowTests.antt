@@ -13,15 +13,12 @@ use Rattle.model.specs.Bounds.{M}
 use Rattle.model.specs.Block.{Range}
 use Rattle.model.specs.declared.InputType.the-variants.{Real, Int}
 use Rattle.model.specs.Image.{crispWord, crispOf, nameWords, nameAt, typeWord, rangeWords, defaultWords, pointWords, tab, pointAt, termAt, singletonAt, inputAt, outputAt}
-use Rattle.words.proofs.Places.{and-i, length-tab}
+use Rattle.laws.proofs.Lists.{tab-append}
+use Rattle.laws.proofs.Tests.{and-i, and-assoc}
+use Rattle.laws.proofs.Places.{length-tab}
 use Rattle.layout.specs.Tables.{inputRow, inputNext, outputRow, outputNext, termRow, termNext, outputTermAt, outputPointAt, inputCount, outputCount, termCount, nameExact}
-use Rattle.layout.proofs.TableLaws.{tab-append}
 use Rattle.layout.proofs.Whole.{word-crisp}
 use Rattle.stored_tables.specs.Tests.{rangeTest, defaultTest, inputTest, outputTest, termTest, outputTermTest}
-
-and-assoc : (a b c : Bool) → a && b && c ≡ a && (b && c)
-and-assoc true b c = refl
-and-assoc false b c = refl
 
 same-append : (xs ys us bs : List ℕ) → length xs ≡ length ys → same (xs ++ us) (ys ++ bs) ≡ same xs ys && same us bs
 same-append [] [] us bs e = refl

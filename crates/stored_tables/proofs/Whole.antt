@@ -6,10 +6,9 @@ use native.Mathlib.Omega.{arith}
 use lib.Dec.{eqb}
 use borrow.Author.Tests.{eq-eqb, ne-eqb}
 use Rattle.model.specs.Basic.{every}
-use Rattle.words.proofs.Places.{passed, pass}
+use Rattle.laws.proofs.Tests.{passed, pass, iff}
 use Rattle.layout.specs.Tables.{inputTermsIn, outputTermsIn, headerOk, inputRows, outputRows, inputTermRows, outputTermRows, outputPointRows}
 use Rattle.layout.specs.Groups.{tablesOk}
-use Rattle.layout.proofs.Bytes.{tests-equal}
 use Rattle.stored_tables.specs.Tests.{termTests}
 use Rattle.stored_tables.proofs.Lists.{clash}
 
@@ -36,7 +35,7 @@ pub frame-left : (w : ℕ → ℕ) (k n : ℕ) → k ≡ inputTermsIn w → n �
     → every (termTests w k n) ≡ tablesOk w
 unfolding tablesOk inputTermRows outputTermRows outputPointRows
 frame-left w k n ek en a b c d =
-    (λ j. every (termTests w (ek j) (en j))) ∙ tests-equal (every (termTests w (inputTermsIn w) (outputTermsIn w))) (tablesOk w) to from
+    (λ j. every (termTests w (ek j) (en j))) ∙ iff (every (termTests w (inputTermsIn w) (outputTermsIn w))) (tablesOk w) to from
   where
     to : every (termTests w (inputTermsIn w) (outputTermsIn w)) ≡ true → tablesOk w ≡ true
     to h = let t = passed _ h in pass _ (a, (b, (c, (t .0, (t .1 .1 .0, (t .1 .1 .1 .0, (d, (t .1 .0, tt))))))))

@@ -10,11 +10,11 @@ use borrow.Author.Tests.{ltb-true, ltb-false, leb-true, leb-false, lt-ltb, le-lt
 use Rattle.model.specs.Basic.{between}
 use Rattle.model.specs.Tokens.{inCrisp}
 use Rattle.model.specs.Image.{crispOf}
-use Rattle.layout.proofs.Bytes.{tests-equal}
+use Rattle.laws.proofs.Tests.{iff}
 use Rattle.stored_variables.specs.Stored.{bias}
 
 same-leb : (a b c d : ℕ) → (a ≤ b → c ≤ d) → (c ≤ d → a ≤ b) → leb a b ≡ leb c d
-same-leb a b c d f g = tests-equal (leb a b) (leb c d) (λ h. le-leb c d (f (leb-true a b h))) (λ h. le-leb a b (g (leb-true c d h)))
+same-leb a b c d f g = iff (leb a b) (leb c d) (λ h. le-leb c d (f (leb-true a b h))) (λ h. le-leb a b (g (leb-true c d h)))
 
 not-above : (a b : ℕ) → not (ltb b a) ≡ leb a b
 not-above a b = go (leb a b) refl

@@ -8,7 +8,8 @@ use lib.Dec.{eqb}
 use borrow.Author.Tests.{eqb-true, eqb-false}
 use Rattle.model.specs.Basic.{same}
 use Rattle.model.specs.Image.{nameWords, nameAt, tab, termAt, singletonAt, inputAt, outputAt}
-use Rattle.words.proofs.Places.{both, passed, at-cut}
+use Rattle.laws.proofs.Tests.{both, passed}
+use Rattle.laws.proofs.Places.{at-cut}
 use Rattle.layout.specs.Rows.{rowsOk}
 use Rattle.layout.specs.Tables.{inputRow, inputNext, outputRow, outputNext, termRow, termNext, sums, outputTermAt, inputCount, outputCount, inputTermsIn, outputTermsIn, inputPointsIn, inputRows, outputRows, inputTermRows, outputTermRows, nameExact, headerOk}
 use Rattle.layout.specs.Groups.{tablesOk}

@@ -9,9 +9,11 @@ use Rattle.model.specs.Bounds.{inputLimit, outputLimit, termLimit, pointLeast, 
 use Rattle.model.specs.Tokens.{isName, sameName}
 use Rattle.model.specs.WellFormed.{pointOk, rising, termOk, inputOk, rangeOk, figureOk, defaultOk, singletonOk, outputOk}
 use Rattle.model.specs.Image.{nameAt, tab, pointAt, termAt, singletonAt, inputAt, outputAt, decode}
-use Rattle.words.proofs.Places.{both, length-tab}
+use Rattle.laws.proofs.Lists.{map-tab}
+use Rattle.laws.proofs.Tests.{both}
+use Rattle.laws.proofs.Places.{length-tab}
 use Rattle.stored_names.specs.Stored.{nameStored}
-use Rattle.stored_names.proofs.Tables.{Stored, map-tab, nameIn, distinct-names, joined-names}
+use Rattle.stored_names.proofs.Tables.{Stored, nameIn, distinct-names, joined-names}
 use Rattle.layout.specs.Tables.{inputCount, outputCount, nameExact}
 use Rattle.layout.specs.Groups.{tablesOk, variablesOk}
 use Rattle.layout.proofs.Parts.{inputFirst, outputFirst}

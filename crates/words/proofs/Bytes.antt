@@ -1,12 +1,12 @@
 -- The words of an image against its bytes.
 use mathlib.Core.Path.{_≡_, refl, sym, _∙_}
 use mathlib.Core.List.{List, [], _∷_}
-use Prim.Native.Nat.{ℕ, suc, _+_, _*_, _/_, _%_, _<_}
+use Prim.Native.Nat.{ℕ, suc, _+_, _*_, _/_, _%_, _≤_, _<_}
 use native.Mathlib.Omega.{arith}
 use lib.ListN.{length, getD}
 use Rattle.model.specs.Basic.{gather}
 use Rattle.model.specs.Image.{wordAt, bytesOf}
-use Rattle.words.proofs.Places.{At}
+use Rattle.laws.proofs.Places.{At}
 
 pub length-bytes : (ws : List ℕ) → length (bytesOf ws) ≡ length ws * 4
 unfolding bytesOf gather
@@ -63,3 +63,8 @@ bytes-at (a ∷ b ∷ c ∷ d ∷ img) (x ∷ ws) f e h =
     let qd : d ≡ x / 16777216 = omega arith in
     let r = bytes-at img ws (λ k. f (suc (suc (suc (suc k))))) (omega arith) (at-pred _ _ 0 ws (word-next a b c d img) (h .1)) in
     λ j. qa j ∷ qb j ∷ qc j ∷ qd j ∷ r j
+
+-- four bytes make a word of 32 bits
+pub word-fits : (img : List ℕ) → ((k : ℕ) → getD img k 0 < 256) → (i : ℕ) → wordAt img i ≤ 4294967295
+unfolding wordAt
+word-fits img f i = omega (arith, f (i * 4), f (i * 4 + 1), f (i * 4 + 2), f (i * 4 + 3))

@@ -6,7 +6,7 @@ use borrow.Author.Tests.{lt-ltb, le-ltb}
 use lib.Dec.{ltb}
 use Rattle.model.specs.Basic.{all}
 use Rattle.model.specs.Image.{tab}
-use Rattle.words.proofs.Places.{all-more, all-stop, all-end}
+use Rattle.laws.proofs.Places.{all-more, all-stop, all-end}
 use Rattle.symbol_table.specs.Symbols.{first}
 use Rattle.block_text.specs.Block.{haveTerms}
 use Rattle.block_text.proofs.have_terms.Statement.{statement}

@@ -10,15 +10,15 @@ use Rattle.model.specs.Image.{wordAt, tab, singletonAt, outputAt}
 use Rattle.model.specs.Bounds.{M}
 use Rattle.model.specs.Evaluation.{sumOf}
 use Rattle.model.specs.declared.Mark.the-variants.{Fired}
+use Rattle.laws.proofs.Lists.{map-tab}
 use Rattle.crisp.specs.Crisp.{InCrisp}
 use Rattle.centre.specs.Centre.{positionAt, positions, heights, figureOf}
 use Rattle.layout.specs.Tables.{inputTermsIn, outputCount}
-use Rattle.layout.proofs.TableLaws.{map-tab}
 use Rattle.layout.proofs.Parts.{outputFirst}
 use Rattle.defuzzification.specs.Outputs.{heightOf}
 use Rattle.layout.proofs.Sound.{output-numbers, positions-crisp}
 use Rattle.defuzzification.proofs.Answers.{fired-is, unfired-is}
-use Rattle.words.proofs.Places.{element, tab-ext}
+use Rattle.laws.proofs.Places.{element, tab-ext}
 use Rattle.defuzzification.proofs.answer.Statement.{statement}
 use Rattle.defuzzification.proofs.answer.Tie as tie
 use Rattle.defuzzification.proofs.answer.Reads as reads

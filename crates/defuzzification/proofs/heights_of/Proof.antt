@@ -5,7 +5,7 @@ use native.Mathlib.Omega.{arith}
 use lib.ListN.{length, getD, length-set}
 use Rattle.model.specs.Image.{tab}
 use Rattle.centre.specs.Centre.{heights}
-use Rattle.words.proofs.Places.{fill}
+use Rattle.laws.proofs.Places.{fill}
 use Rattle.defuzzification.specs.Outputs.{heightOf}
 use Rattle.defuzzification.proofs.heights_of.Statement.{statement}
 use Rattle.defuzzification.proofs.heights_of.Tie as tie

@@ -12,7 +12,7 @@ use Rattle.model.specs.declared.Crisp.{Crisp}
 use Rattle.defuzzification.specs.Outputs.{heightOf, answersBy}
 use Rattle.layout.proofs.Sound.{outputs-few}
 use Rattle.defuzzification.proofs.Answers.{answerAt, answers-are, padded-is, held-is}
-use Rattle.words.proofs.Places.{fill-front}
+use Rattle.laws.proofs.Places.{fill-front}
 use Rattle.defuzzification.proofs.outputs.Statement.{statement}
 use Rattle.defuzzification.proofs.outputs.Tie as tie
 use Rattle.defuzzification.proofs.outputs.Reads as reads

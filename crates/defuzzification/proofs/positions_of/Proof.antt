@@ -4,9 +4,9 @@ use Prim.Native.Nat.{_-_, _≤_, _<_}
 use native.Mathlib.Omega.{arith}
 use lib.ListN.{length, length-set}
 use Rattle.model.specs.Image.{wordAt, tab, singletonAt}
+use Rattle.laws.proofs.Lists.{map-tab}
 use Rattle.centre.specs.Centre.{positions}
-use Rattle.words.proofs.Places.{fill}
-use Rattle.layout.proofs.TableLaws.{map-tab}
+use Rattle.laws.proofs.Places.{fill}
 use Rattle.defuzzification.proofs.positions_of.Statement.{statement}
 use Rattle.defuzzification.proofs.positions_of.Tie as tie
 use Rattle.defuzzification.proofs.positions_of.Reads as reads

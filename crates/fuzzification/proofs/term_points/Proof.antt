@@ -8,7 +8,7 @@ use lib.Seq.{sets}
 use Rattle.model.specs.Block.{Point}
 use Rattle.model.specs.Image.{wordAt, tab, pointAt}
 use Rattle.terms.specs.Points.{pointView, noPoint}
-use Rattle.words.proofs.Places.{length-tab}
+use Rattle.laws.proofs.Places.{length-tab}
 use Rattle.fuzzification.specs.Filled.{filled}
 use Rattle.fuzzification.proofs.Fill.{tab-more, one-more, filled-sets}
 use Rattle.fuzzification.proofs.term_points.Statement.{statement}

@@ -10,9 +10,9 @@ use Rattle.model.specs.declared.Degree.{Degree}
 use Rattle.model.specs.Degrees.{termDegree}
 use Rattle.model.specs.Image.{wordAt, tab, termAt}
 use Rattle.model.specs.WellFormed.{termOk}
+use Rattle.laws.proofs.Lists.{all-at}
 use Rattle.degrees.specs.Tables.{numbers, Low}
 use Rattle.fuzzification.proofs.Fill.{map-set, one-more, each-set}
-use Rattle.fuzzification.proofs.Entries.{all-at}
 use Rattle.fuzzification.proofs.Degrees.{degreesAt, length-at, term-more}
 use Rattle.fuzzification.proofs.with_terms.Statement.{statement}
 use Rattle.fuzzification.proofs.with_terms.Tie as tie

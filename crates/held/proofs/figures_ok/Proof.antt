@@ -7,7 +7,7 @@ use borrow.Author.Tests.{not-true, not-false}
 use Rattle.model.specs.Basic.{all}
 use Rattle.model.specs.Block.{inRange}
 use Rattle.model.specs.Image.{wordAt, outputAt, tab}
-use Rattle.words.proofs.Places.{all-more, all-stop, all-end}
+use Rattle.laws.proofs.Places.{all-more, all-stop, all-end}
 use Rattle.held.specs.Places.{figureAt, fits}
 use Rattle.held.proofs.figures_ok.Statement.{statement}
 use Rattle.held.proofs.figures_ok.Tie as tie

@@ -8,8 +8,8 @@ use lib.ListN.{set, replicate}
 use Rattle.model.specs.Image.{wordAt, tab, outputAt, decode}
 use Rattle.model.specs.Evaluation.{startOf, heldOf, freshOf}
 use Rattle.model.specs.declared.Crisp.{Crisp}
-use Rattle.words.proofs.Places.{fill-front}
-use Rattle.layout.proofs.TableLaws.{map-tab}
+use Rattle.laws.proofs.Lists.{map-tab}
+use Rattle.laws.proofs.Places.{fill-front}
 use Rattle.layout.proofs.Sound.{outputs-few}
 use Rattle.held.proofs.Laws.{held-tab}
 use Rattle.held.proofs.fresh_record.Statement.{statement}

@@ -3,7 +3,7 @@ use mathlib.Core.Path.{sym, ap, _∙_}
 use mathlib.Core.Bool.{Bool, _&&_}
 use lib.IntN.{pos}
 use lib.Signed.{leZ}
-use Rattle.held.proofs.Laws.{bounds}
+use Rattle.crisp.proofs.Laws.{bounds}
 use Rattle.held.proofs.in_bounds.Statement.{statement}
 use Rattle.held.proofs.in_bounds.Tie as tie
 use Rattle.held.proofs.in_bounds.Reads as reads

@@ -7,7 +7,7 @@ use mathlib.Core.Bool.{not}
 use mathlib.Core.List.{[], _∷_}
 use mathlib.Core.Path.{_≡_, refl, sym, ap, _∙_}
 use native.Mathlib.Omega.{arith}
-use Rattle.words.proofs.Places.{all-more, all-stop, all-end}
+use Rattle.laws.proofs.Places.{all-more, all-stop, all-end}
 use Rattle.stored_names.proofs.absent_in.Statement.{statement}
 use Rattle.stored_names.proofs.absent_in.Tie as tie
 use Rattle.stored_names.proofs.absent_in.Reads as reads

@@ -7,7 +7,7 @@ use Prim.Native.Nat.{_-_, _≤_}
 use mathlib.Core.Bool.{not}
 use mathlib.Core.Path.{_≡_, refl, sym, ap, _∙_}
 use native.Mathlib.Omega.{arith}
-use Rattle.words.proofs.Places.{all-more, all-stop, all-end}
+use Rattle.laws.proofs.Places.{all-more, all-stop, all-end}
 use Rattle.stored_names.proofs.absent_ok.Statement.{statement}
 use Rattle.stored_names.proofs.absent_ok.Tie as tie
 use Rattle.stored_names.proofs.absent_ok.Reads as reads

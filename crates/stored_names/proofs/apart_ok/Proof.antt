@@ -1,7 +1,7 @@
 use borrow.Author.Needs.{needs}
 use Rattle.stored_names.proofs.Tables.{entry}
 use Rattle.model.specs.Basic.{same}
-use Rattle.words.proofs.Places.{all-more, all-stop, all-end}
+use Rattle.laws.proofs.Places.{all-more, all-stop, all-end}
 use Rattle.model.specs.Image.{wordAt, tab}
 use Rattle.stored_names.specs.Stored.{absent, apart, wordsIn}
 use Prim.Native.Nat.{_-_, _≤_}

@@ -6,7 +6,7 @@ use native.Mathlib.Omega.{arith}
 use Rattle.model.specs.Basic.{all}
 use Rattle.model.specs.WellFormed.{conclusionOk}
 use Rattle.model.specs.Image.{wordAt, tab, conclusionAt, decode}
-use Rattle.words.proofs.Places.{all-more, all-stop, all-end, all-start}
+use Rattle.laws.proofs.Places.{all-more, all-stop, all-end, all-start}
 use Rattle.stored_rules.proofs.conclusions_ok.Statement.{statement}
 use Rattle.stored_rules.proofs.conclusions_ok.Tie as tie
 use Rattle.stored_rules.proofs.conclusions_ok.Reads as reads

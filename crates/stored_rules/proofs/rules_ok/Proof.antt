@@ -1,10 +1,10 @@
 use borrow.Author.Needs.{needs}
 use lib.Dec.{leb}
-use Rattle.words.proofs.Places.{both}
 use borrow.Author.Tests.{le-leb, lt-leb, leb-true, not-true, not-false}
 use mathlib.Core.Path.{sym, _∙_}
 use Rattle.model.specs.Basic.{every}
 use Rattle.model.specs.Image.{wordAt}
+use Rattle.laws.proofs.Tests.{both}
 use mathlib.Core.Bool.{and-true}
 use Rattle.stored_rules.proofs.Numbers.{walk-numbers}
 use Rattle.stored_rules.proofs.Rules.{rules-words}

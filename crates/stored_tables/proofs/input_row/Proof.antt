@@ -1,11 +1,11 @@
 use mathlib.Core.Path.{sym, _∙_}
 use borrow.Author.Tests.{not-true, not-false}
-use Rattle.words.proofs.Places.{pass}
 use Rattle.stored_tables.proofs.Lists.{fails, equal, differs, within, over}
 use Rattle.stored_tables.specs.Tests.{inputTest}
 use borrow.Author.Needs.{needs}
 use Rattle.stored_tables.proofs.input_row.Statement.{statement}
 use Rattle.stored_tables.proofs.input_row.Tie as tie
+use Rattle.laws.proofs.Tests.{pass}
 
 name-exact-requires : tie.Need-name-exact-requires
 name-exact-requires c κs = search needs

@@ -1,10 +1,10 @@
 use mathlib.Core.Path.{sym, _∙_}
 use borrow.Author.Tests.{not-true, not-false}
-use Rattle.words.proofs.Places.{pass}
 use Rattle.stored_tables.proofs.Lists.{fails, equal, differs}
 use borrow.Author.Needs.{needs}
 use Rattle.stored_tables.proofs.offsets_ok.Statement.{statement}
 use Rattle.stored_tables.proofs.offsets_ok.Tie as tie
+use Rattle.laws.proofs.Tests.{pass}
 
 word-requires : tie.Need-word-requires
 word-requires c κs = search needs

@@ -4,7 +4,7 @@ use Prim.Native.Nat.{ℕ, _+_, _*_, _-_, _≤_}
 use native.Mathlib.Omega.{arith}
 use Rattle.model.specs.Image.{wordAt, pointWords}
 use Rattle.layout.specs.Tables.{alone, onward, outputPointAt}
-use Rattle.layout.proofs.Bytes.{word-fits}
+use Rattle.words.proofs.Bytes.{word-fits}
 use Rattle.stored_tables.specs.Tests.{outputPointsFrom}
 use Rattle.stored_tables.proofs.Lists.{equal, differs}
 use Rattle.stored_tables.proofs.RowTests.{point-row}

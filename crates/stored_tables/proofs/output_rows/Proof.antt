@@ -5,7 +5,7 @@ use Prim.Native.Nat.{ℕ, _+_, _*_, _-_, _≤_}
 use native.Mathlib.Omega.{arith}
 use Rattle.model.specs.Image.{wordAt, outputAt}
 use Rattle.layout.specs.Tables.{outputCount, outputNext, outputRow, outputTermsIn}
-use Rattle.layout.proofs.Bytes.{word-fits}
+use Rattle.words.proofs.Bytes.{word-fits}
 use Rattle.stored_tables.specs.Tests.{outputTest, outputRowsFrom}
 use Rattle.stored_tables.proofs.Lists.{clash}
 use Rattle.stored_tables.proofs.RowTests.{output-row, output-next}

@@ -3,7 +3,7 @@ use mathlib.Core.Path.{refl, sym, _∙_}
 use Prim.Native.Nat.{ℕ, _+_}
 use lib.Dec.{eqb}
 use Rattle.model.specs.Image.{wordAt}
-use Rattle.words.proofs.Places.{pass}
+use Rattle.laws.proofs.Tests.{pass}
 use Rattle.stored_tables.specs.Tests.{outputTermRowsFrom, outputPointsFrom}
 use Rattle.stored_tables.proofs.Lists.{fails, equal, differs}
 use Rattle.stored_tables.proofs.Loops.{seen}

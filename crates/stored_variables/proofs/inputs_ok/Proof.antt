@@ -6,7 +6,7 @@ use borrow.Author.Tests.{not-true, not-false}
 use native.Mathlib.Nat.{sub-zero}
 use Rattle.model.specs.Basic.{all}
 use Rattle.model.specs.Image.{wordAt, tab}
-use Rattle.words.proofs.Places.{all-more, all-stop, all-end}
+use Rattle.laws.proofs.Places.{all-more, all-stop, all-end}
 use Rattle.stored_variables.specs.Stored.{inputStored}
 use Rattle.stored_variables.proofs.inputs_ok.Statement.{statement}
 use Rattle.stored_variables.proofs.inputs_ok.Tie as tie

@@ -5,7 +5,7 @@ use native.Mathlib.Omega.{arith}
 use borrow.Author.Tests.{not-true, not-false}
 use Rattle.model.specs.Basic.{all}
 use Rattle.model.specs.Image.{wordAt, tab, pointAt}
-use Rattle.words.proofs.Places.{all-more, all-stop, all-end, all-start}
+use Rattle.laws.proofs.Places.{all-more, all-stop, all-end, all-start}
 use Rattle.model.specs.WellFormed.{pointOk}
 use Rattle.stored_variables.proofs.points_ok.Statement.{statement}
 use Rattle.stored_variables.proofs.points_ok.Tie as tie

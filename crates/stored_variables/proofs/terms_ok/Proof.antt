@@ -5,7 +5,7 @@ use native.Mathlib.Omega.{arith}
 use borrow.Author.Tests.{not-true, not-false}
 use Rattle.model.specs.Basic.{all}
 use Rattle.model.specs.Image.{wordAt, tab}
-use Rattle.words.proofs.Places.{all-more, all-stop, all-end, all-start}
+use Rattle.laws.proofs.Places.{all-more, all-stop, all-end, all-start}
 use Rattle.stored_variables.specs.Stored.{termStored}
 use Rattle.stored_variables.proofs.terms_ok.Statement.{statement}
 use Rattle.stored_variables.proofs.terms_ok.Tie as tie

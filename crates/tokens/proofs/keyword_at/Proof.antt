@@ -8,7 +8,7 @@ use Rattle.tokens.proofs.keyword_at.Statement.{statement}
 use Rattle.tokens.proofs.keyword_at.Tie as tie
 
 returns : tie.Need-returns
-returns c = (sym (keyword-long _ (c .if1 .taken)), search needs)
+returns c = (sym (keyword-long (c .before .before .args .w .now) (c .if1 .taken)), search needs)
 
 row-of-requires : tie.Need-row-of-requires
 row-of-requires c κs = search needs

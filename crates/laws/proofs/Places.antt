@@ -11,28 +11,7 @@ use lib.Seq.{take-suc-set, getD-take, set-at, append-snoc}
 use borrow.Author.Tests.{eq-eqb, eqb-true}
 use Rattle.model.specs.Basic.{every, all, same}
 use Rattle.model.specs.Image.{tab}
-
-pub both : (a b : Bool) → a && b ≡ true → (a ≡ true) × (b ≡ true)
-both true b h = (refl, h)
-both false b h = let z : _≡_ {A = ℕ} 0 1 = cc in absurd (omega arith)
-
-pub and-i : (a b : Bool) → a ≡ true → b ≡ true → a && b ≡ true
-and-i a b p q = rw (p, q)
-
--- tests one by one
-abbrev pub Every : List Bool → Type 0
-Every [] = Unit {0}
-Every (b ∷ bs) = (b ≡ true) × Every bs
-
-pub passed : (bs : List Bool) → every bs ≡ true → Every bs
-unfolding every
-passed [] h = tt
-passed (b ∷ bs) h = let c = both b (every bs) h in (c .0, passed bs (c .1))
-
-pub pass : (bs : List Bool) → Every bs → every bs ≡ true
-unfolding every
-pass [] h = refl
-pass (b ∷ bs) h = and-i b (every bs) (h .0) (pass bs (h .1))
+use Rattle.laws.proofs.Tests.{both, and-i, Every}
 
 -- the list xs stands in f from o on
 abbrev pub At : {A : Type 0} → (ℕ → A) → ℕ → List A → Type 0
@@ -68,6 +47,12 @@ module _ {A : Type 0} (f : ℕ → A) where
   unfolding tab
   tab-at i [] h = refl
   tab-at i (x ∷ xs) h = λ j. h .0 j ∷ tab-at (suc i) xs (h .1) j
+
+-- one element of a list that stands in f
+pub at-nth : {A : Type 0} (f : ℕ → A) (o : ℕ) (xs : List A) (k : ℕ) (d : A) → k < length xs → At f o xs → f (o + k) ≡ getD xs k d
+at-nth f o [] k d h a = absurd (omega arith)
+at-nth f o (x ∷ xs) zero d h a = ap f (omega arith) ∙ a .0
+at-nth f o (x ∷ xs) (suc k) d h a = ap f (omega arith) ∙ at-nth f (suc o) xs k d (omega arith) (a .1)
 
 -- two lists that `same` finds equal are equal
 pub same-eq : (xs ys : List ℕ) → same xs ys ≡ true → xs ≡ ys
@@ -155,6 +140,16 @@ tab-ext f g (suc n) p q e =
     let z = e 0 (omega arith) in
     let r = tab-ext f g n (suc p) (suc q) (λ k h. ap f (omega arith) ∙ e (suc k) (omega arith) ∙ ap g (omega arith)) in
     λ j. (ap f (sym a) ∙ z ∙ ap g b) j ∷ r j
+
+-- places counted from o on
+pub tab-from : {A : Type 0} (f : ℕ → A) (o n i : ℕ) → tab (λ k. f (o + k)) n i ≡ tab f n (o + i)
+tab-from f o n i = tab-ext (λ k. f (o + k)) f n i (o + i) (λ k h. ap f (omega arith))
+
+pub take-tab : {A : Type 0} (f : ℕ → A) (n i p : ℕ) → i ≤ n → take i (tab f n p) ≡ tab f i p
+unfolding tab
+take-tab f n zero p h = refl
+take-tab f zero (suc i) p h = absurd (omega arith)
+take-tab {A} f (suc n) (suc i) p h = ap (λ (l : List A). f p ∷ l) (take-tab f n i (suc p) (omega arith))
 
 -- an element of an array whose first n are values of f
 pub element : {A B : Type 0} (π : A → B) (xs : List A) (f : ℕ → B) (n p k : ℕ) (d : A) → map π (take n xs) ≡ tab f n p → k < n → π (getD xs k d) ≡ f (p + k)

@@ -1,0 +1,175 @@
+// The header of a stored image, read once, and the rows of its tables by name.
+ghost use mathlib.Core.Path.{_≡_};
+ghost use Prim.Native.Nat.{ℕ, _≤_};
+ghost use Rattle.model.specs.Block.{Block};
+ghost use Rattle.model.specs.Image.{wordAt, layoutWord, inputPlace, outputPlace, termPlace, pointPlace, rulePlace, conclusionPlace};
+ghost use Rattle.header.specs.Header.{Heads};
+use words::word;
+
+// How many rows each table has, and where it starts, in words.
+pub struct Header {
+    pub inputs: usize,
+    pub outputs: usize,
+    pub terms: usize,
+    pub points: usize,
+    pub rules: usize,
+    pub words: usize,
+    pub conclusions: usize,
+    pub input_table: usize,
+    pub output_table: usize,
+    pub term_table: usize,
+    pub point_table: usize,
+    pub rule_table: usize,
+    pub word_table: usize,
+    pub conclusion_table: usize,
+}
+
+// The words of the header that are not in the struct.
+pub const LAYOUT: usize = 0;
+
+pub const TOTAL: usize = 1;
+
+pub const PAIR: usize = 16;
+
+pub const ACCU: usize = 17;
+
+pub const ACT: usize = 18;
+
+pub const SPARE: usize = 19;
+
+pub const BLOCK_NAME: usize = 20;
+
+pub const RULE_BLOCK_NAME: usize = 24;
+
+pub const SIZE: usize = 28;
+
+// Words of a row.
+pub const INPUT_WIDTH: usize = 7;
+
+pub const OUTPUT_WIDTH: usize = 11;
+
+pub const TERM_WIDTH: usize = 6;
+
+pub const POINT_WIDTH: usize = 2;
+
+pub const RULE_WIDTH: usize = 6;
+
+pub const WORD_WIDTH: usize = 1;
+
+pub const CONCLUSION_WIDTH: usize = 2;
+
+// Where a field stands in its row; a name stands first.
+pub const INPUT_TYPE: usize = 4;
+
+pub const INPUT_FIRST: usize = 5;
+
+pub const INPUT_TERMS: usize = 6;
+
+pub const OUTPUT_FIRST: usize = 4;
+
+pub const OUTPUT_TERMS: usize = 5;
+
+pub const OUTPUT_RANGE: usize = 6;
+
+pub const OUTPUT_LEAST: usize = 7;
+
+pub const OUTPUT_MOST: usize = 8;
+
+pub const OUTPUT_DEFAULT_KIND: usize = 9;
+
+pub const OUTPUT_DEFAULT: usize = 10;
+
+pub const TERM_FIRST: usize = 4;
+
+pub const TERM_POINTS: usize = 5;
+
+pub const POINT_DEGREE: usize = 1;
+
+pub const RULE_WORD_FIRST: usize = 1;
+
+pub const RULE_WORDS: usize = 2;
+
+pub const RULE_CONCLUSION_FIRST: usize = 3;
+
+pub const RULE_CONCLUSIONS: usize = 4;
+
+pub const RULE_WEIGHT: usize = 5;
+
+pub const CONCLUSION_TERM: usize = 1;
+
+// The layout that reader and load check agree on.
+pub fn layout_word() -> usize
+    ensures { λ r. ⌜ ((b : Block) → r ≡ layoutWord b) ⌝ }
+{
+    1
+}
+
+pub fn header_of(img: &[u8]) -> Header
+    ensures { λ r. ⌜ Heads (wordAt (now (img .entry))) r ⌝ }
+{
+    Header {
+        inputs: word(img, 2),
+        outputs: word(img, 3),
+        terms: word(img, 4),
+        points: word(img, 5),
+        rules: word(img, 6),
+        words: word(img, 7),
+        conclusions: word(img, 8),
+        input_table: word(img, 9),
+        output_table: word(img, 10),
+        term_table: word(img, 11),
+        point_table: word(img, 12),
+        rule_table: word(img, 13),
+        word_table: word(img, 14),
+        conclusion_table: word(img, 15),
+    }
+}
+
+// Where row i of a table starts.
+pub fn input_row(h: Header, i: usize) -> usize
+    requires { ⌜ (h .«input_table» ≤ 4294967295) × (i ≤ 10000000000) ⌝ }
+    ensures { λ r. ⌜ ((w : ℕ → ℕ) → Heads w h → r ≡ inputPlace w i) ⌝ }
+    ensures small { λ r. ⌜ r ≤ 200000000000 ⌝ }
+{
+    h.input_table + i * INPUT_WIDTH
+}
+
+pub fn output_row(h: Header, i: usize) -> usize
+    requires { ⌜ (h .«output_table» ≤ 4294967295) × (i ≤ 10000000000) ⌝ }
+    ensures { λ r. ⌜ ((w : ℕ → ℕ) → Heads w h → r ≡ outputPlace w i) ⌝ }
+    ensures small { λ r. ⌜ r ≤ 200000000000 ⌝ }
+{
+    h.output_table + i * OUTPUT_WIDTH
+}
+
+pub fn term_row(h: Header, i: usize) -> usize
+    requires { ⌜ (h .«term_table» ≤ 4294967295) × (i ≤ 10000000000) ⌝ }
+    ensures { λ r. ⌜ ((w : ℕ → ℕ) → Heads w h → r ≡ termPlace w i) ⌝ }
+    ensures small { λ r. ⌜ r ≤ 200000000000 ⌝ }
+{
+    h.term_table + i * TERM_WIDTH
+}
+
+pub fn point_row(h: Header, i: usize) -> usize
+    requires { ⌜ (h .«point_table» ≤ 4294967295) × (i ≤ 10000000000) ⌝ }
+    ensures { λ r. ⌜ ((w : ℕ → ℕ) → Heads w h → r ≡ pointPlace w i) ⌝ }
+    ensures small { λ r. ⌜ r ≤ 200000000000 ⌝ }
+{
+    h.point_table + i * POINT_WIDTH
+}
+
+pub fn rule_row(h: Header, i: usize) -> usize
+    requires { ⌜ (h .«rule_table» ≤ 4294967295) × (i ≤ 10000000000) ⌝ }
+    ensures { λ r. ⌜ ((w : ℕ → ℕ) → Heads w h → r ≡ rulePlace w i) ⌝ }
+    ensures small { λ r. ⌜ r ≤ 200000000000 ⌝ }
+{
+    h.rule_table + i * RULE_WIDTH
+}
+
+pub fn conclusion_row(h: Header, i: usize) -> usize
+    requires { ⌜ (h .«conclusion_table» ≤ 4294967295) × (i ≤ 10000000000) ⌝ }
+    ensures { λ r. ⌜ ((w : ℕ → ℕ) → Heads w h → r ≡ conclusionPlace w i) ⌝ }
+    ensures small { λ r. ⌜ r ≤ 200000000000 ⌝ }
+{
+    h.conclusion_table + i * CONCLUSION_WIDTH
+}
