@@ -15,7 +15,7 @@ use Rattle.model.specs.Tokens.{startsName, isDigit, isNameByte, isUnderscore, s
 use Rattle.model.specs.Image.{wordBytes, bytesOf, wordAt, crispWord, crispOf, nameWords, nameAt, tab}
 use Rattle.laws.proofs.Tests.{both}
 use Rattle.laws.proofs.Places.{At, tab-at}
-use Rattle.image_laws.proofs.Each.{Each, each-passes, each-so, each-at}
+use Rattle.laws.proofs.Each.{Each, each-passes, each-so, each-at}
 
 -- NAMES
 either : (a b : Bool) {X : Type 0} → a || b ≡ true → (a ≡ true → X) → (b ≡ true → X) → X

@@ -1,4 +1,3 @@
-pub mod Each
 pub mod Fields
 pub mod Placed
 pub mod Tables

@@ -23,7 +23,7 @@ use Rattle.model.specs.Image.{wordAt, pairWord, accuWord, actWord, nameWords, s
 use Rattle.laws.proofs.Places.{At, at-cut, tab-at, same-eq, same-refl}
 use Rattle.laws.proofs.Tests.{both, and-i, passed}
 use Rattle.words.proofs.Bytes.{words-at}
-use Rattle.image_laws.proofs.Each.{Each, each-passes, each-so, each-append, each-map, each-gather}
+use Rattle.laws.proofs.Each.{Each, each-passes, each-so, each-append, each-map, each-gather}
 use Rattle.image_laws.proofs.Fields.{Spelt, spelt, name-back}
 use Rattle.image_laws.proofs.Placed.{placed}
 use Rattle.image_laws.proofs.Tables.{FineOutput, Fine, inputs-back, outputs-back, rules-back}

@@ -22,7 +22,7 @@ use Rattle.layout.specs.Tables.{inputRow, inputNext, outputRow, outputNext, ter
 use Rattle.layout.proofs.TableLaws.{input-table, output-table, term-table, rule-table, gather-laid}
 use Rattle.layout.proofs.Parts.{wide-input, wide-output, wide-term}
 use Rattle.stored_conditions.proofs.Stored.{tab-from, tree-at}
-use Rattle.image_laws.proofs.Each.{Each}
+use Rattle.laws.proofs.Each.{Each}
 use Rattle.image_laws.proofs.Fields.{Spelt, name-back, crisp-back}
 use Rattle.image_laws.proofs.Placed.{Placed}
 

@@ -1,6 +1,6 @@
 -- What document 01 says of nearest, "nearest whole number, a half toward plus", describes `nearest` and `nearestℤ` and no other number.
 use mathlib.Core.Path.{_≡_, refl, sym, ap, _∙_, subst}
-use mathlib.Core.Bool.{true}
+use mathlib.Core.Bool.{true, false}
 use Prim.Native.Nat.{ℕ, suc, _+_, _*_, _-_, _≤_, _<_}
 use native.Mathlib.Nat.{add-mul, mul-assoc, mul-comm, mul-le-mul-left, lt-of-mul-lt-mul-right, zero-mul}
 use native.Mathlib.Omega.{arith}
@@ -17,6 +17,9 @@ pub record Nearest (a : ℤ) (b : ℕ) (n : ℤ) : Type 0 where
   pub most : ltZ (a *ℤ pos 2) (n *ℤ pos (2 * b) +ℤ pos b) ≡ true
 
 -- THE ORDER of differences, by the cross sums
+no : false ≡ true → ⊥
+no e = let z : _≡_ {A = ℕ} 0 1 = cc in omega arith
+
 module _ (a b c d : ℕ) where
   diff-le : a + d ≤ c + b → leZ (subℕ a b) (subℕ c d) ≡ true
   diff-le e = by-sign (λ z. leZ z (subℕ c d) ≡ true) a b
@@ -30,13 +33,21 @@ module _ (a b c d : ℕ) where
 
   le-diff : leZ (subℕ a b) (subℕ c d) ≡ true → a + d ≤ c + b
   le-diff = by-sign (λ z. leZ z (subℕ c d) ≡ true → a + d ≤ c + b) a b
-      (λ h. by-sign (λ z. leZ (pos (a - b)) z ≡ true → a + d ≤ c + b) c d (λ k e. omega (arith, leb-true (a - b) (c - d) e)) (λ k e. let z : _≡_ {A = ℕ} 0 1 = cc in absurd (omega arith)))
-      (λ h. by-sign (λ z. leZ (negsuc (b - suc a)) z ≡ true → a + d ≤ c + b) c d (λ k e. omega arith) (λ k e. omega (arith, leb-true (d - suc c) (b - suc a) e)))
+      (λ h. by-sign (λ z. leZ (pos (a - b)) z ≡ true → a + d ≤ c + b) c d
+      (λ k e. omega (arith, leb-true (a - b) (c - d) e))
+      (λ k e. absurd (no e)))
+      (λ h. by-sign (λ z. leZ (negsuc (b - suc a)) z ≡ true → a + d ≤ c + b) c d
+      (λ k e. omega arith)
+      (λ k e. omega (arith, leb-true (d - suc c) (b - suc a) e)))
 
   lt-diff : ltZ (subℕ a b) (subℕ c d) ≡ true → a + d < c + b
   lt-diff = by-sign (λ z. ltZ z (subℕ c d) ≡ true → a + d < c + b) a b
-      (λ h. by-sign (λ z. ltZ (pos (a - b)) z ≡ true → a + d < c + b) c d (λ k e. omega (arith, ltb-true (a - b) (c - d) e)) (λ k e. let z : _≡_ {A = ℕ} 0 1 = cc in absurd (omega arith)))
-      (λ h. by-sign (λ z. ltZ (negsuc (b - suc a)) z ≡ true → a + d < c + b) c d (λ k e. omega arith) (λ k e. omega (arith, ltb-true (d - suc c) (b - suc a) e)))
+      (λ h. by-sign (λ z. ltZ (pos (a - b)) z ≡ true → a + d < c + b) c d
+      (λ k e. omega (arith, ltb-true (a - b) (c - d) e))
+      (λ k e. absurd (no e)))
+      (λ h. by-sign (λ z. ltZ (negsuc (b - suc a)) z ≡ true → a + d < c + b) c d
+      (λ k e. omega arith)
+      (λ k e. omega (arith, ltb-true (d - suc c) (b - suc a) e)))
 
 -- whole numbers as differences; the second so that the divisor takes out
 whole : (n : ℤ) → (u : ℕ) × (v : ℕ) × (n ≡ subℕ u v)
