@@ -17,7 +17,7 @@ use Rattle.model.specs.declared.Degree.{Degree}
 use Rattle.model.specs.Bounds.{M}
 use Rattle.degrees.specs.Tables.{numbers, Low}
 use Rattle.aggregation.proofs.Degrees.{low-set, numbers-set, numbers-zeros, number-at}
-use Rattle.accumulation.specs.Heights.{afterConclusions, afterRules}
+use Rattle.accumulation.specs.Heights.{afterConclusions}
 
 -- THE BLOCK'S HEIGHT
 abbrev given : ℕ → ℕ → List Conclusion → List ℕ
@@ -36,6 +36,11 @@ conclusions-give a d t (k ∷ ks) h = go (eqb (k .term) t) ∙ conclusions-give 
     go : (b : Bool) → accumulateAll a h ((if b then d ∷ [] else []) ++ given t d ks) ≡ accumulateAll a (if b then accumulated a h d else h) (given t d ks)
     go true = refl
     go false = refl
+
+-- after some rules
+unfoldable pub afterRules : Block → List ℕ → ℕ → List Rule → ℕ → ℕ
+afterRules b ds t [] h = h
+afterRules b ds t (r ∷ rs) h = afterRules b ds t rs (afterConclusions (b .accu) (ruleDegree b ds r) t (r .conclusions) h)
 
 module _ (b : Block) (ds : List ℕ) (t : ℕ) where
   rules-give : (rs : List Rule) (h : ℕ) → accumulateAll (b .accu) h (gather (λ r. given t (ruleDegree b ds r) (r .conclusions)) rs) ≡ afterRules b ds t rs h

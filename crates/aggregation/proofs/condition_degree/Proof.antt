@@ -8,10 +8,6 @@ use Rattle.aggregation.proofs.Steps as laws
 use Rattle.aggregation.proofs.Degrees.{low-zeros}
 use Rattle.aggregation.proofs.condition_degree.Statement.{statement}
 use Rattle.aggregation.proofs.condition_degree.Tie as tie
-use Rattle.aggregation.proofs.condition_degree.Reads as reads
-use Rattle.aggregation.proofs.condition_degree.Lts as lts
-use Rattle.aggregation.proofs.step.Reads as step-reads
-use Rattle.words.proofs.word.Reads as word-reads
 
 abbrev Inv-loop : tie.InvT-loop
 Inv-loop img d n ds p st₀ i₀ st i = (i ≤ n) × Small st × laws.Follows (byDegrees p (numbers ds)) (wordAt img) d n i (onStack st)

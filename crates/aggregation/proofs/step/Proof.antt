@@ -8,13 +8,6 @@ use Rattle.aggregation.specs.Stacks.{onStack}
 use Rattle.aggregation.proofs.Steps as laws
 use Rattle.aggregation.proofs.step.Statement.{statement}
 use Rattle.aggregation.proofs.step.Tie as tie
-use Rattle.aggregation.proofs.step.Reads as reads
-use Rattle.aggregation.proofs.step.Lts as lts
-use Rattle.aggregation.proofs.push.Reads as push-reads
-use Rattle.aggregation.proofs.term_degree.Reads as term-degree-reads
-use Rattle.degrees.proofs.and.Reads as and-reads
-use Rattle.degrees.proofs.not.Reads as not-reads
-use Rattle.degrees.proofs.or.Reads as or-reads
 
 term-degree-requires : tie.Need-term-degree-requires
 term-degree-requires c κs = search needs
