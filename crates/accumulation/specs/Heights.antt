@@ -1,5 +1,5 @@
--- A helper: the height of a term t after the conclusions of one rule, from the height h that it has. The laws `height-is`
--- and `rule-turn` of proofs/Steps tie it to model's `height`.
+-- A helper: the height of a term t after the conclusions of one rule, from the height h that it has. `height-is` and
+-- `rule-turn` of proofs/Steps tie it to model's `height`.
 use mathlib.Core.List.{List, [], _∷_}
 use Prim.Native.Nat.{ℕ}
 use lib.Dec.{eqb}

@@ -112,7 +112,8 @@ module _ {A : Type 0} (g : Meaning A) (f : ℕ → ℕ) (d n : ℕ) where
   unfolding Follows
   follows-start x q = left-start g f d n
 
-  pub follows-turn : (i w : ℕ) (st st′ : List A) → i < n → w ≡ f (d + i) → ((s : List A) → turn g w (some st) ≡ some s → st′ ≡ s) → Follows i st → Follows (i + 1) st′
+  pub follows-turn : (i w : ℕ) (st st′ : List A) → i < n → w ≡ f (d + i) → ((s : List A) → turn g w (some st) ≡ some s → st′ ≡ s)
+      → Follows i st → Follows (i + 1) st′
   unfolding Follows
   follows-turn i w st st′ h e t p x q = go (turn g w (some st)) refl
     where

@@ -1,4 +1,4 @@
--- A helper: the machine that keeps of each subtree its degree, and the code's stack as that machine's. The law `ends` of
+-- A helper: the machine that keeps of each subtree its degree, and the code's stack as that machine's. `ends` of
 -- proofs/Steps ties what it leaves to model's `conditionDegree`.
 use mathlib.Core.List.{List}
 use mathlib.Core.Bool.{true}

@@ -1,5 +1,5 @@
-// The degree of a stored condition: one pass with a stack of degrees. A word that does not fit leaves the stack as it is;
-// a condition has none.
+// The degree of a stored condition: one pass with a stack of degrees. A word that does not fit leaves the stack as it
+// is; a condition has none.
 ghost use mathlib.Core.Path.{_≡_};
 ghost use mathlib.Core.Bool.{true};
 ghost use mathlib.Core.List.{List};
@@ -82,7 +82,13 @@ fn step(st: Stack, ds: [Degree; INPUT_TERMS], p: Pair, w: usize) -> Stack
 }
 
 // The degree of the condition whose n words stand from place d on, by the degrees of the input terms.
-pub fn condition_degree(img: &[u8], d: usize, n: usize, ds: [Degree; INPUT_TERMS], p: Pair) -> Degree
+pub fn condition_degree(
+    img: &[u8],
+    d: usize,
+    n: usize,
+    ds: [Degree; INPUT_TERMS],
+    p: Pair,
+) -> Degree
     requires { ⌜ (d ≤ 100000000000) × (n ≤ 4294967295) × Low (numbers ds) ⌝ }
     ensures { λ r. ⌜ ((m : ℕ) → conditionStored (wordAt (now (img .entry))) d n m ≡ true
         → r .0 ≡ conditionDegree p (numbers ds) (treeOf (tab (wordAt (now (img .entry))) n d))) ⌝ }

@@ -14,7 +14,7 @@ use Rattle.accumulation.proofs.conclude.Statement.{statement}
 use Rattle.accumulation.proofs.conclude.Tie as tie
 
 abbrev Inv-loop : tie.InvT-loop
-Inv-loop img h i m d o first n k r₀ j₀ r j = 
+Inv-loop img h i m d o first n k r₀ j₀ r j =
     (j ≤ n) × (length r ≡ 42) × Low (numbers r)
     × ((p : ℕ) → afterConclusions k (d .0) (m + p) (tab (conclusionAt (wordAt img)) (n - j) (first + j)) (getD (numbers r) p 0)
     ≡ afterConclusions k (d .0) (m + p) (tab (conclusionAt (wordAt img)) n first) (getD (numbers r₀) p 0))
@@ -134,7 +134,7 @@ loop-again c =
       search needs,
       search needs,
       low-turn (l .r) _ (new .result) (l .inv .2) (new .ensures .1),
-      λ p. conclusion-turn _ _ f _ _ (l .j) (a .m) (l .r) (t .word3 .result) (new .result) (search needs) (k .0) (k .1) (k .2) (new .ensures .0) p ∙ l .inv .3 p,
+      λ p. conclusion-turn _ _ f _ _ (l .j) (a .m) (l .r) _ (new .result) (search needs) (k .0) (k .1) (k .2) (new .ensures .0) p ∙ l .inv .3 p,
     )
 
 returns : tie.Need-returns Inv-loop μ-loop

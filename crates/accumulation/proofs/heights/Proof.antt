@@ -11,7 +11,7 @@ use Rattle.accumulation.proofs.heights.Statement.{statement}
 use Rattle.accumulation.proofs.heights.Tie as tie
 
 abbrev Inv-loop : tie.InvT-loop
-Inv-loop img h ds m n hs₀ i₀ hs i = 
+Inv-loop img h ds m n hs₀ i₀ hs i =
     (i ≤ n) × Low (numbers hs)
     × ((p : ℕ) → afterRules (decode (wordAt img)) (numbers ds) (m + p) (tab (ruleAt (wordAt img)) (n - i) i) (getD (numbers hs) p 0)
     ≡ height (decode (wordAt img)) (numbers ds) (m + p))

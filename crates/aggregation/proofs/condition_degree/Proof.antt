@@ -37,10 +37,11 @@ loop-less c = search needs
 loop-again : tie.Need-loop-again Inv-loop μ-loop
 loop-again c =
     let l = c .before .before .before .loop in
-    let a = c .before .before .before .before .before .args in (
+    let a = c .before .before .before .before .before .args in
+    let g = byDegrees (a .p) (numbers (a .ds)) in (
       search needs,
       c .step .ensures .1,
-      laws.follows-turn (byDegrees (a .p) (numbers (a .ds))) (wordAt (a .img .now)) (a .d) (a .n) (l .i) _ _ _ (search needs) (c .before .word .ensures .0) (c .step .ensures .0) (l .inv .2),
+      laws.follows-turn g (wordAt (a .img .now)) (a .d) (a .n) (l .i) _ _ _ (search needs) (c .before .word .ensures .0) (c .step .ensures .0) (l .inv .2),
     )
 
 element-copy-out-t16 : tie.Need-element-copy-out-t16 Inv-loop μ-loop
