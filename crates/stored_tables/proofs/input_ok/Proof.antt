@@ -1,11 +1,13 @@
 use mathlib.Core.Path.{sym, _∙_}
-use borrow.Author.Tests.{not-true, not-false}
-use Rattle.stored_tables.proofs.Lists.{fails, equal, differs, within, over}
-use Rattle.stored_tables.specs.Tests.{inputTest}
+use Prim.Native.Nat.{_-_}
 use borrow.Author.Needs.{needs}
-use Rattle.stored_tables.proofs.input_row.Statement.{statement}
-use Rattle.stored_tables.proofs.input_row.Tie as tie
+use borrow.Author.Tests.{not-true, not-false}
 use Rattle.laws.proofs.Tests.{pass}
+use Rattle.stored_tables.specs.Tests.{inputTest}
+use Rattle.stored_tables.proofs.Lists.{fails, equal, differs, within, over}
+use borrow.Author.Needs.{needs}
+use Rattle.stored_tables.proofs.input_ok.Statement.{statement}
+use Rattle.stored_tables.proofs.input_ok.Tie as tie
 
 name-exact-requires : tie.Need-name-exact-requires
 name-exact-requires c κs = search needs
@@ -36,10 +38,20 @@ returns-3 c = sym (fails _ 2 (differs _ _ _ (c .before .word2 .ensures .0) (c .i
 
 returns-4 : tie.Need-returns-4
 unfolding inputTest
-returns-4 c = sym (pass _ (sym (c .before .before .before .before .before .name-exact .ensures) ∙ not-false _ (c .before .before .before .before .if1 .left), (within _ _ _ (c .before .before .before .word .ensures .0) (c .before .before .if2 .left), (equal _ _ _ (c .before .word2 .ensures .0) (c .if3 .left), tt))))
+returns-4 c =
+    let type = c .before .before in
+    let name = type .before .before in
+    sym
+    (pass _ (
+      sym (name .before .name-exact .ensures) ∙ not-false _ (name .if1 .left),
+      (
+        within _ _ _ (type .before .word .ensures .0) (type .if2 .left),
+        (equal _ _ _ (c .before .word2 .ensures .0) (c .if3 .left), tt),
+      ),
+    ))
 
-pub input-row-spec : {M : Type 1} → statement M
-input-row-spec =
+pub input-ok-spec : {M : Type 1} → statement M
+input-ok-spec =
     tie.close
     (tie.spec
     name-exact-requires
