@@ -43,6 +43,9 @@ pub const RULE_BLOCK_NAME: usize = 24;
 
 pub const SIZE: usize = 28;
 
+// Words of a name.
+pub const NAME_WIDTH: usize = 4;
+
 // Words of a row.
 pub const INPUT_WIDTH: usize = 7;
 
