@@ -58,8 +58,8 @@ fn rule_degree(img: &[u8], h: Header, i: usize, ds: [Degree; INPUT_TERMS]) -> De
     prod(d, Degree(weight))
 }
 
-// Each conclusion of rule i accumulates d into the height of its term. hs holds the heights of the output terms; m is the
-// first of these.
+// Each conclusion of rule i accumulates d into the height of its term. hs holds the heights of the output terms, the
+// first of which is m.
 fn conclude(
     img: &[u8],
     h: Header,
