@@ -97,15 +97,9 @@ fn optional_range(s: &[u8], p: ParseState, o: usize) -> ParseState
 fn inside(v: Output, x: Crisp) -> bool
     ensures { λ r. ⌜ r ≡ inRange (rangeView v) (x .0) ⌝ }
 {
-    if v.ranged {
-        let a = v.least;
-        if crisp::not_above(a, x) {
-            let b = v.most;
-            return crisp::not_above(x, b);
-        }
-        return false;
-    }
-    true
+    let a = v.least;
+    let b = v.most;
+    crisp::in_range(v.ranged, a, b, x)
 }
 
 // The number at the cursor as one inside the RANGE of v.

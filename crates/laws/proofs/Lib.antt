@@ -10,3 +10,4 @@ pub mod Repetition
 pub mod DummyTree
 pub mod Search
 pub mod Slices
+pub mod Again

@@ -172,7 +172,10 @@ pub fn stored_condition(img: &[u8], d: usize, n: usize, m: usize) -> StoredCondi
     let mut st = Stack {
         ok: true,
         height: 0,
-        shapes: [Shape { form: TERM_FORM, depth: 0 }; ROOM],
+        shapes: [Shape {
+            form: TERM_FORM,
+            depth: 0,
+        }; ROOM],
     };
     let mut i = 0;
     while i < n {

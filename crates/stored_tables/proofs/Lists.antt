@@ -1,34 +1,16 @@
--- Lists of tests, and what a comparison of a number that was read says of the word that it is.
+-- The tests of the header, and what a comparison of a number that was read says of the word that it is.
 use mathlib.Core.Path.{_≡_, refl, sym, ap, _∙_}
 use mathlib.Core.List.{List, [], _∷_, _++_}
-use mathlib.Core.Bool.{Bool, true, false, _&&_, and-true}
-use Prim.Native.Nat.{ℕ, zero, suc, _+_, _*_, _≤_, _<_}
+use mathlib.Core.Bool.{Bool, true, false, _&&_}
+use Prim.Native.Nat.{ℕ, _+_, _*_, _≤_, _<_}
 use native.Mathlib.Omega.{arith}
 use lib.Dec.{leb, eqb}
-use lib.ListN.{getD}
 use borrow.Author.Tests.{eq-eqb, ne-eqb, le-leb, lt-leb}
 use Rattle.model.specs.Basic.{every}
-use Rattle.laws.proofs.Tests.{Every}
 use Rattle.header.specs.declared.Header.{Header}
 use Rattle.header.specs.Header.{Heads}
 use Rattle.layout.specs.Tables.{headerOk}
 use Rattle.stored_tables.specs.Tests.{offsetTests, codeTests}
-
-pub clash : {X : Type 0} → false ≡ true → X
-clash h = let z : _≡_ {A = ℕ} 0 1 = cc in absurd (omega arith)
-
-pub fails : (bs : List Bool) (k : ℕ) → getD bs k true ≡ false → every bs ≡ false
-unfolding every
-fails [] k h = h
-fails (b ∷ bs) zero h = rw h
-fails (true ∷ bs) (suc k) h = fails bs k h
-fails (false ∷ bs) (suc k) h = refl
-
--- where all tests but the last pass, the last decides
-pub before-last : (bs : List Bool) (b : Bool) → Every bs → every (bs ++ (b ∷ [])) ≡ b
-unfolding every
-before-last [] b h = and-true b
-before-last (a ∷ bs) b h = rw (h .0) (before-last bs b (h .1))
 
 every-append : (xs ys : List Bool) → every (xs ++ ys) ≡ every xs && every ys
 unfolding every

@@ -9,12 +9,11 @@ use lib.ListN.{length, take, getD}
 use borrow.Author.Tests.{eq-eqb, eqb-true}
 use Rattle.model.specs.Basic.{run, gather}
 use Rattle.model.specs.Image.{wordAt, wordBytes, bytesOf, nameWords, nameAt, tab}
-use Rattle.laws.proofs.Tests.{iff}
+use Rattle.laws.proofs.Tests.{iff, clash}
 use Rattle.words.proofs.Bytes.{words-at}
 use Rattle.layout.specs.Tables.{nameExact}
 use Rattle.layout.proofs.RowLaws.{stands, stood}
 use Rattle.stored_tables.specs.Tests.{padStep, padRun}
-use Rattle.stored_tables.proofs.Lists.{clash}
 
 abbrev trim : List ℕ → List ℕ
 trim l = take (run (λ c. not (eqb c 0)) l) l

@@ -6,11 +6,10 @@ use native.Mathlib.Omega.{arith}
 use lib.Dec.{eqb}
 use borrow.Author.Tests.{eq-eqb, ne-eqb}
 use Rattle.model.specs.Basic.{every}
-use Rattle.laws.proofs.Tests.{passed, pass, iff}
+use Rattle.laws.proofs.Tests.{passed, pass, iff, clash}
 use Rattle.layout.specs.Tables.{inputTermsIn, outputTermsIn, headerOk, inputRows, outputRows, inputTermRows, outputTermRows, outputPointRows}
 use Rattle.layout.specs.Groups.{tablesOk}
 use Rattle.stored_tables.specs.Tests.{termTests}
-use Rattle.stored_tables.proofs.Lists.{clash}
 
 pub refuses : {X : Type 0} (ok b : Bool) → ok ≡ false → b ≡ false → (ok ≡ b) × (ok ≡ true → X)
 refuses ok b e f = (e ∙ sym f, λ q. clash (sym e ∙ q))

@@ -82,7 +82,9 @@ module _ (w : ℕ → ℕ) where
 
   outputs-run : outputRows w ≡ true → Runs (outputFirst w) (outputCount w) (w 3) 0 (inputTermsIn w)
   unfolding outputRows
-  outputs-run h = runs-from outputRow outputNext (outputAt w) w (w 10) 11 (λ n. n) (outputFirst w) (outputCount w) (λ i n e. output-row w i n e) (w 3) 0 (inputTermsIn w) h
+  outputs-run h =
+      runs-from outputRow outputNext (outputAt w) w (w 10) 11 (λ n. n) (outputFirst w) (outputCount w) (λ i n e. output-row w i n e)
+      (w 3) 0 (inputTermsIn w) h
 
   -- all names are exact
   pub record Names : Type 0 where
@@ -107,7 +109,9 @@ module _ (w : ℕ → ℕ) where
         ruleBlock = d .1 .1 .1 .1 .1 .1 .1 .1 .1 .1 .1 .1 .1 .1 .0;
         inputs = inputs-exact ir;
         outputs = outputs-exact or;
-        inputTerms = λ i l k a b. let q = runs-within (inputFirst w) (inputCount w) (w 2) 0 0 (inputs-run ir) i (omega arith) (omega arith) in ti k (omega arith) (omega (arith, q .1));
+        inputTerms = λ i l k a b.
+            let q = runs-within (inputFirst w) (inputCount w) (w 2) 0 0 (inputs-run ir) i (omega arith) (omega arith) in
+            ti k (omega arith) (omega (arith, q .1));
         outputTerms = λ i l k a b.
             let q = runs-within (outputFirst w) (outputCount w) (w 3) 0 (inputTermsIn w) (outputs-run or) i (omega arith) (omega arith) in
             to k (omega (arith, q .0)) (omega (arith, q .1));

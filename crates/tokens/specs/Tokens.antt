@@ -1,4 +1,5 @@
--- The tokens of a text from a place on, and the first of them as the scanner gives it.
+-- A helper: the tokens of a text from a place on, by the model's `scan`, and the first of them as the scanner gives it.
+-- `begun` of cursor/proofs/Laws ties those from 0 on to the model's `tokens`.
 use mathlib.Core.List.{List, []}
 use Prim.Native.Nat.{ℕ}
 use lib.Dec.{eqb}

@@ -1,10 +1,9 @@
 use mathlib.Core.Path.{ap}
-use Prim.Native.Nat.{ℕ, _-_}
+use Prim.Native.Nat.{ℕ}
 use lib.Dec.{eqb}
 use borrow.Author.Needs.{needs}
 use Rattle.stored_tables.specs.Tests.{defaultTest}
 use Rattle.stored_tables.proofs.Lists.{equal, differs}
-use borrow.Author.Needs.{needs}
 use Rattle.stored_tables.proofs.default_ok.Statement.{statement}
 use Rattle.stored_tables.proofs.default_ok.Tie as tie
 

@@ -1,7 +1,5 @@
-use Prim.Native.Nat.{_-_}
 use native.Mathlib.Omega.{arith}
 use native.Mathlib.Nat.{mul-le-mul-right}
-use borrow.Author.Needs.{needs}
 use borrow.Author.Needs.{needs}
 use Rattle.stored_tables.proofs.follows.Statement.{statement}
 use Rattle.stored_tables.proofs.follows.Tie as tie

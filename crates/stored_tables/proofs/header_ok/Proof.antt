@@ -1,9 +1,7 @@
 use mathlib.Core.Path.{sym, _∙_}
-use Prim.Native.Nat.{_-_}
 use borrow.Author.Needs.{needs}
 use borrow.Author.Tests.{not-true, not-false}
 use Rattle.stored_tables.proofs.Lists.{header-spelt}
-use borrow.Author.Needs.{needs}
 use Rattle.stored_tables.proofs.header_ok.Statement.{statement}
 use Rattle.stored_tables.proofs.header_ok.Tie as tie
 

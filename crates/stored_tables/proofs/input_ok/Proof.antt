@@ -1,11 +1,9 @@
 use mathlib.Core.Path.{sym, _∙_}
-use Prim.Native.Nat.{_-_}
 use borrow.Author.Needs.{needs}
 use borrow.Author.Tests.{not-true, not-false}
-use Rattle.laws.proofs.Tests.{pass}
+use Rattle.laws.proofs.Tests.{pass, one-fails}
 use Rattle.stored_tables.specs.Tests.{inputTest}
-use Rattle.stored_tables.proofs.Lists.{fails, equal, differs, within, over}
-use borrow.Author.Needs.{needs}
+use Rattle.stored_tables.proofs.Lists.{equal, differs, within, over}
 use Rattle.stored_tables.proofs.input_ok.Statement.{statement}
 use Rattle.stored_tables.proofs.input_ok.Tie as tie
 
@@ -14,7 +12,7 @@ name-exact-requires c κs = search needs
 
 returns : tie.Need-returns
 unfolding inputTest
-returns c = sym (fails _ 0 (sym (c .before .name-exact .ensures) ∙ not-true _ (c .if1 .taken)))
+returns c = sym (one-fails _ 0 (sym (c .before .name-exact .ensures) ∙ not-true _ (c .if1 .taken)))
 
 add-word : tie.Need-add-word
 add-word c = search needs
@@ -24,7 +22,7 @@ word-requires c κs = search needs
 
 returns-2 : tie.Need-returns-2
 unfolding inputTest
-returns-2 c = sym (fails _ 1 (over _ _ _ (c .before .word .ensures .0) (c .if2 .taken)))
+returns-2 c = sym (one-fails _ 1 (over _ _ _ (c .before .word .ensures .0) (c .if2 .taken)))
 
 add-word-2 : tie.Need-add-word-2
 add-word-2 c = search needs
@@ -34,7 +32,7 @@ word-requires-2 c κs = search needs
 
 returns-3 : tie.Need-returns-3
 unfolding inputTest
-returns-3 c = sym (fails _ 2 (differs _ _ _ (c .before .word2 .ensures .0) (c .if3 .taken)))
+returns-3 c = sym (one-fails _ 2 (differs _ _ _ (c .before .word2 .ensures .0) (c .if3 .taken)))
 
 returns-4 : tie.Need-returns-4
 unfolding inputTest

@@ -1,6 +1,5 @@
 use Prim.Native.Nat.{_+_, _*_}
-use mathlib.Core.Path.{refl, sym, ap, _∙_}
-use Prim.Native.Nat.{ℕ, _-_}
+use mathlib.Core.Path.{refl, sym, _∙_}
 use lib.Dec.{eqb}
 use borrow.Author.Needs.{needs}
 use borrow.Author.Tests.{not-true, not-false}
@@ -8,15 +7,9 @@ use Rattle.model.specs.Image.{wordAt, decode}
 use Rattle.header.proofs.Laws.{small}
 use lib.ListN.{take, getD}
 use mathlib.Core.Bool.{true}
+use Rattle.laws.proofs.Tests.{last-decides, one-fails}
 use Rattle.stored_tables.specs.Tests.{offsetTests}
-use Rattle.stored_tables.proofs.Lists.{before-last, fails, equal, differs}
-use mathlib.Core.Path.{refl, sym, _∙_}
-use Prim.Native.Nat.{_-_}
-use borrow.Author.Needs.{needs}
-use borrow.Author.Tests.{not-true}
-use Rattle.model.specs.Image.{wordAt, decode}
-use Rattle.stored_tables.proofs.Lists.{fails, differs}
-use borrow.Author.Needs.{needs}
+use Rattle.stored_tables.proofs.Lists.{equal, differs}
 use Rattle.stored_tables.proofs.offsets_ok.Statement.{statement}
 use Rattle.stored_tables.proofs.offsets_ok.Tie as tie
 
@@ -30,22 +23,22 @@ returns : tie.Need-returns
 returns c =
     let start = c .before .before .before .before in
     let one = c .before .layout-word .ensures (decode (wordAt (start .args .img .now))) in
-    sym (fails _ 0 (differs _ _ _ (c .before .before .word .ensures .0) (λ q. c .if1 .taken (q ∙ sym one))))
+    sym (one-fails _ 0 (differs _ _ _ (c .before .before .word .ensures .0) (λ q. c .if1 .taken (q ∙ sym one))))
 
 returns-2 : tie.Need-returns-2
-returns-2 c = sym (fails _ 1 (differs _ _ _ refl (c .if2 .taken)))
+returns-2 c = sym (one-fails _ 1 (differs _ _ _ refl (c .if2 .taken)))
 
 follows-requires : tie.Need-follows-requires
 follows-requires c κs = let s = small (c .before .before .before .before .before .before .pre) in search needs
 
 returns-3 : tie.Need-returns-3
-returns-3 c = sym (fails _ 2 (sym (c .before .follows .ensures) ∙ not-true _ (c .if3 .taken)))
+returns-3 c = sym (one-fails _ 2 (sym (c .before .follows .ensures) ∙ not-true _ (c .if3 .taken)))
 
 follows-requires-2 : tie.Need-follows-requires-2
 follows-requires-2 c κs = let s = small (c .before .before .before .before .before .before .before .before .pre) in search needs
 
 returns-4 : tie.Need-returns-4
-returns-4 c = sym (fails _ 3 (sym (c .before .follows2 .ensures) ∙ not-true _ (c .if4 .taken)))
+returns-4 c = sym (one-fails _ 3 (sym (c .before .follows2 .ensures) ∙ not-true _ (c .if4 .taken)))
 
 follows-requires-3 : tie.Need-follows-requires-3
 follows-requires-3 c κs =
@@ -54,7 +47,7 @@ follows-requires-3 c κs =
     search needs
 
 returns-5 : tie.Need-returns-5
-returns-5 c = sym (fails _ 4 (sym (c .before .follows3 .ensures) ∙ not-true _ (c .if5 .taken)))
+returns-5 c = sym (one-fails _ 4 (sym (c .before .follows3 .ensures) ∙ not-true _ (c .if5 .taken)))
 
 follows-requires-4 : tie.Need-follows-requires-4
 follows-requires-4 c κs =
@@ -63,7 +56,7 @@ follows-requires-4 c κs =
     search needs
 
 returns-6 : tie.Need-returns-6
-returns-6 c = sym (fails _ 5 (sym (c .before .follows4 .ensures) ∙ not-true _ (c .if6 .taken)))
+returns-6 c = sym (one-fails _ 5 (sym (c .before .follows4 .ensures) ∙ not-true _ (c .if6 .taken)))
 
 follows-requires-5 : tie.Need-follows-requires-5
 follows-requires-5 c κs =
@@ -72,7 +65,7 @@ follows-requires-5 c κs =
     search needs
 
 returns-7 : tie.Need-returns-7
-returns-7 c = sym (fails _ 6 (sym (c .before .follows5 .ensures) ∙ not-true _ (c .if7 .taken)))
+returns-7 c = sym (one-fails _ 6 (sym (c .before .follows5 .ensures) ∙ not-true _ (c .if7 .taken)))
 
 follows-requires-6 : tie.Need-follows-requires-6
 follows-requires-6 c κs =
@@ -81,7 +74,7 @@ follows-requires-6 c κs =
     search needs
 
 returns-8 : tie.Need-returns-8
-returns-8 c = sym (fails _ 7 (sym (c .before .follows6 .ensures) ∙ not-true _ (c .if8 .taken)))
+returns-8 c = sym (one-fails _ 7 (sym (c .before .follows6 .ensures) ∙ not-true _ (c .if8 .taken)))
 
 word-requires-2 : tie.Need-word-requires-2
 word-requires-2 c κs = search needs
@@ -110,7 +103,7 @@ returns-9 c =
     c .follows7 .ensures
     ∙ (λ j. eqb (total j) (a .h .«conclusion_table» + a .h .conclusions * 2))
     ∙ sym
-    (before-last (take 8 tests) (getD tests 8 true) (
+    (last-decides (take 8 tests) (getD tests 8 true) (
       equal _ _ _ (first .word .ensures .0) (lay .if1 .left ∙ lay .before .layout-word .ensures (decode w)),
       (
         equal _ _ _ refl (size .if2 .left),

@@ -1,11 +1,9 @@
 use mathlib.Core.Path.{sym, _∙_}
-use Prim.Native.Nat.{_-_}
 use borrow.Author.Needs.{needs}
 use borrow.Author.Tests.{not-true, not-false}
-use Rattle.laws.proofs.Tests.{pass}
+use Rattle.laws.proofs.Tests.{pass, one-fails}
 use Rattle.stored_tables.specs.Tests.{outputTest}
-use Rattle.stored_tables.proofs.Lists.{fails, equal, differs}
-use borrow.Author.Needs.{needs}
+use Rattle.stored_tables.proofs.Lists.{equal, differs}
 use Rattle.stored_tables.proofs.output_ok.Statement.{statement}
 use Rattle.stored_tables.proofs.output_ok.Tie as tie
 
@@ -14,7 +12,7 @@ name-exact-requires c κs = search needs
 
 returns : tie.Need-returns
 unfolding outputTest
-returns c = sym (fails _ 0 (sym (c .before .name-exact .ensures) ∙ not-true _ (c .if1 .taken)))
+returns c = sym (one-fails _ 0 (sym (c .before .name-exact .ensures) ∙ not-true _ (c .if1 .taken)))
 
 add-word : tie.Need-add-word
 add-word c = search needs
@@ -24,21 +22,21 @@ word-requires c κs = search needs
 
 returns-2 : tie.Need-returns-2
 unfolding outputTest
-returns-2 c = sym (fails _ 1 (differs _ _ _ (c .before .word .ensures .0) (c .if2 .taken)))
+returns-2 c = sym (one-fails _ 1 (differs _ _ _ (c .before .word .ensures .0) (c .if2 .taken)))
 
 range-ok-requires : tie.Need-range-ok-requires
 range-ok-requires c κs = search needs
 
 returns-3 : tie.Need-returns-3
 unfolding outputTest
-returns-3 c = sym (fails _ 2 (sym (c .before .range-ok .ensures) ∙ not-true _ (c .if3 .taken)))
+returns-3 c = sym (one-fails _ 2 (sym (c .before .range-ok .ensures) ∙ not-true _ (c .if3 .taken)))
 
 default-ok-requires : tie.Need-default-ok-requires
 default-ok-requires c κs = search needs
 
 returns-4 : tie.Need-returns-4
 unfolding outputTest
-returns-4 c = sym (fails _ 3 (sym (c .before .default-ok .ensures) ∙ not-true _ (c .if4 .taken)))
+returns-4 c = sym (one-fails _ 3 (sym (c .before .default-ok .ensures) ∙ not-true _ (c .if4 .taken)))
 
 returns-5 : tie.Need-returns-5
 unfolding outputTest

@@ -5,11 +5,10 @@ use borrow.Author.Tests.{not-true, not-false}
 use Rattle.model.specs.Image.{wordAt, outputAt}
 use Rattle.header.proofs.Laws.{small}
 use Rattle.layout.specs.Tables.{outputCount, outputNext, outputRow, outputTermsIn}
+use Rattle.laws.proofs.Tests.{clash}
 use Rattle.stored_tables.specs.Tests.{outputTest, outputRowsFrom}
-use Rattle.stored_tables.proofs.Lists.{clash}
 use Rattle.stored_tables.proofs.RowTests.{output-row, output-next}
 use Rattle.stored_tables.proofs.Loops.{Rest, Count, rows-start, rows-more, rows-stop, rows-end, count-start, count-more, count-end, seen}
-use borrow.Author.Needs.{needs}
 use Rattle.stored_tables.proofs.output_rows.Statement.{statement}
 use Rattle.stored_tables.proofs.output_rows.Tie as tie
 

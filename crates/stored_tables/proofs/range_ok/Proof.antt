@@ -1,12 +1,11 @@
 use mathlib.Core.Path.{ap}
 use mathlib.Core.Bool.{and-true}
-use Prim.Native.Nat.{ℕ, _-_}
+use Prim.Native.Nat.{ℕ}
 use lib.Dec.{eqb}
 use borrow.Author.Needs.{needs}
 use Rattle.model.specs.Basic.{every}
 use Rattle.stored_tables.specs.Tests.{rangeTest}
 use Rattle.stored_tables.proofs.Lists.{equal, differs}
-use borrow.Author.Needs.{needs}
 use Rattle.stored_tables.proofs.range_ok.Statement.{statement}
 use Rattle.stored_tables.proofs.range_ok.Tie as tie
 

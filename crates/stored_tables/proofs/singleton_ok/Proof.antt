@@ -1,10 +1,9 @@
 use mathlib.Core.Path.{sym, ap, _∙_}
-use Prim.Native.Nat.{ℕ, _-_}
+use Prim.Native.Nat.{ℕ}
 use lib.Dec.{eqb}
 use borrow.Author.Needs.{needs}
 use borrow.Author.Tests.{not-true, not-false}
 use Rattle.stored_tables.specs.Tests.{singletonTest}
-use borrow.Author.Needs.{needs}
 use Rattle.stored_tables.proofs.singleton_ok.Statement.{statement}
 use Rattle.stored_tables.proofs.singleton_ok.Tie as tie
 

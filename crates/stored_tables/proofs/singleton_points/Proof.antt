@@ -8,7 +8,6 @@ use Rattle.stored_tables.specs.Tests.{outputPointsFrom}
 use Rattle.stored_tables.proofs.Lists.{equal, differs}
 use Rattle.stored_tables.proofs.RowTests.{point-row}
 use Rattle.stored_tables.proofs.Loops.{Rest, rows-from, rows-more, rows-stop, rows-end}
-use borrow.Author.Needs.{needs}
 use Rattle.stored_tables.proofs.singleton_points.Statement.{statement}
 use Rattle.stored_tables.proofs.singleton_points.Tie as tie
 

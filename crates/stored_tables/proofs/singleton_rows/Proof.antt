@@ -8,7 +8,6 @@ use Rattle.layout.specs.Tables.{outputTermAt, termNext, termRow}
 use Rattle.stored_tables.specs.Tests.{singletonTest, outputTermRowsFrom}
 use Rattle.stored_tables.proofs.RowTests.{term-row, output-term-row}
 use Rattle.stored_tables.proofs.Loops.{Rest, rows-from, rows-more, rows-stop, rows-end, seen}
-use borrow.Author.Needs.{needs}
 use Rattle.stored_tables.proofs.singleton_rows.Statement.{statement}
 use Rattle.stored_tables.proofs.singleton_rows.Tie as tie
 

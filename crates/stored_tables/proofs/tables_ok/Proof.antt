@@ -1,16 +1,15 @@
 use mathlib.Core.Path.{refl, sym, _∙_}
-use Prim.Native.Nat.{ℕ, _-_}
+use Prim.Native.Nat.{ℕ}
 use borrow.Author.Needs.{needs}
 use borrow.Author.Tests.{not-true, not-false}
 use Rattle.model.specs.Image.{wordAt}
 use Rattle.header.proofs.Laws.{small}
 use Rattle.layout.specs.Tables.{outputRows, outputTermsIn}
 use Rattle.layout.specs.Groups.{tablesOk}
+use Rattle.laws.proofs.Tests.{clash, one-fails}
 use Rattle.stored_tables.specs.Tests.{outputRowsFrom}
-use Rattle.stored_tables.proofs.Lists.{clash, fails}
 use Rattle.stored_tables.proofs.Loops.{seen}
 use Rattle.stored_tables.proofs.Whole.{refuses, too-few, not-all, all-there, rest-are, tables-left}
-use borrow.Author.Needs.{needs}
 use Rattle.stored_tables.proofs.tables_ok.Statement.{statement}
 use Rattle.stored_tables.proofs.tables_ok.Tie as tie
 
@@ -23,7 +22,7 @@ refused-requires c κs = search needs
 returns : tie.Need-returns
 unfolding tablesOk
 returns c =
-    let e = fails _ 0 (sym (c .before .before .header-ok .ensures) ∙ not-true _ (c .before .if1 .taken)) in
+    let e = one-fails _ 0 (sym (c .before .before .header-ok .ensures) ∙ not-true _ (c .before .if1 .taken)) in
     (refuses _ _ (c .refused .ensures .0) e, (search needs, (λ e. c .refused .ensures .1)))
 
 input-rows-requires : tie.Need-input-rows-requires
@@ -35,7 +34,7 @@ refused-requires-2 c κs = search needs
 returns-2 : tie.Need-returns-2
 unfolding tablesOk
 returns-2 c =
-    let e = fails _ 1 (sym (c .before .before .before .input-rows .ensures .0) ∙ not-true _ (c .before .if2 .taken)) in
+    let e = one-fails _ 1 (sym (c .before .before .before .input-rows .ensures .0) ∙ not-true _ (c .before .if2 .taken)) in
     (refuses _ _ (c .refused2 .ensures .0) e, (search needs, (λ e. c .refused2 .ensures .1)))
 
 refused-requires-3 : tie.Need-refused-requires-3
@@ -48,7 +47,7 @@ returns-3 c =
     let ins = two .before .before in
     let t = ins .before .before .before .before .pre .terms in
     let k = ins .input-rows .ensures .1 (not-false _ (two .if2 .left)) in
-    let e = fails _ 6 (too-few _ _ _ _ _ t k (c .before .if3 .taken)) in
+    let e = one-fails _ 6 (too-few _ _ _ _ _ t k (c .before .if3 .taken)) in
     (refuses _ _ (c .refused3 .ensures .0) e, (search needs, (λ e. c .refused3 .ensures .1)))
 
 output-rows-requires : tie.Need-output-rows-requires
@@ -66,7 +65,7 @@ returns-4 c =
     let w = wordAt (ins .before .before .before .before .args .img .now) in
     let k = ins .input-rows .ensures .1 (not-false _ (two .if2 .left)) in
     let r = outs .output-rows .ensures .0 in
-    let e = fails _ 2 (seen (λ (p : ℕ). outputRowsFrom w p) _ _ _ _ _ k r (not-true _ (c .before .if4 .taken)) refl) in
+    let e = one-fails _ 2 (seen (λ (p : ℕ). outputRowsFrom w p) _ _ _ _ _ k r (not-true _ (c .before .if4 .taken)) refl) in
     (refuses _ _ (c .refused4 .ensures .0) e, (search needs, (λ e. c .refused4 .ensures .1)))
 
 refused-requires-5 : tie.Need-refused-requires-5
@@ -82,7 +81,7 @@ returns-5 c =
     let t = ins .before .before .before .before .pre .terms in
     let k = ins .input-rows .ensures .1 (not-false _ (two .if2 .left)) in
     let o = outs .output-rows .ensures .1 (not-false _ (four .if4 .left)) in
-    let e = fails _ 6 (not-all _ _ _ _ _ t k _ o (c .before .if5 .taken)) in
+    let e = one-fails _ 6 (not-all _ _ _ _ _ t k _ o (c .before .if5 .taken)) in
     (refuses _ _ (c .refused5 .ensures .0) e, (search needs, (λ e. c .refused5 .ensures .1)))
 
 terms-ok-requires : tie.Need-terms-ok-requires

@@ -1,11 +1,9 @@
 use mathlib.Core.Path.{sym, _∙_}
-use Prim.Native.Nat.{_-_}
 use borrow.Author.Needs.{needs}
 use borrow.Author.Tests.{not-true, not-false}
-use Rattle.laws.proofs.Tests.{pass}
+use Rattle.laws.proofs.Tests.{pass, one-fails}
 use Rattle.stored_tables.specs.Tests.{termTest}
-use Rattle.stored_tables.proofs.Lists.{fails, equal, differs}
-use borrow.Author.Needs.{needs}
+use Rattle.stored_tables.proofs.Lists.{equal, differs}
 use Rattle.stored_tables.proofs.term_ok.Statement.{statement}
 use Rattle.stored_tables.proofs.term_ok.Tie as tie
 
@@ -14,7 +12,7 @@ name-exact-requires c κs = search needs
 
 returns : tie.Need-returns
 unfolding termTest
-returns c = sym (fails _ 0 (sym (c .before .name-exact .ensures) ∙ not-true _ (c .if1 .taken)))
+returns c = sym (one-fails _ 0 (sym (c .before .name-exact .ensures) ∙ not-true _ (c .if1 .taken)))
 
 add-word : tie.Need-add-word
 add-word c = search needs
@@ -24,7 +22,7 @@ word-requires c κs = search needs
 
 returns-2 : tie.Need-returns-2
 unfolding termTest
-returns-2 c = sym (fails _ 1 (differs _ _ _ (c .before .word .ensures .0) (c .if2 .taken)))
+returns-2 c = sym (one-fails _ 1 (differs _ _ _ (c .before .word .ensures .0) (c .if2 .taken)))
 
 returns-3 : tie.Need-returns-3
 unfolding termTest

@@ -1,15 +1,14 @@
 use mathlib.Core.Path.{refl, sym, _∙_}
-use Prim.Native.Nat.{ℕ, _+_, _-_}
+use Prim.Native.Nat.{ℕ, _+_}
 use lib.Dec.{eqb}
 use borrow.Author.Needs.{needs}
 use borrow.Author.Tests.{not-true, not-false}
 use Rattle.model.specs.Image.{wordAt}
-use Rattle.laws.proofs.Tests.{pass}
+use Rattle.laws.proofs.Tests.{pass, one-fails}
 use Rattle.header.proofs.Laws.{small}
 use Rattle.stored_tables.specs.Tests.{outputTermRowsFrom, outputPointsFrom}
-use Rattle.stored_tables.proofs.Lists.{fails, equal, differs}
+use Rattle.stored_tables.proofs.Lists.{equal, differs}
 use Rattle.stored_tables.proofs.Loops.{seen}
-use borrow.Author.Needs.{needs}
 use Rattle.stored_tables.proofs.terms_ok.Statement.{statement}
 use Rattle.stored_tables.proofs.terms_ok.Tie as tie
 
@@ -17,7 +16,7 @@ term-rows-requires : tie.Need-term-rows-requires
 term-rows-requires c κs = search needs
 
 returns : tie.Need-returns
-returns c = sym (fails _ 0 (sym (c .before .before .term-rows .ensures .0 .0) ∙ not-true _ (c .if1 .taken)))
+returns c = sym (one-fails _ 0 (sym (c .before .before .term-rows .ensures .0 .0) ∙ not-true _ (c .if1 .taken)))
 
 add-if2 : tie.Need-add-if2
 add-if2 c = search needs
@@ -31,7 +30,7 @@ returns-2 c =
     let w = wordAt (a .img .now) in
     let q = rows .term-rows .ensures .0 .1 (not-false _ (first .if1 .left)) in
     let d = differs _ _ _ (start .pre .0 .points) (c .if2 .taken) in
-    sym (fails _ 1 (seen (λ (p : ℕ). eqb (w 5) (p + a .n)) _ _ _ _ _ q refl d refl))
+    sym (one-fails _ 1 (seen (λ (p : ℕ). eqb (w 5) (p + a .n)) _ _ _ _ _ q refl d refl))
 
 singleton-rows-requires : tie.Need-singleton-rows-requires
 singleton-rows-requires c κs = let s = small (c .before .before .before .before .before .before .pre .0) in search needs
@@ -44,7 +43,7 @@ returns-3 c =
     let w = wordAt (a .img .now) in
     let q = rows .term-rows .ensures .0 .1 (not-false _ (first .if1 .left)) in
     let r = c .before .singleton-rows .ensures in
-    sym (fails _ 2 (seen (λ (p : ℕ). outputTermRowsFrom w (a .n) (a .k) p) _ _ _ _ _ q r (not-true _ (c .if3 .taken)) refl))
+    sym (one-fails _ 2 (seen (λ (p : ℕ). outputTermRowsFrom w (a .n) (a .k) p) _ _ _ _ _ q r (not-true _ (c .if3 .taken)) refl))
 
 singleton-points-requires : tie.Need-singleton-points-requires
 singleton-points-requires c κs = let s = small (c .before .before .before .before .before .before .before .before .pre .0) in search needs
@@ -57,7 +56,7 @@ returns-4 c =
     let w = wordAt (a .img .now) in
     let q = rows .term-rows .ensures .0 .1 (not-false _ (first .if1 .left)) in
     let r = c .before .singleton-points .ensures in
-    sym (fails _ 3 (seen (λ (p : ℕ). outputPointsFrom w (a .n) p) _ _ _ _ _ q r (not-true _ (c .if4 .taken)) refl))
+    sym (one-fails _ 3 (seen (λ (p : ℕ). outputPointsFrom w (a .n) p) _ _ _ _ _ q r (not-true _ (c .if4 .taken)) refl))
 
 returns-5 : tie.Need-returns-5
 returns-5 c =

@@ -15,7 +15,10 @@ same-length : tie.Need-same-length
 same-length c = search needs
 
 returns : tie.Need-returns
-returns c = let s = c .before .before .before .before .before .before .before in let e = length-take-le (s .args .n) (s .args .ws .now) (s .pre .0) in (c .before .before .copy .ensures, omega (arith, c .before .before .copy .ensures .next))
+returns c =
+    let s = c .before .before .before .before .before .before .before in
+    let e = length-take-le (s .args .n) (s .args .ws .now) (s .pre .0) in
+    (c .before .before .copy .ensures, omega (arith, c .before .before .copy .ensures .next))
 
 pub copy-front-spec : {M : Type 1} → statement M
 copy-front-spec = tie.close (tie.spec slice-aggregate-copy copy-requires same-length returns)
