@@ -8,3 +8,5 @@ pub mod Walk
 pub mod Refused
 pub mod Repetition
 pub mod DummyTree
+pub mod Search
+pub mod Slices

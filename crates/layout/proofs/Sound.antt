@@ -10,17 +10,17 @@ use lib.ListN.{length}
 use borrow.Author.Tests.{leb-true}
 use Rattle.model.specs.Basic.{all}
 use Rattle.model.specs.Bounds.{crispLimit}
-use Rattle.model.specs.Block.{inRange}
+use Rattle.model.specs.Block.{inputTerms, inRange}
 use Rattle.model.specs.Tokens.{isName, inCrisp}
 use Rattle.model.specs.WellFormed.{outputOk, singletonOk}
-use Rattle.model.specs.Image.{tab, singletonAt, outputAt, decode}
+use Rattle.model.specs.Image.{tab, termAt, singletonAt, outputAt, decode}
 use Rattle.laws.proofs.Lists.{all-at}
 use Rattle.laws.proofs.Tests.{both, passed}
 use Rattle.laws.proofs.Places.{length-tab}
-use Rattle.layout.specs.Tables.{sums, outputCount, inputTermsIn, outputRow, outputNext, outputRows}
+use Rattle.layout.specs.Tables.{sums, outputCount, inputTermsIn}
 use Rattle.layout.specs.Groups.{tablesOk, variablesOk, Sound}
-use Rattle.layout.proofs.TableLaws.{Runs, runs-from}
-use Rattle.layout.proofs.Parts.{outputFirst, output-row}
+use Rattle.layout.proofs.TableLaws.{Runs}
+use Rattle.layout.proofs.Parts.{outputFirst, outputFirsts-run, inputTerms-are}
 
 -- one first of a run
 pub runs-at : (f c : ℕ → ℕ) (k i p j : ℕ) → j < k → Runs f c k i p → f (i + j) ≡ p + sums c j i
@@ -35,11 +35,21 @@ unfolding sums
 sums-le c m zero i h = omega arith
 sums-le c m (suc k) i h = omega (arith, h i (omega arith), sums-le c m k (suc i) (λ j l. h j (omega arith)), suc-mul k m)
 
+module _ (w : ℕ → ℕ) (frame : tablesOk w ≡ true) where
+  pub input-terms : length (inputTerms (decode w)) ≡ inputTermsIn w
+  unfolding tablesOk
+  input-terms = ap length (inputTerms-are w (passed _ frame .1 .0)) ∙ length-tab (termAt w) (inputTermsIn w) 0
+
+  firsts-run : Runs (outputFirst w) (outputCount w) (w 3) 0 (inputTermsIn w)
+  unfolding tablesOk
+  firsts-run = outputFirsts-run w (passed _ frame .1 .1 .0)
+
+  pub first-is : (i : ℕ) → i < w 3 → outputFirst w i ≡ inputTermsIn w + sums (outputCount w) i 0
+  first-is i h = ap (outputFirst w) (omega arith) ∙ runs-at (outputFirst w) (outputCount w) (w 3) 0 (inputTermsIn w) i h firsts-run
+
 module _ (w : ℕ → ℕ) (s : Sound w) where
   pub outputs-run : Runs (outputFirst w) (outputCount w) (w 3) 0 (inputTermsIn w)
-  unfolding tablesOk outputRows
-  outputs-run =
-      runs-from outputRow outputNext (outputAt w) w (w 10) 11 (λ n. n) (outputFirst w) (outputCount w) (λ i n e. output-row w i n e) (w 3) 0 (inputTermsIn w) (passed _ (s .frame) .1 .1 .0)
+  outputs-run = firsts-run w (s .frame)
 
   pub outputs-few : w 3 ≤ 6
   unfolding variablesOk decode
@@ -60,9 +70,6 @@ module _ (w : ℕ → ℕ) (s : Sound w) where
       let l : length (outputAt w i .terms) ≤ 7 = leb-true _ _ (b .1) in
       omega (arith, length-tab (singletonAt w) (w (w 10 + i * 11 + 5)) (w (w 10 + i * 11 + 4)))
 
-  pub first-is : (i : ℕ) → i < w 3 → outputFirst w i ≡ inputTermsIn w + sums (outputCount w) i 0
-  first-is i h = ap (outputFirst w) (omega arith) ∙ runs-at (outputFirst w) (outputCount w) (w 3) 0 (inputTermsIn w) i h outputs-run
-
   -- the terms before output i
   pub before-few : (i : ℕ) → i < w 3 → sums (outputCount w) i 0 ≤ i * 7
   before-few i h = sums-le (outputCount w) 7 i 0 (λ j l. terms-few j (omega arith))
@@ -79,4 +86,4 @@ module _ (w : ℕ → ℕ) (s : Sound w) where
 
   -- in numbers
   pub output-numbers : (i : ℕ) → i < w 3 → (i ≤ 5) × (outputCount w i ≤ 7) × (inputTermsIn w ≤ outputFirst w i) × (outputFirst w i - inputTermsIn w + outputCount w i ≤ 42)
-  output-numbers i h = omega (arith, outputs-few, terms-few i h, first-is i h, before-few i h)
+  output-numbers i h = omega (arith, outputs-few, terms-few i h, first-is w (s .frame) i h, before-few i h)
