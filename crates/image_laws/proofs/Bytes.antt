@@ -29,7 +29,7 @@ use Rattle.laws.proofs.Each.{Each, each-passes, each-so, each-append, each-map,
 use Rattle.laws.proofs.Tests.{both, passed}
 use Rattle.words.proofs.Bytes.{word-fits}
 use Rattle.layout.specs.Rows.{laid}
-use Rattle.layout.specs.Tables.{inputRow, inputNext, outputRow, outputNext, termRow, termNext, ruleRow, ruleNext}
+use Rattle.layout.specs.Tables.{ruleRow, ruleNext}
 use Rattle.layout.proofs.TableLaws.{input-table, output-table, term-table, rule-table}
 use Rattle.image_laws.proofs.Fields.{Spelt, below}
 use Rattle.image_laws.proofs.Tables.{FineOutput}
@@ -95,44 +95,39 @@ held : {R A : Type 0} (items : R → List A) (n : ℕ) (r : R) (rs : List R) →
 unfolding gather
 held items n r rs h = let e = length-append (items r) (gather items rs) in (omega arith, omega arith, omega arith)
 
+-- rows of a name and more, that hold items of another table: how many, and the first of them
+module _ {R A : Type 0} (name : R → List ℕ) (items : R → List A) (more : ℕ → R → List ℕ) (Good : R → Type 0)
+         (spelt : (r : R) → Good r → Spelt (name r)) (fits : (n : ℕ) (r : R) → Good r → Fits n → Fits (length (items r)) → Each Fits (more n r)) where
+  named-fit : (n : ℕ) (rs : List R) → Each Good rs → Fits (n + length (gather items rs))
+      → Each Fits (laid (λ m r. nameWords (name r) ++ more m r) (λ m r. m + length (items r)) n rs)
+  named-fit n rs s l = laid-fits _ _ X row n rs (s, l)
+    where
+      X : ℕ → List R → Type 0
+      X m us = Each Good us × Fits (m + length (gather items us))
+
+      row : (m : ℕ) (r : R) (us : List R) → X m (r ∷ us) → Each Fits (nameWords (name r) ++ more m r) × X (m + length (items r)) us
+      row m r us x =
+          let q = held items m r us (x .1) in
+          (each-append Fits (nameWords (name r)) (more m r) (name-fits (name r) (spelt r (x .0 .0))) (fits m r (x .0 .0) (q .0) (q .1)), (x .0 .1, q .2))
+
 inputs-fit : (n : ℕ) (vs : List Input) → Each (λ v. Spelt (v .name)) vs → Fits (n + length (gather (λ v. v .terms) vs)) → Each Fits (inputTable n vs)
 inputs-fit n vs s l =
-    subst (Each Fits) (sym (input-table n vs)) (laid-fits inputRow inputNext X row n vs (s, l))
-  where
-    X : ℕ → List Input → Type 0
-    X m us = Each (λ v. Spelt (v .name)) us × Fits (m + length (gather (λ v. v .terms) us))
-
-    row : (m : ℕ) (v : Input) (us : List Input) → X m (v ∷ us) → Each Fits (inputRow m v) × X (inputNext m v) us
-    row m v us x =
-        let q = held (λ v. v .terms) m v us (x .1) in
-        (each-append Fits (nameWords (v .name)) _ (name-fits (v .name) (x .0 .0)) (type-fits (v .type), (q .0, (q .1, tt))), (x .0 .1, q .2))
+    subst (Each Fits) (sym (input-table n vs))
+    (named-fit (λ v. v .name) (λ v. v .terms) (λ m v. typeWord (v .type) ∷ m ∷ length (v .terms) ∷ []) (λ v. Spelt (v .name)) (λ v g. g)
+    (λ m v g f c. (type-fits (v .type), (f, (c, tt)))) n vs s l)
 
 outputs-fit : (n : ℕ) (vs : List Output) → Each FineOutput vs → Fits (n + length (gather (λ v. v .terms) vs)) → Each Fits (outputTable n vs)
 outputs-fit n vs s l =
-    subst (Each Fits) (sym (output-table n vs)) (laid-fits outputRow outputNext X row n vs (s, l))
-  where
-    X : ℕ → List Output → Type 0
-    X m us = Each FineOutput us × Fits (m + length (gather (λ v. v .terms) us))
-
-    row : (m : ℕ) (v : Output) (us : List Output) → X m (v ∷ us) → Each Fits (outputRow m v) × X (outputNext m v) us
-    row m v us x =
-        let q = held (λ v. v .terms) m v us (x .1) in
-        let f = x .0 .0 in
-        let d = default-fits (v .default) (f .default) in
-        let r = each-append Fits (rangeWords (v .range)) (defaultWords (v .default)) (range-fits (v .range) (f .range)) d in
-        (each-append Fits (nameWords (v .name)) _ (name-fits (v .name) (f .name)) (q .0, (q .1, r)), (x .0 .1, q .2))
+    subst (Each Fits) (sym (output-table n vs))
+    (named-fit (λ v. v .name) (λ v. v .terms) (λ m v. m ∷ length (v .terms) ∷ (rangeWords (v .range) ++ defaultWords (v .default))) FineOutput (λ v g. g .name)
+    (λ m v g f c.
+    let d = default-fits (v .default) (g .default) in
+    (f, (c, each-append Fits (rangeWords (v .range)) (defaultWords (v .default)) (range-fits (v .range) (g .range)) d))) n vs s l)
 
 terms-fit : (n : ℕ) (ts : List Term) → Each (λ t. Spelt (t .name)) ts → Fits (n + length (gather (λ t. t .points) ts)) → Each Fits (termTable n ts)
 terms-fit n ts s l =
-    subst (Each Fits) (sym (term-table n ts)) (laid-fits termRow termNext X row n ts (s, l))
-  where
-    X : ℕ → List Term → Type 0
-    X m us = Each (λ t. Spelt (t .name)) us × Fits (m + length (gather (λ t. t .points) us))
-
-    row : (m : ℕ) (t : Term) (us : List Term) → X m (t ∷ us) → Each Fits (termRow m t) × X (termNext m t) us
-    row m t us x =
-        let q = held (λ t. t .points) m t us (x .1) in
-        (each-append Fits (nameWords (t .name)) _ (name-fits (t .name) (x .0 .0)) (q .0, (q .1, tt)), (x .0 .1, q .2))
+    subst (Each Fits) (sym (term-table n ts))
+    (named-fit (λ t. t .name) (λ t. t .points) (λ m t. m ∷ length (t .points) ∷ []) (λ t. Spelt (t .name)) (λ t g. g) (λ m t g f c. (f, (c, tt))) n ts s l)
 
 abbrev Small : Rule → Type 0
 Small r = (r .number ≤ 65535) × (r .weight ≤ M)

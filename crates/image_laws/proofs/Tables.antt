@@ -17,12 +17,12 @@ use Rattle.model.specs.declared.InputType.the-variants.{Real, Int}
 use Rattle.model.specs.Tokens.{inCrisp}
 use Rattle.model.specs.Image.{crispOf, nameWords, nameAt, typeWord, rangeWords, defaultWords, pointWords, postfix, singletonTerm, terms, points, conclusionWords, tab, pointAt, termAt, singletonAt, inputAt, outputAt, conclusionAt, treeOf, ruleAt}
 use Rattle.laws.proofs.Conditions.{length-postfix}
-use Rattle.laws.proofs.Places.{At, at-shift, at-cut, tab-at}
+use Rattle.laws.proofs.Places.{At, at-shift, at-cut, tab-at, tab-from}
 use Rattle.layout.specs.Rows.{laid}
 use Rattle.layout.specs.Tables.{inputRow, inputNext, outputRow, outputNext, termRow, termNext, ruleRow, ruleNext, alone, onward}
 use Rattle.layout.proofs.TableLaws.{input-table, output-table, term-table, rule-table, gather-laid}
 use Rattle.layout.proofs.Parts.{wide-input, wide-output, wide-term}
-use Rattle.stored_conditions.proofs.Stored.{tab-from, tree-at}
+use Rattle.stored_conditions.proofs.Stored.{tree-at}
 use Rattle.laws.proofs.Each.{Each}
 use Rattle.image_laws.proofs.Fields.{Spelt, name-back, crisp-back}
 use Rattle.image_laws.proofs.Placed.{Placed}
