@@ -4,13 +4,16 @@ use mathlib.Core.Bool.{Bool, true, false, _&&_}
 use mathlib.Core.List.{List, map}
 use mathlib.Core.Logic.{_↔_}
 use mathlib.Core.Option.{Option, none, some}
-use Prim.Native.Nat.{ℕ}
+use Prim.Native.Nat.{ℕ, _%_}
 use native.Mathlib.Omega.{arith}
+use borrow.Author.Tests.{leb-true}
+use lib.Dec.{leb, eqb}
 use lib.IntN.{ℤ}
 use lib.Signed.{ltZ}
 use Rattle.model.specs.Basic.{if_then_else_, gather, same}
 use Rattle.model.specs.Outcome.{accepted, refused}
-use Rattle.model.specs.Block.{Term, Input, Range, Output, Block, inputTerms, outputTerms, inRange}
+use Rattle.model.specs.Bounds.{M}
+use Rattle.model.specs.Block.{Point, Term, Input, Range, Output, Block, inputTerms, outputTerms, inRange}
 use Rattle.model.specs.declared.Pair.{Pair}
 use Rattle.model.specs.declared.Pair.the-variants.{MinMax, ProdAsum, BdifBsum}
 use Rattle.model.specs.declared.Accumulation.{Accumulation}
@@ -26,14 +29,20 @@ use Rattle.words.proofs.Bytes.{words-at}
 use Rattle.laws.proofs.Each.{Each, each-passes, each-so, each-append, each-map, each-gather}
 use Rattle.image_laws.proofs.Fields.{Spelt, spelt, name-back}
 use Rattle.image_laws.proofs.Placed.{placed}
-use Rattle.image_laws.proofs.Tables.{FineOutput, Fine, inputs-back, outputs-back, rules-back}
+use Rattle.image_laws.proofs.Tables.{FinePoint, FineOutput, Fine, inputs-back, outputs-back, rules-back}
 
 -- WELL-FORMED BLOCKS: what reading back needs
-term-fine : (t : Term) → termOk t ≡ true → Spelt (t .name) × Each (λ p. inCrisp (p .at) ≡ true) (t .points)
-unfolding termOk pointOk
+point-fine : (p : Point) → pointOk p ≡ true → FinePoint p
+unfolding pointOk unitOk
+point-fine p h =
+    let r = both (inCrisp (p .at)) (unitOk (p .degree)) h in
+    (r .0, leb-true _ _ (both (leb (p .degree) M) (eqb (p .degree % 1000) 0) (r .1) .0))
+
+term-fine : (t : Term) → termOk t ≡ true → Spelt (t .name) × Each FinePoint (t .points)
+unfolding termOk
 term-fine t h =
     let r = passed _ h in
-    (spelt (t .name) (r .0), each-so (λ p k. both (inCrisp (p .at)) (unitOk (p .degree)) k .0) (t .points) (each-passes pointOk (t .points) (r .1 .1 .0)))
+    (spelt (t .name) (r .0), each-so point-fine (t .points) (each-passes pointOk (t .points) (r .1 .1 .0)))
 
 input-fine : (v : Input) → inputOk v ≡ true → Spelt (v .name) × Each (λ t. termOk t ≡ true) (v .terms)
 unfolding inputOk
@@ -67,7 +76,7 @@ singletons-fine v h =
     (spelt (s .name) (a .0), both (inCrisp (s .at)) (inRange (v .range) (s .at)) (a .1) .0))
     (v .terms) (each-passes (singletonOk (v .range)) (v .terms) (r .1 .1 .1 .0))
 
-fine : (b : Block) → wellFormed b ≡ true → Fine b
+pub fine : (b : Block) → wellFormed b ≡ true → Fine b
 unfolding wellFormed gather
 fine b h =
     let r = passed _ h in
@@ -84,7 +93,7 @@ fine b h =
           (each-map _ singletonTerm (outputTerms b) (each-so (λ s k. k .0) (outputTerms b) ss));
       points′ = each-gather _ (λ t. t .points) (terms b)
           (each-append _ (inputTerms b) (map singletonTerm (outputTerms b)) (each-so (λ t k. k .1) (inputTerms b) ts)
-          (each-map _ singletonTerm (outputTerms b) (each-so (λ s k. (k .1, tt)) (outputTerms b) ss)));
+          (each-map _ singletonTerm (outputTerms b) (each-so (λ s k. ((k .1, omega arith), tt)) (outputTerms b) ss)));
     }
 
 -- CODES

@@ -3,25 +3,26 @@ use mathlib.Core.Path.{_≡_, refl, ap, _∙_, subst}
 use mathlib.Core.Bool.{true}
 use mathlib.Core.List.{List, [], _∷_, _++_, map}
 use mathlib.Core.Option.{Option, none, some}
-use Prim.Native.Nat.{ℕ, zero, suc, _+_, _*_}
+use Prim.Native.Nat.{ℕ, zero, suc, _+_, _*_, _≤_}
 use native.Mathlib.Omega.{arith}
 use native.Mathlib.Nat.{suc-mul}
 use lib.Dec.{eqb}
 use lib.IntN.{ℤ}
 use lib.ListN.{length}
 use Rattle.model.specs.Basic.{if_then_else_, gather}
+use Rattle.model.specs.Bounds.{M}
 use Rattle.model.specs.Block.{Point, Term, Singleton, Input, Range, Output, Conclusion, Rule, Block, inputTerms, outputTerms, conclusions, size}
 use Rattle.model.specs.declared.InputType.{InputType}
 use Rattle.model.specs.declared.InputType.the-variants.{Real, Int}
 use Rattle.model.specs.Tokens.{inCrisp}
 use Rattle.model.specs.Image.{crispOf, nameWords, nameAt, typeWord, rangeWords, defaultWords, pointWords, postfix, singletonTerm, terms, points, conclusionWords, tab, pointAt, termAt, singletonAt, inputAt, outputAt, conclusionAt, treeOf, ruleAt}
 use Rattle.laws.proofs.Conditions.{length-postfix}
-use Rattle.laws.proofs.Places.{At, at-shift, at-cut, tab-at}
+use Rattle.laws.proofs.Places.{At, at-shift, at-cut, tab-at, tab-from}
 use Rattle.layout.specs.Rows.{laid}
 use Rattle.layout.specs.Tables.{inputRow, inputNext, outputRow, outputNext, termRow, termNext, ruleRow, ruleNext, alone, onward}
 use Rattle.layout.proofs.TableLaws.{input-table, output-table, term-table, rule-table, gather-laid}
 use Rattle.layout.proofs.Parts.{wide-input, wide-output, wide-term}
-use Rattle.stored_conditions.proofs.Stored.{tab-from, tree-at}
+use Rattle.stored_conditions.proofs.Stored.{tree-at}
 use Rattle.laws.proofs.Each.{Each}
 use Rattle.image_laws.proofs.Fields.{Spelt, name-back, crisp-back}
 use Rattle.image_laws.proofs.Placed.{Placed}
@@ -46,6 +47,9 @@ module _ {R S : Type 0} (enc : S → R → List ℕ) (next : S → R → S) (dec
       rows-from 0 σ rs (at-shift w o (o + 0 * s) (laid enc next σ rs) z (subst (λ (m : List ℕ). At w o m) e a)) x
 
 -- what is needed of the entries
+abbrev pub FinePoint : Point → Type 0
+FinePoint q = (inCrisp (q .at) ≡ true) × (q .degree ≤ M)
+
 pub record FineOutput (v : Output) : Type 0 where
   pub name : Spelt (v .name)
   pub range : (g : Range) → v .range ≡ some g → (inCrisp (g .least) ≡ true) × (inCrisp (g .most) ≡ true)
@@ -57,7 +61,7 @@ pub record Fine (b : Block) : Type 0 where
   pub inputs : Each (λ v. Spelt (v .name)) (b .inputs)
   pub outputs : Each FineOutput (b .outputs)
   pub terms′ : Each (λ t. Spelt (t .name)) (terms b)
-  pub points′ : Each (λ p. inCrisp (p .at) ≡ true) (points b)
+  pub points′ : Each FinePoint (points b)
 
 module _ (w : ℕ → ℕ) (b : Block) (f : Fine b) (p : Placed w b) where
   -- a word further on in a row
@@ -67,14 +71,14 @@ module _ (w : ℕ → ℕ) (b : Block) (f : Fine b) (p : Placed w b) where
   points-back : At (pointAt w) 0 (points b)
   unfolding pointAt
   points-back =
-      rows-back (alone pointWords) onward (pointAt w) w (w 12) 2 (λ σ q. refl) (λ σ ps. Each (λ q. inCrisp (q .at) ≡ true) ps) row
+      rows-back (alone pointWords) onward (pointAt w) w (w 12) 2 (λ σ q. refl) (λ σ ps. Each FinePoint ps) row
       tt (points b) _ (gather-laid pointWords (points b)) (p .pointsAt) (f .points′)
     where
-      row : (i : ℕ) (σ : Unit {0}) (q : Point) (qs : List Point) → At w (w 12 + i * 2) (pointWords q) → Each (λ x. inCrisp (x .at) ≡ true) (q ∷ qs)
-          → (pointAt w i ≡ q) × Each (λ x. inCrisp (x .at) ≡ true) qs
+      row : (i : ℕ) (σ : Unit {0}) (q : Point) (qs : List Point) → At w (w 12 + i * 2) (pointWords q) → Each FinePoint (q ∷ qs)
+          → (pointAt w i ≡ q) × Each FinePoint qs
       row i σ q qs a x =
           let o = w 12 + i * 2 in
-          let ea : crispOf (w o) ≡ q .at = ap crispOf (a .0) ∙ crisp-back (q .at) (x .0) in
+          let ea : crispOf (w o) ≡ q .at = ap crispOf (a .0) ∙ crisp-back (q .at) (x .0 .0) in
           let ed : w (o + 1) ≡ q .degree = on o 1 (suc o) (omega arith) ∙ a .1 .0 in
           ((λ j. record { at = ea j; degree = ed j }), x .1)
 
