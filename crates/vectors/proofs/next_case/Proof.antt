@@ -29,7 +29,8 @@ slice-relend-prefix-read-full c = search needs
 slice-aggregate-read-full-2 : tie.Need-slice-aggregate-read-full-2
 slice-aggregate-read-full-2 c =
     let p = c .before in
-    sym (length-take-le (p .before .word .result) (p .before .before .before .before .before .before .before .before .args .buf .now) (omega (arith, p .if2 .left)))
+    let s = p .before .before .before .before .before .before .before .before in
+    sym (length-take-le (p .before .word .result) (s .args .buf .now) (omega (arith, p .if2 .left)))
 
 read-full-requires-2 : tie.Need-read-full-requires-2
 read-full-requires-2 c κs = search needs
