@@ -1,10 +1,12 @@
 use mathlib.Core.Path.{sym, _∙_}
+use Prim.Native.Nat.{_-_}
+use borrow.Author.Needs.{needs}
 use borrow.Author.Tests.{not-true, not-false}
+use Rattle.laws.proofs.Tests.{pass}
 use Rattle.stored_tables.proofs.Lists.{fails, equal, differs, within, over}
 use borrow.Author.Needs.{needs}
 use Rattle.stored_tables.proofs.codes_ok.Statement.{statement}
 use Rattle.stored_tables.proofs.codes_ok.Tie as tie
-use Rattle.laws.proofs.Tests.{pass}
 
 word-requires : tie.Need-word-requires
 word-requires c κs = search needs
@@ -43,7 +45,29 @@ returns-6 : tie.Need-returns-6
 returns-6 c = sym (fails _ 5 (sym (c .before .name-exact2 .ensures) ∙ not-true _ (c .if6 .taken)))
 
 returns-7 : tie.Need-returns-7
-returns-7 c = sym (pass _ (within _ _ _ (c .before .before .before .before .before .before .before .before .before .before .before .word .ensures .0) (c .before .before .before .before .before .before .before .before .before .before .if1 .left), (within _ _ _ (c .before .before .before .before .before .before .before .before .before .word2 .ensures .0) (c .before .before .before .before .before .before .before .before .if2 .left), (within _ _ _ (c .before .before .before .before .before .before .before .word3 .ensures .0) (c .before .before .before .before .before .before .if3 .left), (equal _ _ _ (c .before .before .before .before .before .word4 .ensures .0) (c .before .before .before .before .if4 .left), (sym (c .before .before .before .name-exact .ensures) ∙ not-false _ (c .before .before .if5 .left), (sym (c .before .name-exact2 .ensures) ∙ not-false _ (c .if6 .left), tt)))))))
+returns-7 c =
+    let name = c .before .before in
+    let spare = name .before .before in
+    let act = spare .before .before in
+    let accu = act .before .before in
+    let pair = accu .before .before in
+    sym
+    (pass _ (
+      within _ _ _ (pair .before .word .ensures .0) (pair .if1 .left),
+      (
+        within _ _ _ (accu .before .word2 .ensures .0) (accu .if2 .left),
+        (
+          within _ _ _ (act .before .word3 .ensures .0) (act .if3 .left),
+          (
+            equal _ _ _ (spare .before .word4 .ensures .0) (spare .if4 .left),
+            (
+              sym (name .before .name-exact .ensures) ∙ not-false _ (name .if5 .left),
+              (sym (c .before .name-exact2 .ensures) ∙ not-false _ (c .if6 .left), tt),
+            ),
+          ),
+        ),
+      ),
+    ))
 
 pub codes-ok-spec : {M : Type 1} → statement M
 codes-ok-spec =

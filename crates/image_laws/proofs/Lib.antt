@@ -1,0 +1,4 @@
+pub mod Fields
+pub mod Placed
+pub mod Tables
+pub mod Loads
