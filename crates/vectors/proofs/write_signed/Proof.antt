@@ -19,10 +19,10 @@ write-all-requires-2 : tie.Need-write-all-requires-2
 write-all-requires-2 c κs = search needs
 
 sub-print-decimal : tie.Need-sub-print-decimal
-sub-print-decimal c = minus-fits (stored (c .before .before .before .before .before .args .x .0)) (c .before .before .before .if1 .left) (c .before .before .if2 .taken)
+sub-print-decimal c = let p = c .before .before in minus-fits (stored (p .before .before .before .args .x .0)) (p .before .if1 .left) (p .if2 .taken)
 
 cast-print-decimal : tie.Need-cast-print-decimal
-cast-print-decimal c = minus-casts (stored (c .before .before .before .before .before .args .x .0)) (c .before .before .before .if1 .left) (c .before .before .if2 .taken)
+cast-print-decimal c = let p = c .before .before in minus-casts (stored (p .before .before .before .args .x .0)) (p .before .if1 .left) (p .if2 .taken)
 
 print-decimal-requires : tie.Need-print-decimal-requires
 print-decimal-requires c κs = search needs
