@@ -135,6 +135,16 @@ tab-ext f g (suc n) p q e =
     let r = tab-ext f g n (suc p) (suc q) (λ k h. ap f (omega arith) ∙ e (suc k) (omega arith) ∙ ap g (omega arith)) in
     λ j. (ap f (sym a) ∙ z ∙ ap g b) j ∷ r j
 
+-- places counted from o on
+pub tab-from : {A : Type 0} (f : ℕ → A) (o n i : ℕ) → tab (λ k. f (o + k)) n i ≡ tab f n (o + i)
+tab-from f o n i = tab-ext (λ k. f (o + k)) f n i (o + i) (λ k h. ap f (omega arith))
+
+pub take-tab : {A : Type 0} (f : ℕ → A) (n i p : ℕ) → i ≤ n → take i (tab f n p) ≡ tab f i p
+unfolding tab
+take-tab f n zero p h = refl
+take-tab f zero (suc i) p h = absurd (omega arith)
+take-tab {A} f (suc n) (suc i) p h = ap (λ (l : List A). f p ∷ l) (take-tab f n i (suc p) (omega arith))
+
 -- an element of an array whose first n are values of f
 pub element : {A B : Type 0} (π : A → B) (xs : List A) (f : ℕ → B) (n p k : ℕ) (d : A) → map π (take n xs) ≡ tab f n p → k < n → π (getD xs k d) ≡ f (p + k)
 element {B = B} π xs f n p k d e h =

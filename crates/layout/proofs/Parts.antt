@@ -14,6 +14,7 @@ use Rattle.laws.proofs.Lists.{map-tab, gather-append}
 use Rattle.laws.proofs.Tests.{both}
 use Rattle.laws.proofs.Places.{length-tab, same-eq}
 use Rattle.layout.specs.Tables.{inputRow, inputNext, outputRow, outputNext, termRow, termNext, ruleRow, ruleNext, outputTermAt, outputPointAt, inputCount, outputCount, outputFirstAt, termCount, wordCount, conclusionCount, inputTermsIn, outputTermsIn, inputPointsIn, wordsIn, conclusionsIn, inputRows, outputRows, inputTermRows, outputTermRows, ruleRows, conditionExact, conditionRows}
+pub use Rattle.layout.specs.Tables.{outputFirstAt as outputFirst}
 use Rattle.layout.proofs.RowLaws.{stands}
 use Rattle.layout.proofs.TableLaws.{Each, each, Runs, runs-from, gather-runs, sums-one}
 
@@ -119,11 +120,16 @@ module _ (w : ℕ → ℕ) where
   inputTerms-are h =
       gather-runs (λ v. v .terms) (inputAt w) (termAt w) inputFirst (inputCount w) (w 2) 0 0 (each _ (λ j. refl) (w 2) 0) (inputFirsts-run h)
 
+  pub outputFirsts-run : outputRows w ≡ true → Runs (outputFirstAt w) (outputCount w) (w 3) 0 (inputTermsIn w)
+  unfolding outputRows
+  outputFirsts-run h =
+      runs-from outputRow outputNext (outputAt w) w (w 10) 11 (λ n. n) (outputFirstAt w) (outputCount w) (λ i n e. output-row i n e) (w 3) 0 (inputTermsIn w) h
+
   pub outputTerms-are : outputRows w ≡ true → outputTerms (decode w) ≡ tab (singletonAt w) (outputTermsIn w) (inputTermsIn w)
-  unfolding outputRows decode outputAt
+  unfolding decode outputAt
   outputTerms-are h =
       gather-runs (λ v. v .terms) (outputAt w) (singletonAt w) (outputFirstAt w) (outputCount w) (w 3) 0 (inputTermsIn w) (each _ (λ j. refl) (w 3) 0)
-      (runs-from outputRow outputNext (outputAt w) w (w 10) 11 (λ n. n) (outputFirstAt w) (outputCount w) (λ i n e. output-row i n e) (w 3) 0 (inputTermsIn w) h)
+      (outputFirsts-run h)
 
   pub terms-are : inputRows w ≡ true → outputRows w ≡ true
       → terms (decode w) ≡ tab (termAt w) (inputTermsIn w) 0 ++ tab (outputTermAt w) (outputTermsIn w) (inputTermsIn w)

@@ -44,7 +44,9 @@ push-requires c κs = search needs
 returns-2 : tie.Need-returns-2
 returns-2 c =
     let h : 0 < c .before .before .before .before .before .args .t1 .height = omega arith in
-    ((λ m. c .push .ensures .0 m ∙ laws.negate-is m _ _ _ _ h (c .before .negated-form .ensures) (c .before .before .opening .ensures)), search needs)
+    let f = c .before .negated-form .ensures in
+    let d = c .before .before .opening .ensures in
+    ((λ m. c .push .ensures .0 m ∙ laws.negate-is m _ _ _ _ h f d), search needs)
 
 pub negate-spec : {M : Type 1} → statement M
 negate-spec =
