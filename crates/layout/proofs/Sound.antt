@@ -51,7 +51,7 @@ module _ (w : ℕ → ℕ) (frame : tablesOk w ≡ true) where
   pub output-first : (i : ℕ) → i < w 3 → outputFirst i (decode w) ≡ outputFirstAt w i
   unfolding outputFirst decode outputAt
   output-first i h =
-      let size = λ (v : Output). length (v .terms) in
+      let size : Output → ℕ = λ v. length (v .terms) in
       let counts = total-sums size (outputAt w) (outputCount w) (λ j. length-tab (singletonAt w) (outputCount w j) (outputFirstAt w j)) i 0 in
       (λ j. input-terms j + total size (take-tab (outputAt w) (w 3) i 0 (omega arith) j))
       ∙ ap (λ (k : ℕ). inputTermsIn w + k) counts
