@@ -17,8 +17,14 @@ use Rattle.block_tables.specs.declared.Tables.{Tables}
 use Rattle.block_tables.specs.View.{inputRow, outputRow, inputView, outputView, termView, singletonView, inputsView, outputsView, Holds}
 use Rattle.block_updates.proofs.Lookups as lookups
 use Rattle.symbol_table.specs.Symbols.{Symbols, Describes, first, among}
-use Rattle.block_symbols.specs.Firsts.{termsAt, sums, Firsts}
+use Rattle.block_symbols.specs.Firsts.{sums, Firsts}
 use Rattle.block_symbols.proofs.Sums as sum
+
+-- the terms of variable v; none where it is not declared
+abbrev pub termsAt : Tables → ℕ → ℕ
+termsAt t v =
+    if ltb v 8 then (if ltb v (t .«input_count») then inputRow t v .terms else 0)
+    else (if ltb (v - 8) (t .«output_count») then outputRow t (v - 8) .terms else 0)
 
 -- THE LOOPS
 pub firsts-none : (c : ℕ → ℕ) (r : List ℕ) → getD r 0 0 ≡ 0 → Firsts c 0 r
@@ -34,14 +40,16 @@ firsts-at {r} {i} c z f = record { first = λ v h. f .first v (omega arith) }
 pub at-eight : (r : List ℕ) (i : ℕ) → i ≡ 8 → getD r i 0 ≤ i * 7 → getD r 8 0 ≤ 56
 at-eight r i z h = let e = ap (λ (k : ℕ). getD r k 0) z in omega arith
 
-pub bounded-on : (r : List ℕ) (i k : ℕ) → length r ≡ 17 → i < 6 → getD r (8 + i) 0 ≤ 56 + i * 7 → k ≤ 7 → getD (set r (8 + i + 1) (getD r (8 + i) 0 + k)) (8 + (i + 1)) 0 ≤ 56 + (i + 1) * 7
+pub bounded-on : (r : List ℕ) (i k : ℕ) → length r ≡ 17 → i < 6 → getD r (8 + i) 0 ≤ 56 + i * 7 → k ≤ 7
+    → getD (set r (8 + i + 1) (getD r (8 + i) 0 + k)) (8 + (i + 1)) 0 ≤ 56 + (i + 1) * 7
 bounded-on r i k l h a b =
     let e = sum.last-is r (8 + i) k l (omega arith) in
     let z : 8 + i + 1 ≡ 8 + (i + 1) = omega arith in
     let y = ap (λ (v : ℕ). getD (set r (8 + i + 1) (getD r (8 + i) 0 + k)) v 0) z in
     omega arith
 
-pub firsts-on : (r : List ℕ) (i k : ℕ) → length r ≡ 17 → i < 6 → (c : ℕ → ℕ) → Firsts c (8 + i) r → k ≡ c (8 + i) → Firsts c (8 + (i + 1)) (set r (8 + i + 1) (getD r (8 + i) 0 + k))
+pub firsts-on : (r : List ℕ) (i k : ℕ) → length r ≡ 17 → i < 6 → (c : ℕ → ℕ) → Firsts c (8 + i) r → k ≡ c (8 + i)
+    → Firsts c (8 + (i + 1)) (set r (8 + i + 1) (getD r (8 + i) 0 + k))
 firsts-on r i k l h c f e = let q = sum.firsts-more r (8 + i) k l (omega arith) c f e in record { first = λ v b. q .first v (omega arith) }
 
 pub firsts-on-at : {r : List ℕ} {i : ℕ} (c : ℕ → ℕ) → i ≡ 6 → Firsts c (8 + i) r → Firsts c 14 r
@@ -111,7 +119,8 @@ module _ (t : Tables) (r : List ℕ) (l : length r ≡ 17) (f : Firsts (termsAt 
       counted i h =
           let q = g .inputCount in
           sum.total-tab (λ (v : block.Input). length (v .terms)) (inputView s t) i
-          ∙ sum.sums-ext (λ k. length (inputView s t k .terms)) (termsAt t) i (λ v m. length-tab (termView s t v) (inputRow t v .terms) 0 ∙ sym (input-terms v (omega arith) (omega arith)))
+          ∙ sum.sums-ext (λ k. length (inputView s t k .terms)) (termsAt t) i
+          (λ v m. length-tab (termView s t v) (inputRow t v .terms) 0 ∙ sym (input-terms v (omega arith) (omega arith)))
 
       input-firsts : (i : ℕ) → i < t .«input_count» → inputFirst i b ≡ sums (termsAt t) i
       unfolding inputFirst
@@ -127,17 +136,20 @@ module _ (t : Tables) (r : List ℕ) (l : length r ≡ 17) (f : Firsts (termsAt 
           let m : ℕ = t .«input_count» in
           let z : m + (8 - m) ≡ 8 = omega arith in
           ap (sums (termsAt t)) (sym z) ∙ sum.sums-split (termsAt t) m (8 - m)
-          ∙ ap (λ (k : ℕ). sums (termsAt t) m + k) (sum.sums-ext (λ k. termsAt t (m + k)) (λ k. 0) (8 - m) (λ v h. input-none (m + v) (omega arith) (omega arith)) ∙ sum.sums-none (8 - m))
+          ∙ ap (λ (k : ℕ). sums (termsAt t) m + k) (sum.sums-ext (λ k. termsAt t (m + k)) (λ k. 0) (8 - m)
+          (λ v h. input-none (m + v) (omega arith) (omega arith)) ∙ sum.sums-none (8 - m))
           ∙ omega arith
 
       output-firsts : (o : ℕ) → o < t .«output_count» → outputFirst o b ≡ sums (termsAt t) (8 + o)
       unfolding outputFirst outputView
       output-firsts o h =
-          (λ j. (ap (λ (vs : List block.Input). length (gather (λ v. v .terms) vs)) bi ∙ sum.length-gather (λ (v : block.Input). v .terms) (inputsView s t) ∙ counted (t .«input_count») (omega arith) ∙ sym to-eight) j
+          (λ j. (ap (λ (vs : List block.Input). length (gather (λ v. v .terms) vs)) bi
+          ∙ sum.length-gather (λ (v : block.Input). v .terms) (inputsView s t) ∙ counted (t .«input_count») (omega arith) ∙ sym to-eight) j
           + (ap (λ (vs : List block.Output). total (λ v. length (v .terms)) (take o vs)) bo
           ∙ ap (total (λ v. length (v .terms))) (sum.take-tab (outputView s t) (t .«output_count») o 0 (omega arith))
           ∙ sum.total-tab (λ (v : block.Output). length (v .terms)) (outputView s t) o
-          ∙ sum.sums-ext (λ k. length (outputView s t k .terms)) (λ k. termsAt t (8 + k)) o (λ v m. length-tab (singletonView s t v) (outputRow t v .terms) 0 ∙ sym (output-terms v (omega arith)))) j)
+          ∙ sum.sums-ext (λ k. length (outputView s t k .terms)) (λ k. termsAt t (8 + k)) o
+          (λ v m. length-tab (singletonView s t v) (outputRow t v .terms) 0 ∙ sym (output-terms v (omega arith)))) j)
           ∙ sym (sum.sums-split (termsAt t) 8 o)
 
       pub describes : Describes s (t .names) whole b
@@ -149,12 +161,16 @@ module _ (t : Tables) (r : List ℕ) (l : length r ≡ 17) (f : Firsts (termsAt 
             outputs = lookups.outputs-count s t b bo ∙ sym outputs-are;
             input = λ w. lookups.input-of s t b bi w ∙ ap (λ (n : ℕ). among s (t .names) w n 0) (sym inputs-are);
             output = λ w. lookups.output-of s t b bo w ∙ ap (λ (n : ℕ). among s (t .names) w n 8) (sym outputs-are);
-            terms = λ i h. let k : i < t .«input_count» = omega (arith, inputs-are) in lookups.terms-count s t b bi i k ∙ sym (count-is i (omega arith) ∙ input-terms i (omega arith) k);
-            singletons = λ o h. let k : o < t .«output_count» = omega (arith, outputs-are) in lookups.singletons-count s t b bo o k ∙ sym (count-is (8 + o) (omega arith) ∙ output-terms o k);
+            terms = λ i h. let k : i < t .«input_count» = omega (arith, inputs-are) in
+                lookups.terms-count s t b bi i k ∙ sym (count-is i (omega arith) ∙ input-terms i (omega arith) k);
+            singletons = λ o h. let k : o < t .«output_count» = omega (arith, outputs-are) in
+                lookups.singletons-count s t b bo o k ∙ sym (count-is (8 + o) (omega arith) ∙ output-terms o k);
             term = λ w i h. let k : i < t .«input_count» = omega (arith, inputs-are) in
-                lookups.term-of s t b bi w i k ∙ ap (λ (n : ℕ). among s (t .names) w n (14 + i * 7)) (sym (count-is i (omega arith) ∙ input-terms i (omega arith) k));
+                lookups.term-of s t b bi w i k ∙ ap (λ (n : ℕ). among s (t .names) w n (14 + i * 7))
+                (sym (count-is i (omega arith) ∙ input-terms i (omega arith) k));
             singleton = λ w o h. let k : o < t .«output_count» = omega (arith, outputs-are) in
-                lookups.singleton-of s t b bo w o k ∙ ap (λ (n : ℕ). among s (t .names) w n (14 + (8 + o) * 7)) (sym (count-is (8 + o) (omega arith) ∙ output-terms o k));
+                lookups.singleton-of s t b bo w o k ∙ ap (λ (n : ℕ). among s (t .names) w n (14 + (8 + o) * 7))
+                (sym (count-is (8 + o) (omega arith) ∙ output-terms o k));
             inputFirst = λ i h. let k : i < t .«input_count» = omega (arith, inputs-are) in input-firsts i k ∙ sym (first-is i (omega arith));
             outputFirst = λ o h. let k : o < t .«output_count» = omega (arith, outputs-are) in output-firsts o k ∙ sym (first-is (8 + o) (omega arith));
           }

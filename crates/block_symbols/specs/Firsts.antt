@@ -1,18 +1,9 @@
--- Where the terms of each variable start, counted over all variables: inputs first, outputs from 8 on.
+-- A helper: where the terms of each variable start, counted over all variables: inputs first, outputs from 8 on.
+-- `Describes` of symbol_table, which `symbols_of` ensures, ties it to a block of the model.
 use mathlib.Core.Path.{_≡_}
 use mathlib.Core.List.{List}
-use Prim.Native.Nat.{ℕ, zero, suc, _+_, _-_, _≤_}
-use lib.Dec.{ltb}
+use Prim.Native.Nat.{ℕ, zero, suc, _+_, _≤_}
 use lib.ListN.{getD}
-use Rattle.model.specs.Basic.{if_then_else_}
-use Rattle.block_tables.specs.declared.Tables.{Tables}
-use Rattle.block_tables.specs.View.{inputRow, outputRow}
-
--- the terms of variable v; none where it is not declared
-abbrev pub termsAt : Tables → ℕ → ℕ
-termsAt t v =
-    if ltb v 8 then (if ltb v (t .«input_count») then inputRow t v .terms else 0)
-    else (if ltb (v - 8) (t .«output_count») then outputRow t (v - 8) .terms else 0)
 
 unfoldable pub sums : (ℕ → ℕ) → ℕ → ℕ
 sums c zero = 0

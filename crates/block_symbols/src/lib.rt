@@ -12,6 +12,7 @@ ghost use Rattle.block_symbols.specs.Firsts.{Firsts};
 use block_tables::Input;
 use block_tables::Output;
 use block_tables::Tables;
+use symbol_table::SymbolTable;
 
 // The terms of a row, if it is one of the first n.
 fn among(i: usize, n: usize, terms: usize) -> usize
@@ -24,7 +25,7 @@ fn among(i: usize, n: usize, terms: usize) -> usize
     0
 }
 
-fn with_inputs(symbols: [usize; 17], rows: [Input; 8], n: usize) -> [usize; 17]
+fn with_inputs(symbols: SymbolTable, rows: [Input; bounds::INPUTS], n: usize) -> SymbolTable
     requires { ⌜ (getD symbols 0 0 ≡ 0) × ((i : ℕ) → getD rows i no-input .terms ≤ 7) ⌝ }
     ensures { λ r. ⌜ ((c : ℕ → ℕ) → ((i : ℕ) → i < 8 → c i ≡ (if ltb i n then getD rows i no-input .terms else 0))
         → Firsts c 8 r) ⌝ }
@@ -32,7 +33,7 @@ fn with_inputs(symbols: [usize; 17], rows: [Input; 8], n: usize) -> [usize; 17]
 {
     let mut r = symbols;
     let mut i = 0;
-    while i < 8 {
+    while i < bounds::INPUTS {
         let v = rows[i];
         let k = among(i, n, v.terms);
         r[i + 1] = r[i] + k;
@@ -41,23 +42,23 @@ fn with_inputs(symbols: [usize; 17], rows: [Input; 8], n: usize) -> [usize; 17]
     r
 }
 
-fn with_outputs(symbols: [usize; 17], rows: [Output; 6], n: usize) -> [usize; 17]
+fn with_outputs(symbols: SymbolTable, rows: [Output; bounds::OUTPUTS], n: usize) -> SymbolTable
     requires { ⌜ (getD symbols 8 0 ≤ 56) × ((i : ℕ) → getD rows i no-output .terms ≤ 7) ⌝ }
     ensures { λ r. ⌜ ((c : ℕ → ℕ) → Firsts c 8 symbols
         → ((i : ℕ) → i < 6 → c (8 + i) ≡ (if ltb i n then getD rows i no-output .terms else 0)) → Firsts c 14 r) ⌝ }
 {
     let mut r = symbols;
     let mut i = 0;
-    while i < 6 {
+    while i < bounds::OUTPUTS {
         let v = rows[i];
         let k = among(i, n, v.terms);
-        r[8 + i + 1] = r[8 + i] + k;
+        r[bounds::INPUTS + i + 1] = r[bounds::INPUTS + i] + k;
         i += 1;
     }
     r
 }
 
-pub fn symbols_of(t: Tables) -> [usize; 17]
+pub fn symbols_of(t: Tables) -> SymbolTable
     requires { ⌜ ((i : ℕ) → getD (t .inputs) i no-input .terms ≤ 7)
         × ((o : ℕ) → getD (t .outputs) o no-output .terms ≤ 7) ⌝ }
     ensures { λ r. ⌜ ((s : List ℕ) → Holds s t → Symbols s (t .names) r) ⌝ }
@@ -67,10 +68,10 @@ pub fn symbols_of(t: Tables) -> [usize; 17]
     let m = t.input_count;
     let n = t.output_count;
     let inputs = t.inputs;
-    let a = with_inputs([0; 17], inputs, m);
+    let a = with_inputs([0; symbol_table::OUTPUT_COUNT + 1], inputs, m);
     let outputs = t.outputs;
     let mut r = with_outputs(a, outputs, n);
-    r[15] = m;
-    r[16] = n;
+    r[symbol_table::INPUT_COUNT] = m;
+    r[symbol_table::OUTPUT_COUNT] = n;
     r
 }

@@ -1,4 +1,5 @@
--- Rules as they are kept while a text is read: four words for each rule, and their condition words and conclusions one after the other.
+-- A helper: rules as they are kept while a text is read: four words for each rule, and their condition words and
+-- conclusions one after the other. The contract of `image::store` ties them to the model's `image`.
 use mathlib.Core.Path.{_≡_}
 use mathlib.Core.List.{List, [], _∷_}
 use Prim.Native.Nat.{ℕ, _*_, _≤_}

@@ -1,4 +1,5 @@
--- The block that the tables stand for.
+-- A helper: the block that the tables stand for, a `Block` of the model. The contracts of block_updates tie it to the
+-- model's rules, that of `image::store` to its `image`.
 use mathlib.Core.Path.{_≡_}
 use mathlib.Core.Bool.{false}
 use mathlib.Core.List.{List, []}

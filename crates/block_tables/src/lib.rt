@@ -1,6 +1,6 @@
-// The fixed tables that a text is read into, by value: 8 inputs, 6 outputs, 7 terms each, 4 points a term. Names are
-// places in the text: name v is that of variable v, inputs first and outputs from 8 on, and name 14 + 7v + j that of
-// its term j.
+// The fixed tables that a text is read into, by value, and the arrays for its rules. Names are places in the text
+// (lookup); term j of a variable stands in place TERMS * v + j among those of its kind.
+use lookup::Names;
 use model::Crisp;
 use model::Degree;
 
@@ -24,18 +24,21 @@ pub struct Point {
     pub degree: Degree,
 }
 
-// start, end: the block's name. counts: the points of each input term; points: 4 places for each.
+// How many points each input term has.
+pub type PointCounts = [usize; bounds::INPUT_TERMS];
+
+// start, end: the block's name. points: POINTS places for each input term.
 pub struct Tables {
     pub start: usize,
     pub end: usize,
     pub input_count: usize,
     pub output_count: usize,
-    pub names: [usize; 224],
-    pub inputs: [Input; 8],
-    pub outputs: [Output; 6],
-    pub counts: [usize; 56],
-    pub points: [Point; 224],
-    pub singletons: [Crisp; 42],
+    pub names: Names,
+    pub inputs: [Input; bounds::INPUTS],
+    pub outputs: [Output; bounds::OUTPUTS],
+    pub counts: PointCounts,
+    pub points: [Point; bounds::INPUT_POINTS],
+    pub singletons: [Crisp; bounds::OUTPUT_TERMS],
 }
 
 // What a rule block begins with: the place of its name, and the words of its algorithms.
@@ -46,6 +49,18 @@ pub struct Heading {
     pub accu: u32,
     pub act: u32,
 }
+
+// A rule as it is kept: its number, how many condition words and conclusions it has, and its weight.
+pub const RULE_WIDTH: usize = 4;
+
+pub type Rules = [u32; bounds::RULES * RULE_WIDTH];
+
+pub type Words = [u32; bounds::WORDS];
+
+// A conclusion as it is kept: output and term.
+pub const CONCLUSION_WIDTH: usize = 2;
+
+pub type Conclusions = [u32; bounds::CONCLUSIONS * CONCLUSION_WIDTH];
 
 // How many rules, condition words and conclusions are kept beside the tables.
 pub struct Totals {

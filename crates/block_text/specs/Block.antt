@@ -1,4 +1,5 @@
--- The text of a function block before its rule block and behind it.
+-- A helper: the text of a function block before its rule block and behind it. `parts` of reader/proofs/Laws ties both
+-- to the model's `functionBlock`.
 use mathlib.Core.Path.{_≡_}
 use mathlib.Core.Bool.{Bool}
 use mathlib.Core.List.{List}

@@ -9,14 +9,15 @@ ghost use Rattle.cursor.specs.View.{seen, Fits};
 ghost use Rattle.parse_state.specs.Reads.{view, Good, Reads};
 ghost use Rattle.symbol_table.specs.Symbols.{Describes, inputCount, outputCount};
 ghost use Rattle.block_text.specs.Block.{variablesText, frontText, backText, haveTerms, Ends};
-use cursor::Cursor;
-use model::Crisp;
-use model::Degree;
-use parse_state::ParseState;
 use block_tables::Input;
 use block_tables::Output;
 use block_tables::Point;
 use block_tables::Tables;
+use cursor::Cursor;
+use model::Crisp;
+use model::Degree;
+use parse_state::ParseState;
+use symbol_table::SymbolTable;
 
 fn empty_tables() -> Tables
     ensures { λ r. ⌜ ((s : List ℕ) → blockView s r ≡ emptyBlock) ⌝ }
@@ -44,12 +45,12 @@ fn empty_tables() -> Tables
         end: 0,
         input_count: 0,
         output_count: 0,
-        names: [0; 224],
-        inputs: [i; 8],
-        outputs: [o; 6],
-        counts: [0; 56],
-        points: [p; 224],
-        singletons: [z; 42],
+        names: [0; lookup::ENDS + bounds::NAMES],
+        inputs: [i; bounds::INPUTS],
+        outputs: [o; bounds::OUTPUTS],
+        counts: [0; bounds::INPUT_TERMS],
+        points: [p; bounds::INPUT_POINTS],
+        singletons: [z; bounds::OUTPUT_TERMS],
     }
 }
 
@@ -94,7 +95,7 @@ pub fn front(s: &[u8]) -> ParseState
 }
 
 // Whether each of n variables from v on has a term.
-fn have_terms(symbols: &[usize; 17], v: usize, n: usize) -> bool
+fn have_terms(symbols: &SymbolTable, v: usize, n: usize) -> bool
     requires { ⌜ v + n ≤ 14 ⌝ }
     ensures { λ r. ⌜ r ≡ haveTerms (now (symbols .entry)) v n ⌝ }
 {
@@ -110,12 +111,12 @@ fn have_terms(symbols: &[usize; 17], v: usize, n: usize) -> bool
 }
 
 // Whether every variable has its part.
-pub fn is_complete(symbols: &[usize; 17]) -> bool
+pub fn is_complete(symbols: &SymbolTable) -> bool
     requires { ⌜ (inputCount (now symbols) ≤ 8) × (outputCount (now symbols) ≤ 6) ⌝ }
     ensures { λ r. ⌜ ((s names : List ℕ) (b : Block) → Describes s names (now (symbols .entry)) b → r ≡ partsThere b) ⌝ }
 {
-    if have_terms(symbols, 0, symbols[15]) {
-        return have_terms(symbols, 8, symbols[16]);
+    if have_terms(symbols, 0, symbols[symbol_table::INPUT_COUNT]) {
+        return have_terms(symbols, bounds::INPUTS, symbols[symbol_table::OUTPUT_COUNT]);
     }
     false
 }

@@ -23,7 +23,8 @@ use Rattle.block_updates.proofs.Tabs.{tab-more, tab-same, kept}
 use Rattle.block_updates.proofs.Views.{term-same, input-same, singleton-same, output-same}
 
 abbrev pub named : Tables → ℕ → ℕ → Tables
-named t a e = record { start = a; end = e; «input_count» = t .«input_count»; «output_count» = t .«output_count»; names = t .names; inputs = t .inputs; outputs = t .outputs; counts = t .counts; points = t .points; singletons = t .singletons }
+named t a e = record { start = a; end = e; «input_count» = t .«input_count»; «output_count» = t .«output_count»; names = t .names; inputs =
+    t .inputs; outputs = t .outputs; counts = t .counts; points = t .points; singletons = t .singletons }
 
 module _ (s : List ℕ) (t : Tables) (a e : ℕ) (g : Holds s t) (o : a ≤ e) (l : e ≤ length s) where
   pub is-named : Changes s t (named t a e) (withName (slice a e s))
@@ -70,7 +71,8 @@ module _ (s : List ℕ) (t : Tables) (a e : ℕ) (h : t .«input_count» < 8) (g
   unfolding pointView
   input-stays i b =
       let w = g .inputTerms i in
-      input-same s t (withInput t a e) i (stays i (λ q. omega arith) (omega arith)) (getD-set-other (t .inputs) (t .«input_count») i no-input no-input (λ q. omega arith))
+      input-same s t (withInput t a e) i (stays i (λ q. omega arith) (omega arith))
+      (getD-set-other (t .inputs) (t .«input_count») i no-input no-input (λ q. omega arith))
       (λ j c. term-same s t (withInput t a e) i j (stays (14 + i * 7 + j) (λ q. omega arith) (omega arith)) refl (λ k d. refl))
 
   input-new : inputView s (withInput t a e) (t .«input_count») ≡ record { name = slice a e s; type = real; terms = [] }
@@ -90,10 +92,12 @@ module _ (s : List ℕ) (t : Tables) (a e : ℕ) (h : t .«input_count» < 8) (g
   pub input-added : Changes s t (withInput t a e) (addInput (slice a e s))
   unfolding blockView addInput
   input-added =
-      let p = tab-more (inputView s t) (inputView s (withInput t a e)) (t .«input_count») (record { name = slice a e s; type = real; terms = [] }) input-stays input-new in
+      let p = tab-more (inputView s t) (inputView s (withInput t a e)) (t .«input_count») (record { name = slice a e s; type = real; terms = [] })
+      input-stays input-new in
       let q = tab-same (outputView s t) (outputView s (withInput t a e)) (t .«output_count») output-stays in
       record {
-        view = λ x. record { name = slice (t .start) (t .end) s; inputs = p x; outputs = q x; ruleBlock = []; pair = min-max; act = by-min; accu = by-max; rules = [] };
+        view = λ x. record { name = slice (t .start) (t .end) s; inputs = p x; outputs = q x; ruleBlock = []; pair = min-max; act = by-min; accu =
+            by-max; rules = [] };
         holds = record {
           order = g .order;
           inside = g .inside;

@@ -42,25 +42,29 @@ module _ {A B : Type 0} (g : A → B) (f : ℕ → A) (n i : ℕ) (d : B) where
 module _ (s : List ℕ) (t : Tables) (b : Block) (e : b .inputs ≡ inputsView s t) where
   pub input-of : (w : List ℕ) → inputOf w b ≡ indexOf (sameName w) (tab (nameOf s (t .names)) (t .«input_count») 0)
   unfolding inputOf inputView
-  input-of w = ap (indexOf (λ v. sameName w (v .name))) e ∙ found (λ (v : block.Input). v .name) (inputView s t) s (t .names) w (t .«input_count») 0 (λ k. ap (nameOf s (t .names)) (omega arith))
+  input-of w = ap (indexOf (λ v. sameName w (v .name))) e
+      ∙ found (λ (v : block.Input). v .name) (inputView s t) s (t .names) w (t .«input_count») 0 (λ k. ap (nameOf s (t .names)) (omega arith))
 
   pub inputs-count : length (b .inputs) ≡ t .«input_count»
   inputs-count = ap length e ∙ length-tab (inputView s t) (t .«input_count») 0
 
   pub terms-are : (i : ℕ) → i < t .«input_count» → termsOf i b ≡ tab (termView s t i) (inputRow t i .terms) 0
   unfolding termsOf inputView
-  terms-are i h = ap (λ (vs : List block.Input). getD (map (λ v. v .terms) vs) i []) e ∙ row-some (λ (v : block.Input). v .terms) (inputView s t) (t .«input_count») i [] h
+  terms-are i h = ap (λ (vs : List block.Input). getD (map (λ v. v .terms) vs) i []) e
+      ∙ row-some (λ (v : block.Input). v .terms) (inputView s t) (t .«input_count») i [] h
 
   pub terms-none : (i : ℕ) → t .«input_count» ≤ i → termsOf i b ≡ []
   unfolding termsOf
-  terms-none i h = ap (λ (vs : List block.Input). getD (map (λ v. v .terms) vs) i []) e ∙ row-none (λ (v : block.Input). v .terms) (inputView s t) (t .«input_count») i [] h
+  terms-none i h = ap (λ (vs : List block.Input). getD (map (λ v. v .terms) vs) i []) e
+      ∙ row-none (λ (v : block.Input). v .terms) (inputView s t) (t .«input_count») i [] h
 
   pub terms-count : (i : ℕ) → i < t .«input_count» → length (termsOf i b) ≡ inputRow t i .terms
   terms-count i h = ap length (terms-are i h) ∙ length-tab (termView s t i) (inputRow t i .terms) 0
 
   pub term-of : (w : List ℕ) (i : ℕ) → i < t .«input_count» → termOf i w b ≡ indexOf (sameName w) (tab (nameOf s (t .names)) (inputRow t i .terms) (14 + i * 7))
   unfolding termOf termView
-  term-of w i h = ap (indexOf (λ v. sameName w (v .name))) (terms-are i h) ∙ found (λ (v : block.Term). v .name) (termView s t i) s (t .names) w (inputRow t i .terms) (14 + i * 7) (λ k. refl)
+  term-of w i h = ap (indexOf (λ v. sameName w (v .name))) (terms-are i h)
+      ∙ found (λ (v : block.Term). v .name) (termView s t i) s (t .names) w (inputRow t i .terms) (14 + i * 7) (λ k. refl)
 
   pub points-of : (i k : ℕ) → LastTerm t i k → pointsOf i b ≡ tab (pointView t) (getD (t .counts) k 0) (k * 4)
   unfolding pointsOf termView
@@ -81,26 +85,32 @@ module _ (s : List ℕ) (t : Tables) (b : Block) (e : b .inputs ≡ inputsView s
 module _ (s : List ℕ) (t : Tables) (b : Block) (e : b .outputs ≡ outputsView s t) where
   pub output-of : (w : List ℕ) → outputOf w b ≡ indexOf (sameName w) (tab (nameOf s (t .names)) (t .«output_count») 8)
   unfolding outputOf outputView
-  output-of w = ap (indexOf (λ v. sameName w (v .name))) e ∙ found (λ (v : block.Output). v .name) (outputView s t) s (t .names) w (t .«output_count») 8 (λ k. refl)
+  output-of w = ap (indexOf (λ v. sameName w (v .name))) e
+      ∙ found (λ (v : block.Output). v .name) (outputView s t) s (t .names) w (t .«output_count») 8 (λ k. refl)
 
   pub outputs-count : length (b .outputs) ≡ t .«output_count»
   outputs-count = ap length e ∙ length-tab (outputView s t) (t .«output_count») 0
 
   pub singletons-are : (o : ℕ) → o < t .«output_count» → singletonsOf o b ≡ tab (singletonView s t o) (outputRow t o .terms) 0
   unfolding singletonsOf outputView
-  singletons-are o h = ap (λ (vs : List block.Output). getD (map (λ v. v .terms) vs) o []) e ∙ row-some (λ (v : block.Output). v .terms) (outputView s t) (t .«output_count») o [] h
+  singletons-are o h = ap (λ (vs : List block.Output). getD (map (λ v. v .terms) vs) o []) e
+      ∙ row-some (λ (v : block.Output). v .terms) (outputView s t) (t .«output_count») o [] h
 
   pub singletons-none : (o : ℕ) → t .«output_count» ≤ o → singletonsOf o b ≡ []
   unfolding singletonsOf
-  singletons-none o h = ap (λ (vs : List block.Output). getD (map (λ v. v .terms) vs) o []) e ∙ row-none (λ (v : block.Output). v .terms) (outputView s t) (t .«output_count») o [] h
+  singletons-none o h = ap (λ (vs : List block.Output). getD (map (λ v. v .terms) vs) o []) e
+      ∙ row-none (λ (v : block.Output). v .terms) (outputView s t) (t .«output_count») o [] h
 
   pub singletons-count : (o : ℕ) → o < t .«output_count» → length (singletonsOf o b) ≡ outputRow t o .terms
   singletons-count o h = ap length (singletons-are o h) ∙ length-tab (singletonView s t o) (outputRow t o .terms) 0
 
-  pub singleton-of : (w : List ℕ) (o : ℕ) → o < t .«output_count» → singletonOf o w b ≡ indexOf (sameName w) (tab (nameOf s (t .names)) (outputRow t o .terms) (14 + (8 + o) * 7))
+  pub singleton-of : (w : List ℕ) (o : ℕ) → o < t .«output_count»
+      → singletonOf o w b ≡ indexOf (sameName w) (tab (nameOf s (t .names)) (outputRow t o .terms) (14 + (8 + o) * 7))
   unfolding singletonOf singletonView
-  singleton-of w o h = ap (indexOf (λ v. sameName w (v .name))) (singletons-are o h) ∙ found (λ (v : block.Singleton). v .name) (singletonView s t o) s (t .names) w (outputRow t o .terms) (14 + (8 + o) * 7) (λ k. refl)
+  singleton-of w o h = ap (indexOf (λ v. sameName w (v .name))) (singletons-are o h)
+      ∙ found (λ (v : block.Singleton). v .name) (singletonView s t o) s (t .names) w (outputRow t o .terms) (14 + (8 + o) * 7) (λ k. refl)
 
   pub range-is : (o : ℕ) → o < t .«output_count» → rangeOf o b ≡ rangeView (outputRow t o)
   unfolding rangeOf outputView
-  range-is o h = ap (λ (vs : List block.Output). getD (map (λ v. v .range) vs) o none) e ∙ row-some (λ (v : block.Output). v .range) (outputView s t) (t .«output_count») o none h
+  range-is o h = ap (λ (vs : List block.Output). getD (map (λ v. v .range) vs) o none) e
+      ∙ row-some (λ (v : block.Output). v .range) (outputView s t) (t .«output_count») o none h

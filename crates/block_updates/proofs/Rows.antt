@@ -37,8 +37,10 @@ withRow t o v = record {
   singletons = t .singletons;
 }
 
-module _ (s : List ℕ) (t : Tables) (o : ℕ) (v : Output) (f : Output′ → Output′) (b : o < t .«output_count») (e : v .terms ≡ outputRow t o .terms) (g : Holds s t)
-    (c : record { name = nameOf s (t .names) (8 + o); terms = outputView s t o .terms; range = rangeView v; default = defaultView v } ≡ f (outputView s t o)) where
+module _ (s : List ℕ) (t : Tables) (o : ℕ) (v : Output) (f : Output′ → Output′) (b : o < t .«output_count») (e : v .terms ≡ outputRow t o .terms)
+    (g : Holds s t)
+    (c : record { name = nameOf s (t .names) (8 + o); terms = outputView s t o .terms; range = rangeView v; default = defaultView v }
+    ≡ f (outputView s t o)) where
   row-same : outputRow (withRow t o v) o ≡ v
   row-same = let q = g .outputCount in getD-set-same (t .outputs) o v no-output (omega (arith, g .outputs-size))
 
@@ -54,9 +56,11 @@ module _ (s : List ℕ) (t : Tables) (o : ℕ) (v : Output) (f : Output′ → O
   pub row-changed : Changes s t (withRow t o v) (changeOutput f o)
   unfolding blockView changeOutput inputView termView pointView
   row-changed =
-      let r = tab-update f (outputView s t) (outputView s (withRow t o v)) (t .«output_count») 0 o (simp zero-add row-view) (λ m h d. simp zero-add (others m d)) b in
+      let r = tab-update f (outputView s t) (outputView s (withRow t o v)) (t .«output_count») 0 o (simp zero-add row-view)
+      (λ m h d. simp zero-add (others m d)) b in
       record {
-        view = λ x. record { name = slice (t .start) (t .end) s; inputs = inputsView s t; outputs = r x; ruleBlock = []; pair = min-max; act = by-min; accu = by-max; rules = [] };
+        view = λ x. record { name = slice (t .start) (t .end) s; inputs = inputsView s t; outputs = r x; ruleBlock = []; pair = min-max; act =
+            by-min; accu = by-max; rules = [] };
         holds = record {
           order = g .order;
           inside = g .inside;

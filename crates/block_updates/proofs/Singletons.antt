@@ -40,7 +40,8 @@ withSingletonAt t o k a e y = record {
   singletons = set (t .singletons) k y;
 }
 
-module _ (s : List ℕ) (t : Tables) (o k a e : ℕ) (y : Crisp) (c : k ≡ o * 7 + outputRow t o .terms) (b : o < t .«output_count») (h : outputRow t o .terms < 7) (g : Holds s t) (ae : a ≤ e) (l : e ≤ length s) where
+module _ (s : List ℕ) (t : Tables) (o k a e : ℕ) (y : Crisp) (c : k ≡ o * 7 + outputRow t o .terms) (b : o < t .«output_count»)
+    (h : outputRow t o .terms < 7) (g : Holds s t) (ae : a ≤ e) (l : e ≤ length s) where
   low : o < 6
   low = let q = g .outputCount in omega arith
 
@@ -52,14 +53,16 @@ module _ (s : List ℕ) (t : Tables) (o k a e : ℕ) (y : Crisp) (c : k ≡ o * 
 
   singleton-stays : (m j : ℕ) → m < 6 → j < 7 → (m * 7 + j ≡ k → ⊥) → singletonView s (withSingletonAt t o k a e y) m j ≡ singletonView s t m j
   singleton-stays m j p q d =
-      singleton-same s t (withSingletonAt t o k a e y) m j (stays (14 + (8 + m) * 7 + j) (λ w. d (omega arith)) (omega arith)) (getD-set-other (t .singletons) k (m * 7 + j) y zero-crisp d)
+      singleton-same s t (withSingletonAt t o k a e y) m j (stays (14 + (8 + m) * 7 + j) (λ w. d (omega arith)) (omega arith))
+      (getD-set-other (t .singletons) k (m * 7 + j) y zero-crisp d)
 
   output-stays : (m : ℕ) → m < t .«output_count» → (m ≡ o → ⊥) → outputView s (withSingletonAt t o k a e y) m ≡ outputView s t m
   output-stays m p d =
       let w = g .outputTerms m in
       let q = g .outputCount in
       let z = low in
-      output-same s t (withSingletonAt t o k a e y) m (stays (8 + m) (λ f. omega arith) (omega arith)) (getD-set-other (t .outputs) o m (longer (outputRow t o)) no-output d)
+      output-same s t (withSingletonAt t o k a e y) m (stays (8 + m) (λ f. omega arith) (omega arith))
+      (getD-set-other (t .outputs) o m (longer (outputRow t o)) no-output d)
       (λ j f. singleton-stays m j (omega arith) (omega arith) (λ r. omega arith))
 
   singleton-new : singletonView s (withSingletonAt t o k a e y) o (outputRow t o .terms) ≡ record { name = slice a e s; at = y .0 }
@@ -68,7 +71,8 @@ module _ (s : List ℕ) (t : Tables) (o k a e : ℕ) (y : Crisp) (c : k ≡ o * 
       let z = low in
       let p : 14 + (8 + o) * 7 + outputRow t o .terms ≡ 70 + k = omega arith in
       let q = ap (nameOf s (withSingletonAt t o k a e y .names)) p ∙ name-same s (t .names) (70 + k) a e (omega arith) (g .names-size) in
-      let r : getD (set (t .singletons) k y) (o * 7 + outputRow t o .terms) zero-crisp ≡ y = ap (λ (m : ℕ). getD (set (t .singletons) k y) m zero-crisp) (sym c) ∙ getD-set-same (t .singletons) k y zero-crisp (omega (arith, g .singletons-size)) in
+      let r : getD (set (t .singletons) k y) (o * 7 + outputRow t o .terms) zero-crisp ≡ y =
+      ap (λ (m : ℕ). getD (set (t .singletons) k y) m zero-crisp) (sym c) ∙ getD-set-same (t .singletons) k y zero-crisp (omega (arith, g .singletons-size)) in
       λ x. record { name = q x; at = r x .0 }
 
   output-longer : outputView s (withSingletonAt t o k a e y) o ≡ withSingleton (record { name = slice a e s; at = y .0 }) (outputView s t o)
@@ -96,10 +100,12 @@ module _ (s : List ℕ) (t : Tables) (o k a e : ℕ) (y : Crisp) (c : k ≡ o * 
       let z = low in
       let w = g .outputTerms o in
       let p = tab-same (inputView s t) (inputView s (withSingletonAt t o k a e y)) (t .«input_count») input-stays in
-      let q = tab-update (withSingleton (record { name = slice a e s; at = y .0 })) (outputView s t) (outputView s (withSingletonAt t o k a e y)) (t .«output_count») 0 o
+      let q = tab-update (withSingleton (record { name = slice a e s; at = y .0 })) (outputView s t) (outputView s (withSingletonAt t o k a e y))
+      (t .«output_count») 0 o
       (simp zero-add output-longer) (λ m f d. simp zero-add (output-stays m f d)) b in
       record {
-        view = λ x. record { name = slice (t .start) (t .end) s; inputs = p x; outputs = q x; ruleBlock = []; pair = min-max; act = by-min; accu = by-max; rules = [] };
+        view = λ x. record { name = slice (t .start) (t .end) s; inputs = p x; outputs = q x; ruleBlock = []; pair = min-max; act = by-min; accu =
+            by-max; rules = [] };
         holds = record {
           order = g .order;
           inside = g .inside;

@@ -35,7 +35,8 @@ tab-update {A} h f g (suc n) p (suc i) e o l =
     λ j. (ap g (sym z) ∙ o 0 (omega arith) (λ q. omega arith) ∙ ap f z) j ∷ r j
 
 -- the last of n + 1 changed
-pub tab-updateLast : {A : Type 0} (h : A → A) (f g : ℕ → A) (n : ℕ) → g n ≡ h (f n) → ((k : ℕ) → k < n → g k ≡ f k) → tab g (suc n) 0 ≡ updateLast h (tab f (suc n) 0)
+pub tab-updateLast : {A : Type 0} (h : A → A) (f g : ℕ → A) (n : ℕ) → g n ≡ h (f n) → ((k : ℕ) → k < n → g k ≡ f k)
+    → tab g (suc n) 0 ≡ updateLast h (tab f (suc n) 0)
 tab-updateLast h f g n e o =
     let z : 0 + n ≡ n = omega arith in
     tab-last g n 0
@@ -44,14 +45,16 @@ tab-updateLast h f g n e o =
     ∙ ap (updateLast h) (sym (tab-last f n 0))
 
 -- those from n on changed
-pub tab-from : {A : Type 0} (h : A → A) (f g : ℕ → A) (m n p : ℕ) → ((k : ℕ) → k < m → k < n → g (p + k) ≡ f (p + k)) → ((k : ℕ) → k < m → n ≤ k → g (p + k) ≡ h (f (p + k)))
+pub tab-from : {A : Type 0} (h : A → A) (f g : ℕ → A) (m n p : ℕ) → ((k : ℕ) → k < m → k < n → g (p + k) ≡ f (p + k))
+    → ((k : ℕ) → k < m → n ≤ k → g (p + k) ≡ h (f (p + k)))
     → tab g m p ≡ take n (tab f m p) ++ map h (drop n (tab f m p))
 unfolding tab
 tab-from h f g zero zero p a b = refl
 tab-from h f g zero (suc n) p a b = refl
 tab-from {A} h f g (suc m) zero p a b =
     let z : p + 0 ≡ p = omega arith in
-    let r = tab-from h f g m zero (suc p) (λ k x y. absurd (omega arith)) (λ k x y. ap g (omega arith) ∙ b (suc k) (omega arith) (omega arith) ∙ ap (λ (i : ℕ). h (f i)) (omega arith)) in
+    let r = tab-from h f g m zero (suc p) (λ k x y. absurd (omega arith))
+    (λ k x y. ap g (omega arith) ∙ b (suc k) (omega arith) (omega arith) ∙ ap (λ (i : ℕ). h (f i)) (omega arith)) in
     λ j. (ap g (sym z) ∙ b 0 (omega arith) (omega arith) ∙ ap (λ (i : ℕ). h (f i)) z) j ∷ r j
 tab-from {A} h f g (suc m) (suc n) p a b =
     let z : p + 0 ≡ p = omega arith in

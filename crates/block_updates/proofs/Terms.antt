@@ -41,7 +41,8 @@ withTerm t i k a e = record {
   singletons = t .singletons;
 }
 
-module _ (s : List ℕ) (t : Tables) (i k a e : ℕ) (c : k ≡ i * 7 + inputRow t i .terms) (b : i < t .«input_count») (h : inputRow t i .terms < 7) (g : Holds s t) (o : a ≤ e) (l : e ≤ length s) where
+module _ (s : List ℕ) (t : Tables) (i k a e : ℕ) (c : k ≡ i * 7 + inputRow t i .terms) (b : i < t .«input_count») (h : inputRow t i .terms < 7)
+    (g : Holds s t) (o : a ≤ e) (l : e ≤ length s) where
   low : i < 8
   low = let q = g .inputCount in omega arith
 
@@ -54,7 +55,8 @@ module _ (s : List ℕ) (t : Tables) (i k a e : ℕ) (c : k ≡ i * 7 + inputRow
   term-stays : (m j : ℕ) → m < 8 → j < 7 → (m * 7 + j ≡ k → ⊥) → termView s (withTerm t i k a e) m j ≡ termView s t m j
   unfolding pointView
   term-stays m j p q d =
-      term-same s t (withTerm t i k a e) m j (stays (14 + m * 7 + j) (λ w. d (omega arith)) (omega arith)) (getD-set-other (t .counts) k (m * 7 + j) 0 0 d) (λ n f. refl)
+      term-same s t (withTerm t i k a e) m j (stays (14 + m * 7 + j) (λ w. d (omega arith)) (omega arith))
+      (getD-set-other (t .counts) k (m * 7 + j) 0 0 d) (λ n f. refl)
 
   input-stays : (m : ℕ) → m < t .«input_count» → (m ≡ i → ⊥) → inputView s (withTerm t i k a e) m ≡ inputView s t m
   input-stays m p d =
@@ -70,7 +72,8 @@ module _ (s : List ℕ) (t : Tables) (i k a e : ℕ) (c : k ≡ i * 7 + inputRow
       let z = low in
       let p : 14 + i * 7 + inputRow t i .terms ≡ 14 + k = omega arith in
       let q = ap (nameOf s (withTerm t i k a e .names)) p ∙ name-same s (t .names) (14 + k) a e (omega arith) (g .names-size) in
-      let r : getD (set (t .counts) k 0) (i * 7 + inputRow t i .terms) 0 ≡ 0 = ap (λ (m : ℕ). getD (set (t .counts) k 0) m 0) (sym c) ∙ getD-set-same (t .counts) k 0 0 (omega (arith, g .counts-size)) in
+      let r : getD (set (t .counts) k 0) (i * 7 + inputRow t i .terms) 0 ≡ 0 =
+      ap (λ (m : ℕ). getD (set (t .counts) k 0) m 0) (sym c) ∙ getD-set-same (t .counts) k 0 0 (omega (arith, g .counts-size)) in
       λ x. record { name = q x; points = tab (pointView (withTerm t i k a e)) (r x) ((i * 7 + inputRow t i .terms) * 4) }
 
   input-longer : inputView s (withTerm t i k a e) i ≡ withTerms (λ ts. ts ++ (record { name = slice a e s; points = [] } ∷ [])) (inputView s t i)
@@ -97,11 +100,13 @@ module _ (s : List ℕ) (t : Tables) (i k a e : ℕ) (c : k ≡ i * 7 + inputRow
       let z = low in
       let w = g .inputTerms i in
       let y : 0 + i ≡ i = omega arith in
-      let p = tab-update (withTerms (λ ts. ts ++ (record { name = slice a e s; points = [] } ∷ []))) (inputView s t) (inputView s (withTerm t i k a e)) (t .«input_count») 0 i
+      let p = tab-update (withTerms (λ ts. ts ++ (record { name = slice a e s; points = [] } ∷ []))) (inputView s t)
+      (inputView s (withTerm t i k a e)) (t .«input_count») 0 i
       (simp zero-add input-longer) (λ m f d. simp zero-add (input-stays m f d)) b in
       let q = tab-same (outputView s t) (outputView s (withTerm t i k a e)) (t .«output_count») output-stays in
       record {
-        view = λ x. record { name = slice (t .start) (t .end) s; inputs = p x; outputs = q x; ruleBlock = []; pair = min-max; act = by-min; accu = by-max; rules = [] };
+        view = λ x. record { name = slice (t .start) (t .end) s; inputs = p x; outputs = q x; ruleBlock = []; pair = min-max; act = by-min; accu =
+            by-max; rules = [] };
         holds = record {
           order = g .order;
           inside = g .inside;

@@ -33,7 +33,8 @@ typed-none old from l = record { before = λ i h. refl; within = λ i h k. absur
 abbrev pub int-row : Input → Input
 int-row v = record { int = true; terms = v .terms }
 
-pub typed-more : (old new : List Input) (from i : ℕ) → Typed old from i new → from ≤ i → i < 8 → Typed old from (i + 1) (set new i (int-row (getD new i no-input)))
+pub typed-more : (old new : List Input) (from i : ℕ) → Typed old from i new → from ≤ i → i < 8
+    → Typed old from (i + 1) (set new i (int-row (getD new i no-input)))
 typed-more old new from i d h l = record {
   before = λ j b. getD-set-other new i j _ no-input (λ q. omega arith) ∙ d .before j b;
   within = λ j a b. within j a b (eqb j i) refl;
@@ -41,7 +42,8 @@ typed-more old new from i d h l = record {
   size = simp length-set (d .size);
 }
   where
-    within : (j : ℕ) → from ≤ j → j < i + 1 → (t : Bool) → eqb j i ≡ t → getD (set new i (int-row (getD new i no-input))) j no-input ≡ int-row (getD old j no-input)
+    within : (j : ℕ) → from ≤ j → j < i + 1 → (t : Bool) → eqb j i ≡ t
+        → getD (set new i (int-row (getD new i no-input))) j no-input ≡ int-row (getD old j no-input)
     within j a b true q =
         ap (λ (k : ℕ). getD (set new i (int-row (getD new i no-input))) k no-input) (eqb-true j i q)
         ∙ getD-set-same new i _ no-input (omega (arith, d .size)) ∙ ap int-row (d .behind i h (omega arith))
@@ -81,7 +83,8 @@ module _ (s : List ℕ) (t : Tables) (n : ℕ) (rows : List Input) (d : Typed (t
 
   input-typed : (i : ℕ) → n ≤ i → i < t .«input_count» → inputView s (withInputs t rows) i ≡ asInt (inputView s t i)
   unfolding inputView termView pointView
-  input-typed i h b = let q = d .within i h b in λ x. record { name = nameOf s (t .names) i; type = if q x .int then int else real; terms = tab (termView s t i) (q x .terms) 0 }
+  input-typed i h b = let q = d .within i h b in λ x. record
+      { name = nameOf s (t .names) i; type = if q x .int then int else real; terms = tab (termView s t i) (q x .terms) 0 }
 
   bound : (i : ℕ) → getD rows i no-input .terms ≤ 7
   bound i = by (ltb i n) (ltb i (t .«input_count»)) refl refl
@@ -94,9 +97,11 @@ module _ (s : List ℕ) (t : Tables) (n : ℕ) (rows : List Input) (d : Typed (t
   pub typed : Changes s t (withInputs t rows) (intFrom n)
   unfolding blockView intFrom outputView singletonView
   typed =
-      let p = tab-from asInt (inputView s t) (inputView s (withInputs t rows)) (t .«input_count») n 0 (λ k a b. simp zero-add (input-stays k b)) (λ k a b. simp zero-add (input-typed k b a)) in
+      let p = tab-from asInt (inputView s t) (inputView s (withInputs t rows)) (t .«input_count») n 0 (λ k a b. simp zero-add (input-stays k b))
+      (λ k a b. simp zero-add (input-typed k b a)) in
       record {
-        view = λ x. record { name = slice (t .start) (t .end) s; inputs = p x; outputs = outputsView s t; ruleBlock = []; pair = min-max; act = by-min; accu = by-max; rules = [] };
+        view = λ x. record { name = slice (t .start) (t .end) s; inputs = p x; outputs = outputsView s t; ruleBlock = []; pair = min-max; act =
+            by-min; accu = by-max; rules = [] };
         holds = record {
           order = g .order;
           inside = g .inside;

@@ -1,4 +1,5 @@
--- The tables change as the block changes that they stand for.
+-- A helper: the tables change as the block changes that they stand for. The contracts of this crate tie each change to
+-- the model's own, as `addInput` or `withRange`.
 use mathlib.Core.Path.{_≡_}
 use mathlib.Core.Bool.{true}
 use mathlib.Core.List.{List}

@@ -8,11 +8,11 @@ ghost use Rattle.model.specs.Block.{withName, withRange, withDefault, withSingl
 ghost use Rattle.model.specs.Declarations.{addInput, addOutput, intFrom, addTerm, addPoint, changeOutput};
 ghost use Rattle.block_tables.specs.View.{inputRow, outputRow, Holds};
 ghost use Rattle.block_updates.specs.Changes.{Changes, LastTerm, Typed};
-use model::Crisp;
 use block_tables::Input;
 use block_tables::Output;
 use block_tables::Point;
 use block_tables::Tables;
+use model::Crisp;
 
 pub fn set_name(t: Tables, start: usize, end: usize) -> Tables
     ensures { λ r. ⌜ ((s : List ℕ) → Holds s t → start ≤ end → end ≤ length s
@@ -36,14 +36,14 @@ pub fn add_input(t: Tables, start: usize, end: usize) -> Tables
     };
     let mut r = t;
     r.names[n] = start;
-    r.names[112 + n] = end;
+    r.names[lookup::ENDS + n] = end;
     r.inputs[n] = v;
     r.input_count = n + 1;
     r
 }
 
 // These rows, INT from one on up to another.
-fn typed(rows: [Input; 8], from: usize, to: usize) -> [Input; 8]
+fn typed(rows: [Input; bounds::INPUTS], from: usize, to: usize) -> [Input; bounds::INPUTS]
     requires { ⌜ to ≤ 8 ⌝ }
     ensures { λ r. ⌜ (length rows ≡ 8 → Typed rows from to r) ⌝ }
 {
@@ -86,8 +86,8 @@ pub fn add_output(t: Tables, start: usize, end: usize) -> Tables
         default: z,
     };
     let mut r = t;
-    r.names[8 + n] = start;
-    r.names[112 + (8 + n)] = end;
+    r.names[lookup::FIRST_OUTPUT + n] = start;
+    r.names[lookup::ENDS + (lookup::FIRST_OUTPUT + n)] = end;
     r.outputs[n] = v;
     r.output_count = n + 1;
     r
@@ -103,11 +103,11 @@ pub fn add_term(t: Tables, i: usize, start: usize, end: usize) -> Tables
 {
     let mut v = t.inputs[i];
     let j = v.terms;
-    let k = i * 7 + j;
+    let k = i * bounds::TERMS + j;
     v.terms = j + 1;
     let mut r = t;
-    r.names[14 + k] = start;
-    r.names[112 + (14 + k)] = end;
+    r.names[lookup::FIRST_TERM + k] = start;
+    r.names[lookup::ENDS + (lookup::FIRST_TERM + k)] = end;
     r.counts[k] = 0;
     r.inputs[i] = v;
     r
@@ -122,7 +122,7 @@ pub fn add_point(t: Tables, k: usize, p: Point) -> Tables
 {
     let n = t.counts[k];
     let mut r = t;
-    r.points[k * 4 + n] = p;
+    r.points[k * bounds::POINTS + n] = p;
     r.counts[k] = n + 1;
     r
 }
@@ -135,11 +135,11 @@ pub fn add_singleton(t: Tables, o: usize, start: usize, end: usize, x: Crisp) ->
 {
     let mut v = t.outputs[o];
     let j = v.terms;
-    let k = o * 7 + j;
+    let k = o * bounds::TERMS + j;
     v.terms = j + 1;
     let mut r = t;
-    r.names[70 + k] = start;
-    r.names[112 + (70 + k)] = end;
+    r.names[lookup::FIRST_OUTPUT_TERM + k] = start;
+    r.names[lookup::ENDS + (lookup::FIRST_OUTPUT_TERM + k)] = end;
     r.singletons[k] = x;
     r.outputs[o] = v;
     r

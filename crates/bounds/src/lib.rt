@@ -55,6 +55,9 @@ pub const NAMES: usize = VARIABLES + INPUT_TERMS + OUTPUT_TERMS;
 
 pub const INPUT_POINTS: usize = INPUT_TERMS * POINTS;
 
+// Terms of all variables.
+pub const ALL_TERMS: usize = INPUT_TERMS + OUTPUT_TERMS;
+
 // All of them, in the order of the definitions.
 pub fn limits() -> [usize; 17]
     ensures { λ r. ⌜ r ≡ crispLimit ∷ M ∷ textLimit ∷ nameLimit ∷ digitLimit ∷ fractionLimit ∷ inputLimit ∷ outputLimit

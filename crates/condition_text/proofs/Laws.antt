@@ -4,10 +4,9 @@ use mathlib.Core.Bool.{Bool, true, false}
 use mathlib.Core.List.{List, [], _∷_, _++_}
 use Prim.Native.Nat.{ℕ, zero, suc, _+_, _-_, _*_, _≤_, _<_}
 use native.Mathlib.Omega.{arith}
-use native.Mathlib.Nat.{add-zero}
 use native.Mathlib.Numerals.{sub-one}
 use borrow.Author.Tests.{eq-eqb, ne-eqb, lt-ltb, le-ltb}
-use lib.ListN.{length, take, drop, set, length-append}
+use lib.ListN.{length, take, drop, length-append}
 use lib.Seq.{take-take, take-at, length-take-le, sets, sets-eq}
 use Rattle.model.specs.Basic.{if_then_else_}
 use Rattle.model.specs.Block.{Block, Op, Condition, term, two, emptyBlock}
@@ -17,6 +16,7 @@ use Rattle.model.specs.Parse.{Parse, Part, kind, text, refuse, advance, judged,
 use Rattle.model.specs.Declarations.{inputOf, termOf, isInput, isTerm}
 use Rattle.model.specs.Rules.{ConditionRead, conditionRead, word, conditionTerm, termOrNot, subcondition, negatedRead, closed, chainOn, chain, conditionWith, parenthesis}
 use Rattle.laws.proofs.Lists.{sets-append}
+use Rattle.laws.proofs.Again.{Again, again-more, again-end}
 use Rattle.cursor.specs.declared.Cursor.{Cursor}
 use Rattle.cursor.specs.View.{seen, textOf, Fits, left, Step, fault}
 use Rattle.cursor.proofs.Laws.{enough, kind-seen, text-seen, block-seen, words-seen, lost-kind, lost-refuse, lost-expect, judged-bad, judged-good, numbered}
@@ -233,8 +233,9 @@ paren-more (suc d) n r = simp sub-one
 abbrev pub Going : (Parse → ConditionRead) → ℕ → Op → List ℕ → Block → Pending → List ℕ → Pending → List ℕ → Type 0
 Going part k o s b p₀ l₀ p l =
     (n : ℕ) (t₀ : Condition) → left s (p₀ .cursor) < n →
-    (f : ℕ) × (t : Condition) × (left s (p .cursor) < f)
-    × (chainOn f part k o (conditionRead (seen s (p .cursor) b (p .words)) t) ≡ chainOn n part k o (conditionRead (seen s (p₀ .cursor) b (p₀ .words)) t₀))
+    (t : Condition)
+    × Again (λ f. chainOn f part k o) (left s (p .cursor)) (conditionRead (seen s (p .cursor) b (p .words)) t)
+    (chainOn n part k o (conditionRead (seen s (p₀ .cursor) b (p₀ .words)) t₀))
     × ((m : ℕ) (old : List ℕ) → (p₀ .cursor .why ≡ 0 → Adds m (p₀ .put) (postfix t₀) old l₀) → p .cursor .why ≡ 0 → Adds m (p .put) (postfix t) old l)
 
 module _ (part : Parse → ConditionRead) (k : ℕ) (o : Op) (s : List ℕ) (b : Block) where
@@ -242,44 +243,43 @@ module _ (part : Parse → ConditionRead) (k : ℕ) (o : Op) (s : List ℕ) (b :
   view p = seen s (p .cursor) b (p .words)
 
   pub begins : (p : Pending) (l : List ℕ) → Going part k o s b p l p l
-  begins p l n t₀ h = (n, t₀, h, refl, λ m old a. a)
+  begins p l n t₀ h = (t₀, (n, h, refl), λ m old a. a)
 
-  one-more : (f : ℕ) (g : ConditionRead) → kind (g .parse) ≡ k → chainOn (suc f) part k o g ≡ chainOn f part k o (conditionRead (part (word (g .parse)) .parse) (two o (g .tree) (part (word (g .parse)) .tree)))
-  unfolding chainOn
-  one-more f g e = λ i. elim (eq-eqb (kind (g .parse)) k e i) as (λ x. ConditionRead) [ true ↦ chainOn f part k o (conditionRead (part (word (g .parse)) .parse) (two o (g .tree) (part (word (g .parse)) .tree))) | false ↦ g ]
+  -- g with the operator at its token and the operand behind it
+  abbrev joined : ConditionRead → ConditionRead
+  joined g = conditionRead (part (word (g .parse)) .parse) (two o (g .tree) (part (word (g .parse)) .tree))
 
-  no-more : (f : ℕ) (g : ConditionRead) → (kind (g .parse) ≡ k → ⊥) → chainOn f part k o g ≡ g
+  one-more : (g : ConditionRead) → kind (g .parse) ≡ k → (f : ℕ) → chainOn (suc f) part k o g ≡ chainOn f part k o (joined g)
   unfolding chainOn
-  no-more zero g e = refl
-  no-more (suc f) g e = λ i. elim (ne-eqb (kind (g .parse)) k e i) as (λ x. ConditionRead) [ true ↦ chainOn f part k o (conditionRead (part (word (g .parse)) .parse) (two o (g .tree) (part (word (g .parse)) .tree))) | false ↦ g ]
+  one-more g e f = λ i. elim (eq-eqb (kind (g .parse)) k e i) as (λ x. ConditionRead) [ true ↦ chainOn f part k o (joined g) | false ↦ g ]
+
+  none-more : (g : ConditionRead) → (kind (g .parse) ≡ k → ⊥) → (f : ℕ) → chainOn f part k o g ≡ g
+  unfolding chainOn
+  none-more g e zero = refl
+  none-more g e (suc f) = λ i. elim (ne-eqb (kind (g .parse)) k e i) as (λ x. ConditionRead) [ true ↦ chainOn f part k o (joined g) | false ↦ g ]
 
   -- q is p with its token counted, m what part reads from there, r that with the word put
   pub goes : (p₀ p q m r : Pending) (l₀ l mid new : List ℕ) → Going part k o s b p₀ l₀ p l → p .cursor .kind ≡ k → p .cursor .why ≡ 0
       → view q ≡ word (view p) → q .put ≡ p .put → Reads s b q m (part (view q)) l mid → Puts m r (opWord o) mid new → left s (r .cursor) < left s (p .cursor) → Going part k o s b p₀ l₀ r new
   unfolding postfix
-  goes p₀ p q m r l₀ l mid new G e z v w a u lt n t₀ h = go (G n t₀ h .0) (G n t₀ h .2) (G n t₀ h .3)
+  goes p₀ p q m r l₀ l mid new G e z v w a u lt n t₀ h = (tree, again-more (λ f. chainOn f part k o) turn lt (G n t₀ h .1), whole)
     where
+      before : ConditionRead
+      before = conditionRead (view p) (G n t₀ h .0)
+
       tree : Condition
-      tree = two o (G n t₀ h .1) (part (view q) .tree)
+      tree = two o (G n t₀ h .0) (part (view q) .tree)
 
       whole : (i : ℕ) (old : List ℕ) → (p₀ .cursor .why ≡ 0 → Adds i (p₀ .put) (postfix t₀) old l₀) → r .cursor .why ≡ 0 → Adds i (r .put) (postfix tree) old new
       whole i old x y =
           let y′ : m .cursor .why ≡ 0 = rw (u .cursor) at y in
-          adds (G n t₀ h .4 i old x z) (adds (rw w at (a .adds y′)) (u .adds y′))
+          adds (G n t₀ h .2 i old x z) (adds (rw w at (a .adds y′)) (u .adds y′))
 
-      go : (f : ℕ) → left s (p .cursor) < f → chainOn f part k o (conditionRead (view p) (G n t₀ h .1)) ≡ chainOn n part k o (conditionRead (view p₀) t₀)
-          → (f : ℕ) × (t : Condition) × (left s (r .cursor) < f) × (chainOn f part k o (conditionRead (view r) t) ≡ chainOn n part k o (conditionRead (view p₀) t₀))
-          × ((i : ℕ) (old : List ℕ) → (p₀ .cursor .why ≡ 0 → Adds i (p₀ .put) (postfix t₀) old l₀) → r .cursor .why ≡ 0 → Adds i (r .put) (postfix t) old new)
-      go zero x y = absurd (omega arith)
-      go (suc f) x y = (
-        f,
-        tree,
-        omega arith,
-        ap (λ (x : Parse). chainOn f part k o (conditionRead x tree)) (put-seen s b u ∙ a .seen)
-            ∙ ap (λ (x : Parse). chainOn f part k o (conditionRead (part x .parse) (two o (G n t₀ h .1) (part x .tree)))) v
-            ∙ sym (one-more f (conditionRead (view p) (G n t₀ h .1)) (kind-seen s (p .cursor) b (p .words) ∙ e)) ∙ y,
-        whole,
-      )
+      turn : (f : ℕ) → chainOn (suc f) part k o before ≡ chainOn f part k o (conditionRead (view r) tree)
+      turn f =
+          one-more before (kind-seen s (p .cursor) b (p .words) ∙ e) f
+          ∙ ap (λ (x : Parse). chainOn f part k o (conditionRead (part x .parse) (two o (G n t₀ h .0) (part x .tree)))) (sym v)
+          ∙ ap (λ (x : Parse). chainOn f part k o (conditionRead x tree)) (sym (put-seen s b u ∙ a .seen))
 
   pub stops : (e p₀ p : Pending) (old l₀ l : List ℕ) → Going part k o s b p₀ l₀ p l → (p .cursor .kind ≡ k → ⊥) → Reads s b e p₀ (part (view e)) old l₀ → left s (p₀ .cursor) ≤ left s (e .cursor) → Reads s b e p (chain part k o (view e)) old l
   unfolding chain
@@ -287,5 +287,6 @@ module _ (part : Parse → ConditionRead) (k : ℕ) (o : Op) (s : List ℕ) (b :
       let z = enough s (e .cursor) b (e .words) in
       let g = G (suc (length (view e .rest))) (part (view e) .tree) (omega arith) in
       subst (λ (x : ConditionRead). Reads s b e p x old l)
-      (sym (no-more (g .0) (conditionRead (view p) (g .1)) (λ z. n (sym (kind-seen s (p .cursor) b (p .words)) ∙ z))) ∙ g .3 ∙ ap (λ (x : Parse). chainOn (suc (length (view e .rest))) part k o (conditionRead x (part (view e) .tree))) (r .seen))
-      (record { seen = refl; adds = g .4 (e .put) old (r .adds) })
+      (again-end (λ f. chainOn f part k o) (none-more (conditionRead (view p) (g .0)) (λ z. n (sym (kind-seen s (p .cursor) b (p .words)) ∙ z))) (g .1)
+      ∙ ap (λ (x : Parse). chainOn (suc (length (view e .rest))) part k o (conditionRead x (part (view e) .tree))) (r .seen))
+      (record { seen = refl; adds = g .2 (e .put) old (r .adds) })

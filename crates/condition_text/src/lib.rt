@@ -10,7 +10,10 @@ ghost use Rattle.model.specs.Rules.{word, conditionTerm, termOrNot, subconditio
 ghost use Rattle.cursor.specs.View.{seen, Fits, Step};
 ghost use Rattle.symbol_table.specs.Symbols.{Symbols, Describes, inputCount};
 ghost use Rattle.condition_text.specs.Pending.{Room, Reads, Within, Stops, Counts, Puts};
+use block_tables::Words;
 use cursor::Cursor;
+use lookup::Names;
+use symbol_table::SymbolTable;
 
 // A reading in the midst of a condition: the words that are counted, and how many of them are put.
 pub struct Pending {
@@ -40,7 +43,7 @@ fn count(s: &[u8], p: Pending) -> Pending
         → seen (now (s .entry)) (r .cursor) b (r .words) ≡ word (seen (now (s .entry)) (p .cursor) b (p .words))) ⌝ }
     ensures counts { λ r. ⌜ Counts (now (s .entry)) p r ⌝ }
 {
-    if p.words < 640 {
+    if p.words < bounds::WORDS {
         let c = p.cursor;
         let d = cursor::advance(s, c);
         return Pending {
@@ -53,7 +56,7 @@ fn count(s: &[u8], p: Pending) -> Pending
 }
 
 // A word behind those that are put.
-fn put(words: &mut [u32; 640], p: Pending, w: u32) -> Pending
+fn put(words: &mut Words, p: Pending, w: u32) -> Pending
     requires { ⌜ (p .put ≤ p .words) × (p .words ≤ 640) × (p .cursor .why ≡ 0 → p .put < p .words) ⌝ }
     ensures { λ r. ⌜ Puts p r w (now (words .entry)) (now (words .exit)) ⌝ }
 {
@@ -73,9 +76,9 @@ fn put(words: &mut [u32; 640], p: Pending, w: u32) -> Pending
 // term, of input i
 fn term_named(
     s: &[u8],
-    names: &[usize; 224],
-    symbols: &[usize; 17],
-    words: &mut [u32; 640],
+    names: &Names,
+    symbols: &SymbolTable,
+    words: &mut Words,
     p: Pending,
     i: usize,
 ) -> Pending
@@ -110,9 +113,9 @@ fn term_named(
 // [NOT] term
 fn term_here(
     s: &[u8],
-    names: &[usize; 224],
-    symbols: &[usize; 17],
-    words: &mut [u32; 640],
+    names: &Names,
+    symbols: &SymbolTable,
+    words: &mut Words,
     p: Pending,
     i: usize,
 ) -> Pending
@@ -135,9 +138,9 @@ fn term_here(
 // input IS [NOT] term
 fn subcondition(
     s: &[u8],
-    names: &[usize; 224],
-    symbols: &[usize; 17],
-    words: &mut [u32; 640],
+    names: &Names,
+    symbols: &SymbolTable,
+    words: &mut Words,
     p: Pending,
 ) -> Pending
     requires { ⌜ Room (now s) p × Symbols (now s) (now names) (now symbols) ⌝ }
@@ -152,7 +155,7 @@ fn subcondition(
         return refused(p, w);
     }
     let i = symbol_table::input_of(s, names, symbols, c);
-    if symbols[15] <= i {
+    if symbols[symbol_table::INPUT_COUNT] <= i {
         return refused(p, 5);
     }
     let q = count(s, p);
@@ -175,9 +178,9 @@ fn subcondition(
 // A subcondition or a parenthesised condition, where depth more parentheses may be open at once.
 fn plain(
     s: &[u8],
-    names: &[usize; 224],
-    symbols: &[usize; 17],
-    words: &mut [u32; 640],
+    names: &Names,
+    symbols: &SymbolTable,
+    words: &mut Words,
     p: Pending,
     depth: usize,
 ) -> Pending
@@ -218,9 +221,9 @@ fn plain(
 
 fn operand(
     s: &[u8],
-    names: &[usize; 224],
-    symbols: &[usize; 17],
-    words: &mut [u32; 640],
+    names: &Names,
+    symbols: &SymbolTable,
+    words: &mut Words,
     p: Pending,
     depth: usize,
 ) -> Pending
@@ -242,9 +245,9 @@ fn operand(
 // operand {AND operand}
 fn conjunction(
     s: &[u8],
-    names: &[usize; 224],
-    symbols: &[usize; 17],
-    words: &mut [u32; 640],
+    names: &Names,
+    symbols: &SymbolTable,
+    words: &mut Words,
     p: Pending,
     depth: usize,
 ) -> Pending
@@ -267,9 +270,9 @@ fn conjunction(
 // conjunction {OR conjunction}
 pub fn condition(
     s: &[u8],
-    names: &[usize; 224],
-    symbols: &[usize; 17],
-    words: &mut [u32; 640],
+    names: &Names,
+    symbols: &SymbolTable,
+    words: &mut Words,
     p: Pending,
     depth: usize,
 ) -> Pending

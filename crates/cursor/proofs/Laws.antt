@@ -49,7 +49,8 @@ module _ (s : List ℕ) (c : Cursor) (b : Block) (n : ℕ) where
   unchanged f h = simp (ne-eqb _ _ h)
 
 pub begun : (s : List ℕ) (t : Found) (b : Block) (n : ℕ) → tokensFrom s 0 ≡ tokenOf s t ∷ after s t
-    → seen s (record { kind = t .kind; start = t .start; end = t .end; why = 0; place = 0 }) b n ≡ record { rest = tokens s; why = 0; place = 0; block = b; words = n }
+    → seen s (record { kind = t .kind; start = t .start; end = t .end; why = 0; place = 0 }) b n
+    ≡ record { rest = tokens s; why = 0; place = 0; block = b; words = n }
 unfolding seen tokens tokensFrom
 begun s t b n e = ap (λ (l : List Token). record { rest = l; why = 0; place = 0; block = b; words = n }) (sym e)
 
@@ -75,7 +76,8 @@ kept s c w h g = record { reads = λ b n. sym (simp (ne-eqb _ _ h)); fewer = ome
 
 pub stopped : (s : List ℕ) (c : Cursor) (w : ℕ) → c .why ≡ 0 → (w ≡ 0 → ⊥) → Fits s c → Step (refuse w) s c (halted c w)
 unfolding refuse seen here left after
-stopped s c w h k g = record { reads = λ b n. sym (simp (eq-eqb _ _ h)); fewer = omega arith; fits = record { order = omega arith; inside = omega arith; halted = λ q. absurd (q refl) }; sticky = λ q. h }
+stopped s c w h k g = record { reads = λ b n. sym (simp (eq-eqb _ _ h)); fewer = omega arith; fits =
+    record { order = omega arith; inside = omega arith; halted = λ q. absurd (q refl) }; sticky = λ q. h }
 
 pub stopped-moves : (s : List ℕ) (c : Cursor) (w : ℕ) → Moves s c (halted c w)
 unfolding left
@@ -94,7 +96,8 @@ module _ (s : List ℕ) (c : Cursor) (t : Found) (h : c .kind ≡ 0 → ⊥) (e 
   unfolding left
   moves = by (eqb (t .kind) END) refl
     where
-      by : (x : Bool) → eqb (t .kind) END ≡ x → (if eqb (t .kind) END then 0 else suc (length (after s t))) < (if eqb (c .kind) END then 0 else suc (length (after s (current c))))
+      by : (x : Bool) → eqb (t .kind) END ≡ x → (if eqb (t .kind) END then 0 else suc (length (after s t)))
+          < (if eqb (c .kind) END then 0 else suc (length (after s (current c))))
       by true q = simp (q, ne-eqb _ _ h) (omega arith)
       by false q = simp (q, ne-eqb _ _ h) (let w = ap (λ (l : List Token). length l) follows in omega arith)
 
@@ -121,7 +124,8 @@ text-length s c g = length-slice (c .start) (c .end) s (g .inside)
 
 -- a step after a step
 pub steps : {f g : Part} {s : List ℕ} {a b c : Cursor} → Step f s a b → Step g s b c → Step (λ r. g (f r)) s a c
-steps {f} {g} {s} {a} {b} {c} p q = record { reads = λ x n. q .reads x n ∙ ap g (p .reads x n); fewer = let u = p .fewer in let v = q .fewer in omega arith; fits = q .fits; sticky = λ h. p .sticky (q .sticky h) }
+steps {f} {g} {s} {a} {b} {c} p q = record { reads = λ x n. q .reads x n ∙ ap g (p .reads x n); fewer = let u = p .fewer in let v = q .fewer in
+    omega arith; fits = q .fits; sticky = λ h. p .sticky (q .sticky h) }
 
 pub clash : {X : Type 0} → false ≡ true → X
 clash h = let z : _≡_ {A = ℕ} 0 1 = cc in absurd (omega arith)

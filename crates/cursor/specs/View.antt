@@ -1,4 +1,5 @@
--- What a cursor stands for: how far the text is read, beside a block and a number of condition words.
+-- A helper: what a cursor stands for: how far the text is read, beside a block and a number of condition words. `Step`
+-- ties a move of the cursor to a part of the rules, a `Part` of the model.
 use mathlib.Core.Path.{_≡_}
 use mathlib.Core.List.{List, [], _∷_}
 use Prim.Native.Nat.{ℕ, suc, _≤_, _<_}

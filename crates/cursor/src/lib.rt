@@ -86,7 +86,7 @@ pub fn name_fault(c: Cursor) -> u8
     if c.kind != token_kinds::NAME {
         return 2;
     }
-    if 16 < c.end - c.start {
+    if bounds::NAME < c.end - c.start {
         return 4;
     }
     0

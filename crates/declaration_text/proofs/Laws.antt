@@ -75,9 +75,11 @@ module _ (add : List ℕ → Block → Block) (count : Block → ℕ) (limit : �
   module _ (d : Cursor) (w : ℕ) (f : w ≡ fault (newChecks (seen s c (blockView s t) 0) (ltb m limit))) where
     pub variable-bad : Holds s t → (w ≡ 0 → ⊥) → Step (refuse w) s c d → Reads (variable add count limit) s (reading.at c t) (reading.at d t)
     unfolding variable
-    variable-bad g h q = reading.refuses (newChecks (view s (reading.at c t)) (ltb (count (view s (reading.at c t) .block)) limit)) _ refl w (ap fault same-checks ∙ sym f) h g q
+    variable-bad g h q = reading.refuses (newChecks (view s (reading.at c t)) (ltb (count (view s (reading.at c t) .block)) limit)) _ refl w
+        (ap fault same-checks ∙ sym f) h g q
 
-    pub variable-good : (u : Tables) → Fits s c → (c .kind ≡ 0 → ⊥) → w ≡ 0 → Changes s t u (add (textOf s c)) → Step advance s c d → Reads (variable add count limit) s (reading.at c t) (reading.at d u)
+    pub variable-good : (u : Tables) → Fits s c → (c .kind ≡ 0 → ⊥) → w ≡ 0 → Changes s t u (add (textOf s c)) → Step advance s c d
+        → Reads (variable add count limit) s (reading.at c t) (reading.at d u)
     unfolding variable numbered
     variable-good u g k h x q =
         reading.passes (newChecks (view s (reading.at c t)) (ltb (count (view s (reading.at c t) .block)) limit)) _ refl refl (ap fault same-checks ∙ sym f ∙ h)
@@ -86,18 +88,21 @@ module _ (add : List ℕ → Block → Block) (count : Block → ℕ) (limit : �
 
 -- THE NAME, THE TYPE
 module _ (s : List ℕ) (c : Cursor) (t : Tables) (d : Cursor) where
-  pub name-bad : (w : ℕ) → w ≡ fault (aName (seen s c (blockView s t) 0) []) → Holds s t → (w ≡ 0 → ⊥) → Step (refuse w) s c d → Reads (ownName withName) s (reading.at c t) (reading.at d t)
+  pub name-bad : (w : ℕ) → w ≡ fault (aName (seen s c (blockView s t) 0) []) → Holds s t → (w ≡ 0 → ⊥) → Step (refuse w) s c d
+      → Reads (ownName withName) s (reading.at c t) (reading.at d t)
   unfolding ownName view
   name-bad w f g h q = reading.refuses (aName (view s (reading.at c t)) []) _ refl w (sym f) h g q
 
-  pub name-good : (u : Tables) → 0 ≡ fault (aName (seen s c (blockView s t) 0) []) → Fits s c → (c .kind ≡ 0 → ⊥) → Changes s t u (withName (textOf s c)) → Step advance s c d → Reads (ownName withName) s (reading.at c t) (reading.at d u)
+  pub name-good : (u : Tables) → 0 ≡ fault (aName (seen s c (blockView s t) 0) []) → Fits s c → (c .kind ≡ 0 → ⊥)
+      → Changes s t u (withName (textOf s c)) → Step advance s c d → Reads (ownName withName) s (reading.at c t) (reading.at d u)
   unfolding ownName view numbered
   name-good u f g k x q =
       reading.passes (aName (view s (reading.at c t)) []) _ refl refl (sym f)
       (reading.next (reading.changes s c t u (withName (textOf s c)) g k x) (reading.step u (x .holds) q))
       (ap (λ (v : List ℕ). advance (change (withName v) (view s (reading.at c t)))) (sym (reading.text-view s (reading.at c t))))
 
-  pub type-int : (n : ℕ) (u : Tables) → Fits s c → c .kind ≡ 170 → Changes s t u (intFrom n) → Step advance s c d → Reads (inputType n) s (reading.at c t) (reading.at d u)
+  pub type-int : (n : ℕ) (u : Tables) → Fits s c → c .kind ≡ 170 → Changes s t u (intFrom n) → Step advance s c d
+      → Reads (inputType n) s (reading.at c t) (reading.at d u)
   unfolding inputType
   type-int n u g k x q =
       reading.also (reading.next (reading.changes s c t u (intFrom n) g (λ z. omega arith) x) (reading.step u (x .holds) q))
@@ -108,7 +113,8 @@ module _ (s : List ℕ) (c : Cursor) (t : Tables) (d : Cursor) where
   type-real n g k q = reading.also (reading.step t g q) (sym (simp (reading.kind-view, ne-eqb _ _ k)))
 
 pub declaration-is : (s : List ℕ) (p : ParseState)
-    → expect SEMICOLON (inputType (p .tables .«input_count») (expect COLON (listed (variable addInput inputCount inputLimit) (view s p)))) ≡ inputDeclaration (view s p)
+    → expect SEMICOLON (inputType (p .tables .«input_count») (expect COLON (listed (variable addInput inputCount inputLimit) (view s p))))
+    ≡ inputDeclaration (view s p)
 unfolding inputDeclaration
 declaration-is s p =
     ap (λ (n : ℕ). expect SEMICOLON (inputType n (expect COLON (listed (variable addInput inputCount inputLimit) (view s p)))))

@@ -1,4 +1,5 @@
--- The names of the variables so far.
+-- A helper: the names of the variables so far, and what a new one is checked for. `variable-bad` and `variable-good` of
+-- proofs/Laws tie the checks to the model's `variable`.
 use mathlib.Core.Path.{_≡_}
 use mathlib.Core.Bool.{Bool, _||_, not}
 use mathlib.Core.List.{List, [], _∷_}

@@ -12,6 +12,7 @@ ghost use Rattle.cursor.specs.View.{seen, Fits, Moves, fault};
 ghost use Rattle.parse_state.specs.Reads.{Good, Reads};
 ghost use Rattle.declaration_text.specs.Declares.{Declares, newChecks};
 use cursor::Cursor;
+use lookup::Names;
 use parse_state::ParseState;
 
 // The block's name.
@@ -37,14 +38,7 @@ pub fn block_name(s: &[u8], p: ParseState) -> ParseState
 }
 
 // By which number the current token is refused as the name of a new variable; 0 where it is one.
-fn new_fault(
-    s: &[u8],
-    names: &[usize; 224],
-    inputs: usize,
-    outputs: usize,
-    room: bool,
-    c: Cursor,
-) -> u8
+fn new_fault(s: &[u8], names: &Names, inputs: usize, outputs: usize, room: bool, c: Cursor) -> u8
     requires { ⌜ Fits (now s) c × Placed (now s) (now names) × (inputs ≤ 8) × (outputs ≤ 6) ⌝ }
     ensures { λ r. ⌜ ((b : Block) (n : ℕ) → Declares (now (s .entry)) (now (names .entry)) inputs outputs b
         → r ≡ fault (newChecks (seen (now (s .entry)) c b n) room)) ⌝ }
@@ -57,7 +51,7 @@ fn new_fault(
     if lookup::find(s, names, 0, inputs, c.start, c.end) < inputs {
         return 4;
     }
-    if lookup::find(s, names, 8, outputs, c.start, c.end) < outputs {
+    if lookup::find(s, names, lookup::FIRST_OUTPUT, outputs, c.start, c.end) < outputs {
         return 4;
     }
     if room {
@@ -75,7 +69,7 @@ fn input(s: &[u8], p: ParseState) -> ParseState
     let c = p.cursor;
     let t = p.tables;
     let n = t.input_count;
-    let w = new_fault(s, &t.names, n, t.output_count, n < 8, c);
+    let w = new_fault(s, &t.names, n, t.output_count, n < bounds::INPUTS, c);
     if w != 0 {
         let d = cursor::refuse(c, w);
         return ParseState {
@@ -100,7 +94,7 @@ fn output(s: &[u8], p: ParseState) -> ParseState
     let c = p.cursor;
     let t = p.tables;
     let n = t.output_count;
-    let w = new_fault(s, &t.names, t.input_count, n, n < 6, c);
+    let w = new_fault(s, &t.names, t.input_count, n, n < bounds::OUTPUTS, c);
     if w != 0 {
         let d = cursor::refuse(c, w);
         return ParseState {

@@ -1,6 +1,6 @@
 -- What a RANGE, a singleton, a default and a whole part are judged by, and what they change.
 use mathlib.Core.Path.{_≡_, refl, sym, ap, _∙_}
-use mathlib.Core.Bool.{Bool, true, false, _&&_, not}
+use mathlib.Core.Bool.{Bool, true, false, not}
 use mathlib.Core.List.{List, [], _∷_}
 use mathlib.Core.Option.{none}
 use Prim.Native.Nat.{ℕ, zero, suc, _+_, _*_, _≤_, _<_}
@@ -9,7 +9,7 @@ use borrow.Author.Tests.{eq-eqb, ne-eqb, lt-ltb, le-ltb}
 use lib.Dec.{ltb, eqb}
 use lib.IntN.{ℤ}
 use lib.ListN.{length}
-use lib.Signed.{leZ, ltZ}
+use lib.Signed.{ltZ}
 use Rattle.model.specs.Basic.{if_then_else_, isEmpty, indexOf}
 use Rattle.model.specs.Image.{tab}
 use Rattle.model.specs.Block.{Block, Output, inRange, singletonsOf, rangeOf, withRange, withSingleton, withDefault}
@@ -51,12 +51,6 @@ module _ (r : Parse) (t : Bool) where
   crisp-good e = fault-good (aCrisp r []) ((t, 7) ∷ []) refl (sym e)
 
 -- RANGE
-pub in-range : (v : Row) (x : ℤ) → v .ranged ≡ true → inRange (rangeView v) x ≡ leZ (v .least .0) x && leZ x (v .most .0)
-in-range v x h = simp h refl
-
-pub no-range : (v : Row) (x : ℤ) → v .ranged ≡ false → inRange (rangeView v) x ≡ true
-no-range v x h = simp h refl
-
 pub figure-judged : (s : List ℕ) (c : Cursor) (b : Block) (n : ℕ) (v : Row) (x : ℤ) (t : Bool) → 0 ≡ fault (aCrisp (seen s c b n) []) → x ≡ valueOf (textOf s c) → inRange (rangeView v) x ≡ t
     → fault (figureChecks (rangeView v) (seen s c b n)) ≡ (if t then 0 else 7)
 figure-judged s c b n v x t e q h =

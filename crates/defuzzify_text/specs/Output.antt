@@ -1,4 +1,5 @@
--- ParseState what belongs to one output.
+-- A helper: readings of what belongs to one output. `part-read` of proofs/Laws ties `partText` to the model's
+-- `defuzzifyVariable`.
 use mathlib.Core.Path.{_≡_}
 use mathlib.Core.Bool.{not}
 use mathlib.Core.List.{List, [], _∷_}

@@ -13,11 +13,12 @@ ghost use Rattle.lookup.specs.Names.{Placed};
 ghost use Rattle.block_tables.specs.View.{outputRow, rangeView};
 ghost use Rattle.parse_state.specs.Reads.{Good, Reads};
 ghost use Rattle.defuzzify_text.specs.Output.{ReadsFor, HasSingletons, figureChecks, termChecks, methodText, partText};
-use cursor::Cursor;
-use model::Crisp;
-use parse_state::ParseState;
 use block_tables::Output;
+use cursor::Cursor;
+use lookup::Names;
+use model::Crisp;
 use number_tokens::CrispHere;
+use parse_state::ParseState;
 
 // The upper end of the RANGE of output o, above its lower end x.
 fn upper_end(s: &[u8], p: ParseState, o: usize, x: Crisp) -> ParseState
@@ -96,15 +97,9 @@ fn optional_range(s: &[u8], p: ParseState, o: usize) -> ParseState
 fn inside(v: Output, x: Crisp) -> bool
     ensures { λ r. ⌜ r ≡ inRange (rangeView v) (x .0) ⌝ }
 {
-    if v.ranged {
-        let a = v.least;
-        if crisp::not_above(a, x) {
-            let b = v.most;
-            return crisp::not_above(x, b);
-        }
-        return false;
-    }
-    true
+    let a = v.least;
+    let b = v.most;
+    crisp::in_range(v.ranged, a, b, x)
 }
 
 // The number at the cursor as one inside the RANGE of v.
@@ -181,7 +176,7 @@ fn default_number(s: &[u8], p: ParseState, o: usize) -> ParseState
 }
 
 // By which number the current token is refused as the name of a new term of output o, which has some; 0 where it is one.
-fn term_fault(s: &[u8], names: &[usize; 224], o: usize, terms: usize, c: Cursor) -> u8
+fn term_fault(s: &[u8], names: &Names, o: usize, terms: usize, c: Cursor) -> u8
     requires { ⌜ Fits (now s) c × Placed (now s) (now names) × (o < 6) × (terms ≤ 7) ⌝ }
     ensures { λ r. ⌜ ((b : Block) (n : ℕ) → HasSingletons (now (s .entry)) (now (names .entry)) o terms b
         → r ≡ fault (termChecks o (seen (now (s .entry)) c b n))) ⌝ }
@@ -191,7 +186,16 @@ fn term_fault(s: &[u8], names: &[usize; 224], o: usize, terms: usize, c: Cursor)
     if w != 0 {
         return w;
     }
-    if lookup::find(s, names, 70 + o * 7, terms, c.start, c.end) < terms {
+    if lookup::find(
+        s,
+        names,
+        lookup::FIRST_OUTPUT_TERM + o * bounds::TERMS,
+        terms,
+        c.start,
+        c.end,
+    )
+        < terms
+    {
         return 4;
     }
     0
@@ -246,7 +250,7 @@ fn output_term(s: &[u8], p: ParseState, o: usize) -> ParseState
         };
     }
     let v = t.outputs[o];
-    if 7 <= v.terms {
+    if bounds::TERMS <= v.terms {
         let d = cursor::refuse(c, 6);
         return ParseState {
             cursor: d,
@@ -335,7 +339,14 @@ fn defuzzify_named(s: &[u8], p: ParseState) -> ParseState
             tables: t,
         };
     }
-    let o = lookup::find(s, &t.names, 8, t.output_count, c.start, c.end);
+    let o = lookup::find(
+        s,
+        &t.names,
+        lookup::FIRST_OUTPUT,
+        t.output_count,
+        c.start,
+        c.end,
+    );
     if t.output_count <= o {
         let d = cursor::refuse(c, 5);
         return ParseState {

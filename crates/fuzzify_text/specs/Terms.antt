@@ -1,4 +1,5 @@
--- The last term of an input in the tables, and what its points are checked for in numbers.
+-- A helper: the last term of an input in the tables, and what its points are checked for in numbers. `position-is` and
+-- `points-end` of proofs/Laws tie these to the model's `pointPosition` and `endOfPoints`.
 use mathlib.Core.Path.{_≡_}
 use mathlib.Core.Bool.{Bool, true}
 use mathlib.Core.List.{[], _∷_, map}

@@ -10,10 +10,10 @@ ghost use Rattle.cursor.specs.View.{textOf, Fits, Step, Moves};
 ghost use Rattle.block_tables.specs.View.{inputRow, blockView};
 ghost use Rattle.parse_state.specs.Reads.{Good, Reads};
 ghost use Rattle.fuzzify_text.specs.Terms.{Open, lastPlace, rises, Ends, positionAfter, endAfter};
+use block_tables::Point;
 use cursor::Cursor;
 use model::Crisp;
 use parse_state::ParseState;
-use block_tables::Point;
 
 // The cursor behind a position, and its value where it is not refused.
 struct At {
@@ -79,7 +79,7 @@ fn degree(s: &[u8], p: ParseState, i: usize, x: Crisp) -> ParseState
     let y = w.value;
     let q = Point { at: x, degree: y };
     let v = t.inputs[i];
-    let k = i * 7 + v.terms - 1;
+    let k = i * bounds::TERMS + v.terms - 1;
     let u = block_updates::add_point(t, k, q);
     let d = cursor::advance(s, c);
     ParseState {
@@ -122,7 +122,7 @@ fn point(s: &[u8], p: ParseState, i: usize) -> ParseState
     let c = p.cursor;
     let t = p.tables;
     let v = t.inputs[i];
-    let k = i * 7 + v.terms - 1;
+    let k = i * bounds::TERMS + v.terms - 1;
     let n = t.counts[k];
     let mut q = p;
     if c.kind != token_kinds::OPEN {
@@ -130,7 +130,7 @@ fn point(s: &[u8], p: ParseState, i: usize) -> ParseState
         q.cursor = d;
         return q;
     }
-    if 4 <= n {
+    if bounds::POINTS <= n {
         let d = cursor::refuse(c, 6);
         q.cursor = d;
         return q;
@@ -140,7 +140,7 @@ fn point(s: &[u8], p: ParseState, i: usize) -> ParseState
     if n == 0 {
         return point_from(s, q, i, n, Crisp(0));
     }
-    let o = t.points[k * 4 + n - 1];
+    let o = t.points[k * bounds::POINTS + n - 1];
     let last = o.at;
     point_from(s, q, i, n, last)
 }
@@ -168,7 +168,7 @@ fn end_of_points(s: &[u8], c: Cursor, n: usize) -> Cursor
     if c.kind != token_kinds::SEMICOLON {
         return cursor::refuse(c, 2);
     }
-    if n < 2 {
+    if n < bounds::LEAST_POINTS {
         return cursor::refuse(c, 7);
     }
     cursor::advance(s, c)
@@ -187,7 +187,7 @@ fn term_points(s: &[u8], p: ParseState, i: usize) -> ParseState
     let mut r = points(s, q, i);
     let t = r.tables;
     let v = t.inputs[i];
-    let k = i * 7 + v.terms - 1;
+    let k = i * bounds::TERMS + v.terms - 1;
     let e = r.cursor;
     let f = end_of_points(s, e, t.counts[k]);
     r.cursor = f;
@@ -213,7 +213,16 @@ fn term_name(s: &[u8], p: ParseState, i: usize) -> ParseState
     }
     let v = t.inputs[i];
     let n = v.terms;
-    if lookup::find(s, &t.names, 14 + i * 7, n, c.start, c.end) < n {
+    if lookup::find(
+        s,
+        &t.names,
+        lookup::FIRST_TERM + i * bounds::TERMS,
+        n,
+        c.start,
+        c.end,
+    )
+        < n
+    {
         let d = cursor::refuse(c, 4);
         return ParseState {
             cursor: d,
@@ -243,7 +252,7 @@ fn input_term(s: &[u8], p: ParseState, i: usize) -> ParseState
         q.cursor = d;
         return q;
     }
-    if 7 <= v.terms {
+    if bounds::TERMS <= v.terms {
         let d = cursor::refuse(c, 6);
         q.cursor = d;
         return q;

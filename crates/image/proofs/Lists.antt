@@ -2,6 +2,7 @@
 use mathlib.Core.Path.{_≡_, refl, sym, ap, _∙_}
 use mathlib.Core.List.{List, [], _∷_, _++_, append-assoc, append-nil}
 use Prim.Native.Nat.{ℕ, suc, _+_, _*_, _-_, _≤_, _<_}
+use native.Mathlib.Numerals.{add-one}
 use native.Mathlib.Omega.{arith}
 use lib.Dec.{eqb}
 use lib.ListN.{length, getD, set, length-set, replicate}
@@ -9,12 +10,12 @@ use lib.Seq.{take-suc-set, getD-set-same, getD-set-other}
 use borrow.Author.Tests.{eqb-true, eqb-false}
 use mathlib.Core.Bool.{Bool, true, false}
 use Rattle.model.specs.Image.{tab}
-use Rattle.laws.proofs.Places.{tab-last}
+use Rattle.laws.proofs.Places.{step, gone, tab-last}
 use Rattle.block_tables.proofs.Lists.{alike}
 use Rattle.layout.specs.Tables.{sums}
 use Rattle.image.specs.declared.Slots.{Slots}
 use Rattle.image.specs.Rows.{Listed, listOf, rows, onward, slotRow}
-use Rattle.image.proofs.Over.{rows-more, rows-end}
+use Rattle.image.proofs.Turns.{rows-more, rows-end}
 
 -- no slots
 pub listed-none : Listed (record { at = replicate 98 0; count = 0 })
@@ -52,11 +53,8 @@ module _ (c : ℕ → ℕ) (v n i : ℕ) (xs T : List ℕ) where
 module _ (c : ℕ → ℕ) (n i : ℕ) where
   pub sums-more : i < n → sums c (n - i) i ≡ c i + sums c (n - (i + 1)) (i + 1)
   unfolding sums
-  sums-more h =
-      let z : n - i ≡ suc (n - (i + 1)) = omega arith in
-      let o : i + 1 ≡ suc i = omega arith in
-      rw (z, o)
+  sums-more h = rw (step n i h, add-one)
 
   pub sums-end : n ≤ i → sums c (n - i) i ≡ 0
   unfolding sums
-  sums-end h = let z : n - i ≡ 0 = omega arith in rw z
+  sums-end h = rw (gone n i h)

@@ -1,4 +1,5 @@
--- The words of each table from the arrays that a text is read into, row by row.
+-- A helper: the words of each table from the arrays that a text is read into, row by row. `words-are` of proofs/Whole
+-- ties them to the model's `words`.
 use mathlib.Core.Path.{_≡_}
 use mathlib.Core.Bool.{Bool}
 use mathlib.Core.List.{List, [], _∷_, _++_}

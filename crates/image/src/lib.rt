@@ -1,8 +1,8 @@
 // The image of a block, written into a lent buffer word by word once there is room for all of it.
 ghost use mathlib.Core.Path.{_≡_};
-ghost use mathlib.Core.List.{List, [], _∷_, _++_};
+ghost use mathlib.Core.List.{List, _++_};
 ghost use Prim.Native.Nat.{ℕ, _+_, _*_, _≤_, _<_};
-ghost use lib.ListN.{length, take, getD};
+ghost use lib.ListN.{length, getD};
 ghost use lib.Seq.{slice};
 ghost use Rattle.model.specs.Block.{Rule};
 ghost use Rattle.model.specs.Image.{crispWord, nameWords, image, tab};
@@ -11,17 +11,41 @@ ghost use Rattle.model.specs.Refusals.{writtenOf};
 ghost use Rattle.lookup.specs.Names.{nameOf, Placed};
 ghost use Rattle.block_tables.specs.View.{wholeView, Holds, Headed};
 ghost use Rattle.block_tables.specs.Stored.{Stored};
-ghost use Rattle.image.specs.Over.{over, Wrote};
+ghost use Rattle.word_writer.specs.Over.{Wrote};
 ghost use Rattle.image.specs.Rows.{bit, given, inputSize, outputSize, inputWords, inputRows, outputWords, outputRows, slotsOf, listOf, Listed, held, heldIn, termWords, termRows, pointRow, pointsIn, pointRows, variableRows, variableWords, ruleRows, entriesOf, Few, headWords, rows, onward};
-use model::Crisp;
-use model::Refusal;
-use model::Written;
+use block_tables::CONCLUSION_WIDTH;
+use block_tables::Conclusions;
 use block_tables::Heading;
 use block_tables::Input;
 use block_tables::Output;
 use block_tables::Point;
+use block_tables::PointCounts;
+use block_tables::RULE_WIDTH;
+use block_tables::Rules;
 use block_tables::Tables;
 use block_tables::Totals;
+use block_tables::Words;
+use lookup::Names;
+use model::Crisp;
+use model::Refusal;
+use model::Written;
+
+// As words: the degree 1, the length of the header, the widths of rows.
+const ONE: u32 = bounds::M as u32;
+
+const SIZE: u32 = header::SIZE as u32;
+
+const INPUT_WIDTH: u32 = header::INPUT_WIDTH as u32;
+
+const OUTPUT_WIDTH: u32 = header::OUTPUT_WIDTH as u32;
+
+const TERM_WIDTH: u32 = header::TERM_WIDTH as u32;
+
+const POINT_WIDTH: u32 = header::POINT_WIDTH as u32;
+
+const RULE_ROW_WIDTH: u32 = header::RULE_WIDTH as u32;
+
+const CONCLUSION_ROW_WIDTH: u32 = header::CONCLUSION_WIDTH as u32;
 
 // How many entries the tables of the image have.
 struct Counts {
@@ -36,45 +60,11 @@ struct Counts {
 
 // The slots of the terms so far, in their order: slot 7v + j for term j of variable v.
 struct Slots {
-    pub at: [usize; 98],
+    pub at: [usize; bounds::ALL_TERMS],
     pub count: usize,
 }
 
 // WORDS
-// The word at a place, little-endian.
-fn word(out: &mut [u8], at: usize, w: u32)
-    requires { ⌜ at * 4 + 4 ≤ length (now out) ⌝ }
-    ensures { λ _. ⌜ now (out .exit) ≡ over at (w ∷ []) (now (out .entry)) ⌝ }
-{
-    let k = at * 4;
-    out[k] = (w % 256) as u8;
-    out[k + 1] = (w / 256 % 256) as u8;
-    out[k + 2] = (w / 65536 % 256) as u8;
-    out[k + 3] = (w / 16777216) as u8;
-}
-
-// Words from a place on; the place after them.
-fn copy(ws: &[u32], out: &mut [u8], at: usize) -> usize
-    requires { ⌜ (at + length (now ws)) * 4 ≤ length (now out) ⌝ }
-    ensures { λ r. ⌜ Wrote at r (now (ws .entry)) (now (out .entry)) (now (out .exit)) ⌝ }
-{
-    let mut i: usize = 0;
-    while i < ws.len() {
-        word(out, at + i, ws[i]);
-        i += 1;
-    }
-    at + i
-}
-
-// The first n of some words.
-fn copy_front(ws: &[u32], n: usize, out: &mut [u8], at: usize) -> usize
-    requires { ⌜ (n ≤ length (now ws)) × ((at + n) * 4 ≤ length (now out)) ⌝ }
-    ensures { λ r. ⌜ Wrote at r (take n (now (ws .entry))) (now (out .entry)) (now (out .exit)) ⌝ }
-    ensures next { λ r. ⌜ r ≡ at + n ⌝ }
-{
-    copy(&ws[..n], out, at)
-}
-
 fn wide(w: u32) -> usize
     ensures { λ r. ⌜ (r ≡ w) × (r ≤ 4294967295) ⌝ }
 {
@@ -112,7 +102,7 @@ fn given_word(on: bool, x: Crisp) -> u32
 }
 
 // A name in four words, zero padded.
-fn spelt(w: &[u8]) -> [u32; 4]
+fn spelt(w: &[u8]) -> [u32; header::NAME_WIDTH]
     ensures { λ r. ⌜ r ≡ nameWords (now (w .entry)) ⌝ }
 {
     [
@@ -124,17 +114,23 @@ fn spelt(w: &[u8]) -> [u32; 4]
 }
 
 // The words of name k.
-fn name_words(s: &[u8], names: &[usize; 224], k: usize) -> [u32; 4]
+fn name_words(s: &[u8], names: &Names, k: usize) -> [u32; header::NAME_WIDTH]
     requires { ⌜ (k < 112) × Placed (now s) (now names) ⌝ }
     ensures { λ r. ⌜ r ≡ nameWords (nameOf (now (s .entry)) (now (names .entry)) k) ⌝ }
 {
     let a = names[k];
-    let e = names[112 + k];
+    let e = names[lookup::ENDS + k];
     spelt(&s[a..e])
 }
 
 // VARIABLES
-fn input_row(s: &[u8], names: &[usize; 224], v: Input, first: usize, i: usize) -> [u32; 7]
+fn input_row(
+    s: &[u8],
+    names: &Names,
+    v: Input,
+    first: usize,
+    i: usize,
+) -> [u32; header::INPUT_WIDTH]
     requires { ⌜ (i < 8) × (first ≤ 56) × (v .terms ≤ 7) × Placed (now s) (now names) ⌝ }
     ensures { λ r. ⌜ r ≡ inputWords (now (s .entry)) (now (names .entry)) v first i ⌝ }
 {
@@ -145,8 +141,8 @@ fn input_row(s: &[u8], names: &[usize; 224], v: Input, first: usize, i: usize) -
 
 fn input_table(
     s: &[u8],
-    names: &[usize; 224],
-    inputs: [Input; 8],
+    names: &Names,
+    inputs: [Input; bounds::INPUTS],
     count: usize,
     out: &mut [u8],
     at: usize,
@@ -163,18 +159,24 @@ fn input_table(
     while i < count {
         let v = inputs[i];
         let row = input_row(s, names, v, first, i);
-        p = copy(&row, out, p);
+        p = word_writer::copy(&row, out, p);
         first += v.terms;
         i += 1;
     }
     p
 }
 
-fn output_row(s: &[u8], names: &[usize; 224], v: Output, first: usize, o: usize) -> [u32; 11]
+fn output_row(
+    s: &[u8],
+    names: &Names,
+    v: Output,
+    first: usize,
+    o: usize,
+) -> [u32; header::OUTPUT_WIDTH]
     requires { ⌜ (o < 6) × (first ≤ 98) × (v .terms ≤ 7) × Placed (now s) (now names) ⌝ }
     ensures { λ r. ⌜ r ≡ outputWords (now (s .entry)) (now (names .entry)) v first o ⌝ }
 {
-    let n = name_words(s, names, 8 + o);
+    let n = name_words(s, names, lookup::FIRST_OUTPUT + o);
     let ranged = v.ranged;
     let low = v.least;
     let high = v.most;
@@ -204,8 +206,8 @@ fn output_row(s: &[u8], names: &[usize; 224], v: Output, first: usize, o: usize)
 // first: the first term of the outputs.
 fn output_table(
     s: &[u8],
-    names: &[usize; 224],
-    outputs: [Output; 6],
+    names: &Names,
+    outputs: [Output; bounds::OUTPUTS],
     count: usize,
     first: usize,
     out: &mut [u8],
@@ -223,7 +225,7 @@ fn output_table(
     while o < count {
         let v = outputs[o];
         let row = output_row(s, names, v, n, o);
-        p = copy(&row, out, p);
+        p = word_writer::copy(&row, out, p);
         n += v.terms;
         o += 1;
     }
@@ -240,19 +242,19 @@ fn with_slots(list: Slots, v: usize, n: usize) -> Slots
     let mut j: usize = 0;
     while j < n {
         let k = r.count;
-        r.at[k] = v * 7 + j;
+        r.at[k] = v * bounds::TERMS + j;
         r.count = k + 1;
         j += 1;
     }
     r
 }
 
-fn input_slots(inputs: [Input; 8], count: usize) -> Slots
+fn input_slots(inputs: [Input; bounds::INPUTS], count: usize) -> Slots
     requires { ⌜ (count ≤ 8) × ((i : ℕ) → inputSize inputs i ≤ 7) ⌝ }
     ensures { λ r. ⌜ Listed r × (r .count ≤ count * 7) × (listOf r ≡ slotsOf (inputSize inputs) 0 count) ⌝ }
 {
     let mut r = Slots {
-        at: [0; 98],
+        at: [0; bounds::ALL_TERMS],
         count: 0,
     };
     let mut i: usize = 0;
@@ -264,7 +266,7 @@ fn input_slots(inputs: [Input; 8], count: usize) -> Slots
     r
 }
 
-fn output_slots(list: Slots, outputs: [Output; 6], count: usize) -> Slots
+fn output_slots(list: Slots, outputs: [Output; bounds::OUTPUTS], count: usize) -> Slots
     requires { ⌜ (count ≤ 6) × (list .count ≤ 56) × ((o : ℕ) → outputSize outputs o ≤ 7) × Listed list ⌝ }
     ensures { λ r. ⌜ Listed r × (r .count ≤ list .count + count * 7)
         × (listOf r ≡ listOf list ++ slotsOf (outputSize outputs) 8 count) ⌝ }
@@ -273,24 +275,24 @@ fn output_slots(list: Slots, outputs: [Output; 6], count: usize) -> Slots
     let mut o: usize = 0;
     while o < count {
         let v = outputs[o];
-        r = with_slots(r, 8 + o, v.terms);
+        r = with_slots(r, bounds::INPUTS + o, v.terms);
         o += 1;
     }
     r
 }
 
 // How many points the term in slot k has: an output's has one.
-fn points_in(counts: &[usize; 56], k: usize) -> usize
+fn points_in(counts: &PointCounts, k: usize) -> usize
     requires { ⌜ ((i : ℕ) → getD (now counts) i 0 ≤ 4) ⌝ }
     ensures { λ r. ⌜ (r ≡ held (now (counts .entry)) k) × (r ≤ 4) ⌝ }
 {
-    if k < 56 {
+    if k < bounds::INPUT_TERMS {
         return counts[k];
     }
     1
 }
 
-fn point_count(counts: &[usize; 56], slots: &[usize; 98], n: usize) -> usize
+fn point_count(counts: &PointCounts, slots: &[usize; bounds::ALL_TERMS], n: usize) -> usize
     requires { ⌜ (n ≤ 98) × ((i : ℕ) → getD (now counts) i 0 ≤ 4) ⌝ }
     ensures { λ r. ⌜ (r ≡ heldIn (now (counts .entry)) (now (slots .entry)) n) × (r ≤ n * 4) ⌝ }
 {
@@ -305,24 +307,24 @@ fn point_count(counts: &[usize; 56], slots: &[usize; 98], n: usize) -> usize
 
 fn term_row(
     s: &[u8],
-    names: &[usize; 224],
-    counts: &[usize; 56],
+    names: &Names,
+    counts: &PointCounts,
     first: usize,
     k: usize,
-) -> [u32; 6]
+) -> [u32; header::TERM_WIDTH]
     requires { ⌜ (k < 98) × (first ≤ 392) × ((i : ℕ) → getD (now counts) i 0 ≤ 4) × Placed (now s) (now names) ⌝ }
     ensures { λ r. ⌜ r ≡ termWords (now (s .entry)) (now (names .entry)) (now (counts .entry)) first k ⌝ }
 {
-    let w = name_words(s, names, 14 + k);
+    let w = name_words(s, names, lookup::FIRST_TERM + k);
     let n = points_in(counts, k);
     [w[0], w[1], w[2], w[3], first as u32, n as u32]
 }
 
 fn term_table(
     s: &[u8],
-    names: &[usize; 224],
-    counts: &[usize; 56],
-    slots: &[usize; 98],
+    names: &Names,
+    counts: &PointCounts,
+    slots: &[usize; bounds::ALL_TERMS],
     n: usize,
     out: &mut [u8],
     at: usize,
@@ -340,7 +342,7 @@ fn term_table(
     while i < n {
         let k = slots[i];
         let row = term_row(s, names, counts, first, k);
-        p = copy(&row, out, p);
+        p = word_writer::copy(&row, out, p);
         first += points_in(counts, k);
         i += 1;
     }
@@ -348,7 +350,13 @@ fn term_table(
 }
 
 // n points from place k on.
-fn some_points(points: [Point; 224], k: usize, n: usize, out: &mut [u8], at: usize) -> usize
+fn some_points(
+    points: [Point; bounds::INPUT_POINTS],
+    k: usize,
+    n: usize,
+    out: &mut [u8],
+    at: usize,
+) -> usize
     requires { ⌜ (k + n ≤ 224) × ((at + n * 2) * 4 ≤ length (now out)) ⌝ }
     ensures { λ r. ⌜ Wrote at r (rows (pointRow points k) onward n 0 tt) (now (out .entry)) (now (out .exit)) ⌝ }
     ensures next { λ r. ⌜ r ≡ at + n * 2 ⌝ }
@@ -360,7 +368,7 @@ fn some_points(points: [Point; 224], k: usize, n: usize, out: &mut [u8], at: usi
         let x = v.at;
         let d = v.degree;
         let row = [crisp_word(x), d.0];
-        p = copy(&row, out, p);
+        p = word_writer::copy(&row, out, p);
         j += 1;
     }
     p
@@ -368,9 +376,9 @@ fn some_points(points: [Point; 224], k: usize, n: usize, out: &mut [u8], at: usi
 
 // The points of the term in slot k.
 fn slot_points(
-    points: [Point; 224],
-    singletons: [Crisp; 42],
-    counts: &[usize; 56],
+    points: [Point; bounds::INPUT_POINTS],
+    singletons: [Crisp; bounds::OUTPUT_TERMS],
+    counts: &PointCounts,
     k: usize,
     out: &mut [u8],
     at: usize,
@@ -381,20 +389,20 @@ fn slot_points(
         (now (out .entry)) (now (out .exit)) ⌝ }
     ensures next { λ r. ⌜ r ≡ at + held (now (counts .entry)) k * 2 ⌝ }
 {
-    if k < 56 {
+    if k < bounds::INPUT_TERMS {
         let n = counts[k];
-        return some_points(points, k * 4, n, out, at);
+        return some_points(points, k * bounds::POINTS, n, out, at);
     }
-    let x = singletons[k - 56];
-    let row = [crisp_word(x), 1000000];
-    copy(&row, out, at)
+    let x = singletons[k - bounds::INPUT_TERMS];
+    let row = [crisp_word(x), ONE];
+    word_writer::copy(&row, out, at)
 }
 
 fn point_table(
-    points: [Point; 224],
-    singletons: [Crisp; 42],
-    counts: &[usize; 56],
-    slots: &[usize; 98],
+    points: [Point; bounds::INPUT_POINTS],
+    singletons: [Crisp; bounds::OUTPUT_TERMS],
+    counts: &PointCounts,
+    slots: &[usize; bounds::ALL_TERMS],
     n: usize,
     out: &mut [u8],
     at: usize,
@@ -427,11 +435,11 @@ fn rule_table(rules: &[u32], n: usize, out: &mut [u8], at: usize) -> usize
     let mut p = at;
     let mut i: usize = 0;
     while i < n {
-        let k = i * 4;
+        let k = i * RULE_WIDTH;
         let a = rules[k + 1];
         let b = rules[k + 2];
         let row = [rules[k], word, a, conclusion, b, rules[k + 3]];
-        p = copy(&row, out, p);
+        p = word_writer::copy(&row, out, p);
         word = std::num::wrapping_add_u32(word, a);
         conclusion = std::num::wrapping_add_u32(conclusion, b);
         i += 1;
@@ -441,7 +449,7 @@ fn rule_table(rules: &[u32], n: usize, out: &mut [u8], at: usize) -> usize
 
 // THE WHOLE
 // The seven counts of the header.
-fn entries(inputs: usize, outputs: usize, counts: &[usize; 56], list: Slots, n: Totals) -> Counts
+fn entries(inputs: usize, outputs: usize, counts: &PointCounts, list: Slots, n: Totals) -> Counts
     requires { ⌜ (inputs ≤ 8) × (outputs ≤ 6) × (list .count ≤ 98) × ((i : ℕ) → getD (now counts) i 0 ≤ 4)
         × (n .rules ≤ 64) × (n .words ≤ 640) × (n .conclusions ≤ 128) ⌝ }
     ensures { λ r. ⌜ r ≡ entriesOf inputs outputs (now (counts .entry)) list n ⌝ }
@@ -461,19 +469,20 @@ fn entries(inputs: usize, outputs: usize, counts: &[usize; 56], list: Slots, n: 
 }
 
 // The header up to the names: layout, total, counts, offsets, algorithms.
-fn head_words(c: Counts, h: Heading) -> [u32; 20]
+fn head_words(c: Counts, h: Heading) -> [u32; header::BLOCK_NAME]
     requires { ⌜ Few c ⌝ }
     ensures { λ r. ⌜ r ≡ headWords c h ⌝ }
 {
-    let outputs = 28 + c.inputs * 7;
-    let terms = outputs + c.outputs * 11;
-    let points = terms + c.terms * 6;
-    let rules = points + c.points * 2;
-    let words = rules + c.rules * 6;
+    let layout = header::layout_word() as u32;
+    let outputs = SIZE + c.inputs * INPUT_WIDTH;
+    let terms = outputs + c.outputs * OUTPUT_WIDTH;
+    let points = terms + c.terms * TERM_WIDTH;
+    let rules = points + c.points * POINT_WIDTH;
+    let words = rules + c.rules * RULE_ROW_WIDTH;
     let conclusions = words + c.words;
-    let end = conclusions + c.conclusions * 2;
+    let end = conclusions + c.conclusions * CONCLUSION_ROW_WIDTH;
     [
-        1,
+        layout,
         end,
         c.inputs,
         c.outputs,
@@ -482,7 +491,7 @@ fn head_words(c: Counts, h: Heading) -> [u32; 20]
         c.rules,
         c.words,
         c.conclusions,
-        28,
+        SIZE,
         outputs,
         terms,
         points,
@@ -497,20 +506,27 @@ fn head_words(c: Counts, h: Heading) -> [u32; 20]
 }
 
 // The whole header.
-fn header(s: &[u8], head: [u32; 20], start: usize, end: usize, h: Heading, out: &mut [u8]) -> usize
+fn header(
+    s: &[u8],
+    head: [u32; header::BLOCK_NAME],
+    start: usize,
+    end: usize,
+    h: Heading,
+    out: &mut [u8],
+) -> usize
     requires { ⌜ (start ≤ end) × (end ≤ length (now s)) × Headed (now s) h × (112 ≤ length (now out)) ⌝ }
     ensures { λ r. ⌜ Wrote 0 r (head ++ (nameWords (slice start end (now (s .entry)))
         ++ nameWords (slice (h .start) (h .end) (now (s .entry)))))
         (now (out .entry)) (now (out .exit)) ⌝ }
     ensures next { λ r. ⌜ r ≡ 28 ⌝ }
 {
-    let p = copy(&head, out, 0);
+    let p = word_writer::copy(&head, out, 0);
     let n = spelt(&s[start..end]);
-    let q = copy(&n, out, p);
+    let q = word_writer::copy(&n, out, p);
     let a = h.start;
     let e = h.end;
     let m = spelt(&s[a..e]);
-    copy(&m, out, q)
+    word_writer::copy(&m, out, q)
 }
 
 // The tables of variables, terms and points. first: how many of the terms in the list are of inputs.
@@ -538,9 +554,9 @@ pub fn store(
     s: &[u8],
     t: Tables,
     h: Heading,
-    rules: &[u32; 256],
-    words: &[u32; 640],
-    conclusions: &[u32; 256],
+    rules: &Rules,
+    words: &Words,
+    conclusions: &Conclusions,
     n: Totals,
     out: &mut [u8],
 ) -> Written
@@ -563,7 +579,7 @@ pub fn store(
     let list = output_slots(own, outputs, t.output_count);
     let c = entries(t.input_count, t.output_count, &counts, list, n);
     let head = head_words(c, h);
-    let size = wide(head[1]) * 4;
+    let size = wide(head[header::TOTAL]) * 4;
     if out.len() < size {
         return Written::Refused(Refusal::BufferTooShort(size));
     }
@@ -571,8 +587,8 @@ pub fn store(
     let q = variables(s, t, own.count, list, out, p);
     let r = rule_table(rows, n.rules, out, q);
     let k = n.words;
-    let m = n.conclusions * 2;
-    let e = copy_front(ws, k, out, r);
-    copy_front(ks, m, out, e);
+    let m = n.conclusions * CONCLUSION_WIDTH;
+    let e = word_writer::copy_front(ws, k, out, r);
+    word_writer::copy_front(ks, m, out, e);
     Written::Bytes(size)
 }

@@ -1,17 +1,17 @@
 -- A list that stands in a function from a place on; n values of a function from a place on; tests that walk over them.
 use mathlib.Core.Path.{_≡_, refl, sym, ap, _∙_, subst}
 use mathlib.Core.List.{List, [], _∷_, _++_, map, map-append}
-use mathlib.Core.Bool.{Bool, true, false, _&&_}
-use Prim.Native.Nat.{ℕ, zero, suc, _+_, _*_, _-_, _≤_, _<_}
+use mathlib.Core.Bool.{Bool, true, false}
+use Prim.Native.Nat.{ℕ, zero, suc, _+_, _-_, _≤_, _<_}
 use native.Mathlib.Omega.{arith}
 use native.Mathlib.Numerals.{add-one}
 use lib.Dec.{eqb}
 use lib.ListN.{length, getD, take, set, replicate, List·getD-map}
 use lib.Seq.{take-suc-set, getD-take, set-at, append-snoc}
 use borrow.Author.Tests.{eq-eqb, eqb-true}
-use Rattle.model.specs.Basic.{every, all, same}
+use Rattle.model.specs.Basic.{all, same}
 use Rattle.model.specs.Image.{tab}
-use Rattle.laws.proofs.Tests.{both, and-i, Every}
+use Rattle.laws.proofs.Tests.{both, and-i}
 
 -- the list xs stands in f from o on
 abbrev pub At : {A : Type 0} → (ℕ → A) → ℕ → List A → Type 0
@@ -48,6 +48,12 @@ module _ {A : Type 0} (f : ℕ → A) where
   tab-at i [] h = refl
   tab-at i (x ∷ xs) h = λ j. h .0 j ∷ tab-at (suc i) xs (h .1) j
 
+-- one element of a list that stands in f
+pub at-nth : {A : Type 0} (f : ℕ → A) (o : ℕ) (xs : List A) (k : ℕ) (d : A) → k < length xs → At f o xs → f (o + k) ≡ getD xs k d
+at-nth f o [] k d h a = absurd (omega arith)
+at-nth f o (x ∷ xs) zero d h a = ap f (omega arith) ∙ a .0
+at-nth f o (x ∷ xs) (suc k) d h a = ap f (omega arith) ∙ at-nth f (suc o) xs k d (omega arith) (a .1)
+
 -- two lists that `same` finds equal are equal
 pub same-eq : (xs ys : List ℕ) → same xs ys ≡ true → xs ≡ ys
 same-eq [] [] h = refl
@@ -61,11 +67,15 @@ pub same-refl : (xs : List ℕ) → same xs xs ≡ true
 same-refl [] = refl
 same-refl (x ∷ xs) = and-i (eqb x x) (same xs xs) (eq-eqb x x refl) (same-refl xs)
 
+-- a field of the row at p, read where the code has it
+pub field : {A : Type 0} (f : ℕ → A) (o p k : ℕ) (v : A) → v ≡ f (o + k) → o ≡ p → v ≡ f (p + k)
+field f o p k v ev eo = ev ∙ ap (λ (x : ℕ). f (x + k)) eo
+
 -- WALKS: what is left from i up to e, one element a turn
-step : (e i : ℕ) → i < e → e - i ≡ suc (e - (i + 1))
+pub step : (e i : ℕ) → i < e → e - i ≡ suc (e - (i + 1))
 step e i h = omega arith
 
-gone : (e i : ℕ) → e ≤ i → e - i ≡ 0
+pub gone : (e i : ℕ) → e ≤ i → e - i ≡ 0
 gone e i h = omega arith
 
 module _ {A : Type 0} (g : A → Bool) (f : ℕ → A) (e i : ℕ) where

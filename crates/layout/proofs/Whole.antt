@@ -30,12 +30,6 @@ word-crisp x h = go (ltb x 2147483648) refl
     go true e = simp e
     go false e = let q : 4294967295 - (4294967295 - x) ≡ x = omega arith in simp (e, q)
 
--- one element of a list that stands in f
-at-nth : (f : ℕ → ℕ) (o : ℕ) (xs : List ℕ) (k : ℕ) → k < length xs → At f o xs → f (o + k) ≡ getD xs k 0
-at-nth f o [] k h a = absurd (omega arith)
-at-nth f o (x ∷ xs) zero h a = ap f (omega arith) ∙ a .0
-at-nth f o (x ∷ xs) (suc k) h a = ap f (omega arith) ∙ at-nth f (suc o) xs k (omega arith) (a .1)
-
 pub length-conditions : (rs : List Rule) → length (gather (λ r. postfix (r .condition)) rs) ≡ total (λ r. size (r .condition)) rs
 unfolding gather total
 length-conditions [] = refl

@@ -1,25 +1,20 @@
--- Laws of names as places in a text: when two are the same, which of a table is found first, and a table with one more.
-use mathlib.Core.Path.{_≡_, refl, sym, ap, _∙_}
-use mathlib.Core.List.{List, [], _∷_}
-use mathlib.Core.Bool.{Bool, true, false, and-false}
+-- Laws of names as places in a text: when two are the same, rows by their names, and a table with one more.
+use mathlib.Core.Path.{_≡_, refl, sym, _∙_}
+use mathlib.Core.List.{List}
+use mathlib.Core.Bool.{Bool, true, false}
 use Prim.Native.Nat.{ℕ, zero, suc, _+_, _-_, _≤_, _<_}
 use native.Mathlib.Omega.{arith}
 use borrow.Author.Tests.{eq-eqb, ne-eqb, eqb-true, eqb-false}
 use lib.Dec.{eqb}
 use lib.ListN.{length, getD, set, length-set}
 use lib.Seq.{slice, slice-cons, slice-empty, length-slice, getD-set-same, getD-set-other}
-use Rattle.model.specs.Basic.{indexOf, same}
+use Rattle.model.specs.Basic.{indexOf}
 use Rattle.model.specs.Tokens.{sameName}
 use Rattle.model.specs.Image.{tab}
+use Rattle.laws.proofs.Search.{other-length}
 use Rattle.lookup.specs.Names.{nameOf, Placed}
 
 -- NAMES OF DIFFERENT LENGTHS, AND BYTE BY BYTE
-other-length : (v w : List ℕ) → (length v ≡ length w → ⊥) → same v w ≡ false
-other-length [] [] h = absurd (h refl)
-other-length [] (y ∷ w) h = refl
-other-length (x ∷ v) [] h = refl
-other-length (x ∷ v) (y ∷ w) h = rw (other-length v w (λ e. h (ap suc e))) (and-false (eqb x y))
-
 module _ (s : List ℕ) (a e b f : ℕ) (he : e ≤ length s) (hf : f ≤ length s) where
   pub differ-long : (e - a ≡ f - b → ⊥) → sameName (slice a e s) (slice b f s) ≡ false
   unfolding sameName
@@ -40,51 +35,6 @@ module _ (s : List ℕ) (a e b f : ℕ) (he : e ≤ length s) (hf : f ≤ length
 pub alike-end : (s : List ℕ) (a e b f : ℕ) → a ≡ e → b ≡ f → sameName (slice a e s) (slice b f s) ≡ true
 unfolding sameName
 alike-end s a e b f p q = rw (p, q, slice-empty e s, slice-empty f s)
-
--- THE FIRST OF n VALUES FROM m ON THAT PASSES: from the i-th on, one a turn
-step : (n i : ℕ) → i < n → n - i ≡ suc (n - (i + 1))
-step n i h = omega arith
-
-module _ {A : Type 0} (f : A → Bool) (g : ℕ → A) (n m i : ℕ) where
-  first-more : i < n → f (g (m + i)) ≡ false → i + indexOf f (tab g (n - i) (m + i)) ≡ i + 1 + indexOf f (tab g (n - (i + 1)) (m + (i + 1)))
-  unfolding tab
-  first-more h q =
-      let k : m + (i + 1) ≡ suc (m + i) = omega arith in
-      rw (k, step n i h) (simp q (omega arith))
-
-  first-here : i < n → f (g (m + i)) ≡ true → i + indexOf f (tab g (n - i) (m + i)) ≡ i
-  unfolding tab
-  first-here h q = rw (step n i h) (simp q (omega arith))
-
-  first-none : n ≤ i → i + indexOf f (tab g (n - i) (m + i)) ≡ i
-  unfolding tab
-  first-none h = let q : n - i ≡ 0 = omega arith in rw q (omega arith)
-
--- the first i of the names are none of them the text from start to end
-abbrev pub Past : (s names : List ℕ) (from count start end i : ℕ) → Type 0
-Past s names from count start end i =
-    (i ≤ count)
-    × (i + indexOf (sameName (slice start end s)) (tab (nameOf s names) (count - i) (from + i))
-    ≡ indexOf (sameName (slice start end s)) (tab (nameOf s names) count from))
-
-module _ (s names : List ℕ) (from count start end : ℕ) where
-  pub past-start : Past s names from count start end 0
-  past-start =
-      let p : from + 0 ≡ from = omega arith in
-      let q : count - 0 ≡ count = omega arith in
-      (omega arith, rw (p, q) (omega arith))
-
-  module _ (i : ℕ) where
-    pub past-more : i < count → sameName (slice start end s) (nameOf s names (from + i)) ≡ false
-        → Past s names from count start end i → Past s names from count start end (i + 1)
-    past-more h q p = (omega arith, sym (first-more (sameName (slice start end s)) (nameOf s names) count from i h q) ∙ p .1)
-
-    pub past-here : i < count → sameName (slice start end s) (nameOf s names (from + i)) ≡ true
-        → Past s names from count start end i → i ≡ indexOf (sameName (slice start end s)) (tab (nameOf s names) count from)
-    past-here h q p = sym (first-here (sameName (slice start end s)) (nameOf s names) count from i h q) ∙ p .1
-
-    pub past-end : count ≤ i → Past s names from count start end i → i ≡ indexOf (sameName (slice start end s)) (tab (nameOf s names) count from)
-    past-end h p = sym (first-none (sameName (slice start end s)) (nameOf s names) count from i h) ∙ p .1
 
 -- rows are found by their names
 pub index-tab : {A : Type 0} (name : A → List ℕ) (f : ℕ → A) (g : ℕ → List ℕ) (w : List ℕ) → ((k : ℕ) → name (f k) ≡ g k)

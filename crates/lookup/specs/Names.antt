@@ -1,4 +1,5 @@
--- Names as places in a text: the name k, one of at most 112, starts at the k-th place and ends at the (112 + k)-th.
+-- A helper: names as places in a text: the name k, one of at most 112, starts at the k-th place and ends at the
+-- (112 + k)-th. The contract of `find` ties them to the model's `sameName`.
 use mathlib.Core.List.{List}
 use Prim.Native.Nat.{ℕ, _+_, _≤_, _<_}
 use lib.ListN.{length, getD}

@@ -8,15 +8,20 @@ ghost use Rattle.model.specs.Tokens.{sameName};
 ghost use Rattle.model.specs.Image.{tab};
 ghost use Rattle.lookup.specs.Names.{nameOf, Placed};
 
+// Names as places in the text: name k starts at place k of them and ends at place ENDS + k. Name v is that of variable v,
+// inputs first; then come those of the terms, TERMS of them for each variable.
+pub type Names = [usize; ENDS + bounds::NAMES];
+
+pub const ENDS: usize = bounds::NAMES;
+
+pub const FIRST_OUTPUT: usize = bounds::INPUTS;
+
+pub const FIRST_TERM: usize = bounds::VARIABLES;
+
+pub const FIRST_OUTPUT_TERM: usize = FIRST_TERM + bounds::INPUT_TERMS;
+
 // Which of `count` names, the first being the name `from`, is the text from `start` to `end`: `count` where none is.
-pub fn find(
-    s: &[u8],
-    names: &[usize; 224],
-    from: usize,
-    count: usize,
-    start: usize,
-    end: usize,
-) -> usize
+pub fn find(s: &[u8], names: &Names, from: usize, count: usize, start: usize, end: usize) -> usize
     requires { ⌜ (start ≤ end) × (end ≤ length (now s)) × (from + count ≤ 112) × Placed (now s) (now names) ⌝ }
     ensures { λ r. ⌜ r ≡ indexOf (sameName (slice start end (now (s .entry))))
         (tab (nameOf (now (s .entry)) (now (names .entry))) count from) ⌝ }
@@ -27,7 +32,7 @@ pub fn find(
     'search: while i < count {
         let k = from + i;
         let a = names[k];
-        let e = names[112 + k];
+        let e = names[ENDS + k];
         if e - a == n {
             let mut j: usize = 0;
             while j < n {

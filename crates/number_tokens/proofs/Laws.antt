@@ -2,33 +2,22 @@
 use mathlib.Core.Path.{_≡_, refl, sym, ap, _∙_}
 use mathlib.Core.Bool.{Bool, true, false, _&&_}
 use mathlib.Core.List.{List, [], _∷_}
-use Prim.Native.Nat.{ℕ, zero, suc, _-_}
+use Prim.Native.Nat.{ℕ, _-_}
 use native.Mathlib.Omega.{arith}
 use borrow.Author.Tests.{eq-eqb, ne-eqb, leb-true}
 use lib.Dec.{eqb, leb}
 use lib.IntN.{ℤ, pos}
 use lib.ListN.{length, take, drop}
-use lib.Seq.{slice}
 use Rattle.model.specs.Basic.{if_then_else_, all}
 use Rattle.model.specs.Block.{Block}
 use Rattle.model.specs.Keywords.{NUMBER}
 use Rattle.model.specs.Parse.{is, text, aCrisp, aUnit}
 use Rattle.model.specs.Tokens.{isCrisp, isUnit, isRuleNumber, isDigit, valueOf, unitOf, decimal}
+use Rattle.laws.proofs.Slices.{part}
 use Rattle.numerals.specs.Written.{crispWritten, unitWritten, ruleNumberWritten}
 use Rattle.cursor.specs.declared.Cursor.{Cursor}
 use Rattle.cursor.specs.View.{seen, textOf, fault}
 use Rattle.cursor.proofs.Laws.{kind-seen, text-seen, clash}
-
-nothing : (n : ℕ) → take n (drop {A = ℕ} 0 []) ≡ []
-nothing zero = refl
-nothing (suc n) = refl
-
--- a part of the text as code makes it
-pub part : (a e : ℕ) (s : List ℕ) → take (e - a) (drop a s) ≡ slice a e s
-part zero e s = let z : e - 0 ≡ e = omega arith in rw z refl
-part (suc a) zero s = let z : 0 - suc a ≡ 0 = omega arith in rw z refl
-part (suc a) (suc e) [] = nothing (suc e - suc a)
-part (suc a) (suc e) (x ∷ s) = let z : suc e - suc a ≡ e - a = omega arith in ap (λ (n : ℕ). take n (drop a s)) z ∙ part a e s
 
 -- what stands for a number that passes
 pub value-here : {A : Type 0} (w : ℕ) (x v z : A) → x ≡ (if eqb w 0 then v else z) → w ≡ 0 → x ≡ v

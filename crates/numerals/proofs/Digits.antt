@@ -1,28 +1,21 @@
--- Digits of a text, by their places: where they end, what they count to, and the parts of a number.
+-- Digits of a text, by their places: what they count to, and the parts of a number.
 use mathlib.Core.Path.{_≡_, refl, sym, ap, _∙_}
 use mathlib.Core.List.{List, [], _∷_}
-use mathlib.Core.Bool.{Bool, true, false, _&&_, and-false}
-use Prim.Native.Nat.{ℕ, zero, suc, _+_, _*_, _-_, _^_, _≤_, _<_}
+use mathlib.Core.Bool.{true, false, _&&_, and-false}
+use Prim.Native.Nat.{ℕ, suc, _+_, _*_, _-_, _^_, _≤_, _<_}
 use native.Mathlib.Nat.{pow-suc, pow-le-pow-right}
 use native.Mathlib.Numerals.{add-one}
 use native.Mathlib.Omega.{arith}
 use borrow.Author.Tests.{le-leb, lt-leb}
 use lib.Dec.{leb}
-use lib.ListN.{length, take, drop, getD, drop-of-length-le, length-drop}
-use lib.Seq.{slice, slice-cons, slice-empty, length-slice, drop-cons, drop-drop, take-length, take-nil}
+use lib.ListN.{length, drop, getD, drop-of-length-le, length-drop}
+use lib.Seq.{slice, slice-cons, slice-empty, length-slice, drop-drop, take-length}
 use Rattle.model.specs.Basic.{run}
-use Rattle.model.specs.Tokens.{isDigit, isSign, starts, unsigned, whole, fraction, decimalFrom, decimal, magnitude, digitsFit}
+use Rattle.model.specs.Tokens.{isDigit, isSign, unsigned, whole, fraction, decimalFrom, decimal, magnitude, digitsFit}
+use Rattle.laws.proofs.Slices.{cut}
 use Rattle.numerals.specs.Written.{thousandthsOf, magnitudeWritten}
 
 -- THE FIRST BYTE
-pub starts-none : (f : ℕ → Bool) (w : List ℕ) → length w ≡ 0 → starts f w ≡ false
-starts-none f [] h = refl
-starts-none f (c ∷ w) h = absurd (omega arith)
-
-pub starts-some : (f : ℕ → Bool) (w : List ℕ) → (length w ≡ 0 → ⊥) → starts f w ≡ f (getD w 0 0)
-starts-some f [] h = absurd (h refl)
-starts-some f (c ∷ w) h = refl
-
 pub no-sign : (w : List ℕ) → length w ≡ 0 → unsigned w ≡ drop 0 w
 no-sign [] h = refl
 no-sign (c ∷ w) h = absurd (omega arith)
@@ -34,27 +27,6 @@ signed (c ∷ w) h e = rw e refl
 pub bare : (w : List ℕ) → (length w ≡ 0 → ⊥) → isSign (getD w 0 0) ≡ false → unsigned w ≡ drop 0 w
 bare [] h e = absurd (h refl)
 bare (c ∷ w) h e = rw e refl
-
--- A RUN AT THE FRONT
-module _ (f : ℕ → Bool) where
-  pub goes-on : (c : ℕ) (w : List ℕ) → f c ≡ true → run f (c ∷ w) ≡ suc (run f w)
-  unfolding run
-  goes-on c w e = rw (run, e)
-
-  pub stops : (c : ℕ) (w : List ℕ) → f c ≡ false → run f (c ∷ w) ≡ 0
-  unfolding run
-  stops c w e = rw (run, e)
-
-  module _ (w : List ℕ) (i : ℕ) where
-    pub run-more : i < length w → f (getD w i 0) ≡ true → i + 1 + run f (drop (i + 1) w) ≡ i + run f (drop i w)
-    run-more h e = rw (add-one, drop-cons w i 0 h, goes-on (getD w i 0) (drop (suc i) w) e) (omega arith)
-
-    pub run-stop : i < length w → f (getD w i 0) ≡ false → i ≡ i + run f (drop i w)
-    run-stop h e = rw (drop-cons w i 0 h, stops (getD w i 0) (drop (suc i) w) e) (omega arith)
-
-    pub run-end : length w ≤ i → i ≡ i + run f (drop i w)
-    unfolding run
-    run-end h = rw (drop-of-length-le w h) (omega arith)
 
 -- THE VALUE OF DIGITS
 module _ (w : List ℕ) (n k e : ℕ) where
@@ -108,14 +80,9 @@ pub past-end : (w : List ℕ) (e : ℕ) → length w ≤ e → drop e w ≡ drop
 past-end w e h = drop-of-length-le w {i = e} h ∙ sym (drop-of-length-le w {i = e + 1} (omega arith))
 
 -- THE PARTS OF A NUMBER
-take-drop : (n a : ℕ) (w : List ℕ) → take n (drop a w) ≡ slice a (a + n) w
-take-drop n zero w = let e : 0 + n ≡ n = omega arith in rw e refl
-take-drop n (suc a) [] = let e : suc a + n ≡ suc (a + n) = omega arith in rw e (take-nil n)
-take-drop n (suc a) (c ∷ w) = let e : suc a + n ≡ suc (a + n) = omega arith in rw e (take-drop n a w)
-
 module _ (w : List ℕ) (a e : ℕ) (ha : unsigned w ≡ drop a w) (he : e ≡ a + run isDigit (drop a w)) (hl : e ≤ length w) where
   whole-is : whole w ≡ slice a e w
-  whole-is = rw (ha, he) (take-drop (run isDigit (drop a w)) a w)
+  whole-is = rw (ha, he) (cut a (run isDigit (drop a w)) w)
 
   whole-size : length (whole w) ≡ e - a
   whole-size = ap length whole-is ∙ length-slice a e w hl

@@ -16,7 +16,7 @@ use Rattle.model.specs.Basic.{if_then_else_, all, run, between}
 use Rattle.model.specs.Bounds.{crispLimit, ruleNumberLimit}
 use Rattle.model.specs.Tokens.{isDigit, starts, decimal, magnitude, valueOf, digitsFit, isCrisp, isUnit, unitOf, isRuleNumber}
 use Rattle.numerals.specs.Written.{magnitudeWritten, crispWritten, unitWritten, unitLimit, ruleNumberWritten}
-use Rattle.numerals.proofs.Digits.{goes-on, stops, written}
+use Rattle.numerals.proofs.Digits.{written}
 
 abbrev signed : Bool → ℕ → ℤ
 signed b m = if b then negℤ (pos m) else pos m
@@ -100,8 +100,8 @@ all-run f [] = refl
 all-run f (c ∷ w) = go (f c) refl (all-run f w)
   where
     go : (b : Bool) → f c ≡ b → all f w ≡ leb (length w) (run f w) → all f (c ∷ w) ≡ leb (length (c ∷ w)) (run f (c ∷ w))
-    go true e h = rw (goes-on f c w e, e, leb·suc-suc (length w) (run f w)) h
-    go false e h = rw (stops f c w e, e, leb·suc-zero (length w)) refl
+    go true e h = rw (run, e, leb·suc-suc (length w) (run f w)) h
+    go false e h = rw (run, e, leb·suc-zero (length w)) refl
 
 module _ (w : List ℕ) where
   none : isRuleNumber w ≡ false → 0 ≡ ruleNumberWritten w

@@ -1,4 +1,5 @@
--- What a number's text stands for where it is one; 0 where it is none.
+-- A helper: what a number's text stands for where it is one; 0 where it is none. Each is a value of the model's
+-- `Tokens` behind the model's own test.
 use mathlib.Core.List.{List, _++_}
 use Prim.Native.Nat.{ℕ}
 use lib.Dec.{eqb}

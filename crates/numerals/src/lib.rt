@@ -6,8 +6,7 @@ ghost use Prim.Native.Nat.{_+_, _-_, _≤_};
 ghost use lib.Dec.{eqb};
 ghost use lib.ListN.{length, drop};
 ghost use lib.Seq.{slice};
-ghost use Rattle.model.specs.Basic.{run};
-ghost use Rattle.model.specs.Tokens.{isDigit, starts, unsigned, decimal, digitsFit, isCrisp, isUnit};
+ghost use Rattle.model.specs.Tokens.{starts, unsigned, decimal, digitsFit, isCrisp, isUnit};
 ghost use Rattle.numerals.specs.Written.{magnitudeWritten, crispWritten, unitWritten, unitLimit, ruleNumberWritten, thousandthsOf};
 
 // Whether a text is a crisp value, and which.
@@ -28,14 +27,9 @@ struct Amount {
     thousandths: u64,
 }
 
-fn is_digit(c: u8) -> bool
-    ensures { λ r. ⌜ r ≡ isDigit c ⌝ }
-{
-    if c < 48 {
-        return false;
-    }
-    c <= 57
-}
+const MOST_CRISP: u64 = bounds::CRISP as u64;
+
+const MOST_RULE_NUMBER: u64 = bounds::RULE_NUMBER as u64;
 
 // What a byte counts for as a digit; below '0', nothing.
 fn digit(c: u8) -> u64
@@ -63,28 +57,10 @@ fn sign_size(w: &[u8]) -> usize
     if w.len() == 0 {
         return 0;
     }
-    if w[0] == 43 {
-        return 1;
-    }
-    if w[0] == 45 {
+    if characters::is_sign(w[0]) {
         return 1;
     }
     0
-}
-
-// Where the digits from a on end.
-fn digits_end(w: &[u8], a: usize) -> usize
-    requires { ⌜ a ≤ length (now w) ⌝ }
-    ensures { λ r. ⌜ (r ≡ a + run isDigit (drop a (now (w .entry)))) × (r ≤ length (now (w .entry))) ⌝ }
-{
-    let mut k = a;
-    while k < w.len() {
-        if !is_digit(w[k]) {
-            return k;
-        }
-        k += 1;
-    }
-    k
 }
 
 // Where the bytes behind the one at e begin.
@@ -132,15 +108,15 @@ fn amount_of(w: &[u8]) -> Amount
     ensures { λ r. ⌜ (r .fits ≡ digitsFit (now (w .entry))) × (r .thousandths ≡ magnitudeWritten (now (w .entry))) ⌝ }
 {
     let a = sign_size(w);
-    let e = digits_end(w, a);
+    let e = characters::digits_end(w, a);
     let f = behind(w, e);
-    if 7 < e - a {
+    if bounds::DIGITS < e - a {
         return Amount {
             fits: false,
             thousandths: 0,
         };
     }
-    if 3 < w.len() - f {
+    if bounds::FRACTION < w.len() - f {
         return Amount {
             fits: false,
             thousandths: 0,
@@ -163,7 +139,7 @@ pub fn crisp(w: &[u8]) -> CrispText
             value: Crisp(0),
         };
     }
-    if 1_000_000_000 < n.thousandths {
+    if MOST_CRISP < n.thousandths {
         return CrispText {
             ok: false,
             value: Crisp(0),
@@ -219,14 +195,14 @@ pub fn unit(w: &[u8]) -> UnitText
 pub fn rule_number(w: &[u8]) -> u32
     ensures { λ r. ⌜ (r ≡ ruleNumberWritten (now (w .entry))) × (r ≤ 65535) ⌝ }
 {
-    if 7 < w.len() {
+    if bounds::DIGITS < w.len() {
         return 0;
     }
-    if digits_end(w, 0) < w.len() {
+    if characters::digits_end(w, 0) < w.len() {
         return 0;
     }
     let n = decimal_of(w, 0, w.len());
-    if 65535 < n {
+    if MOST_RULE_NUMBER < n {
         return 0;
     }
     n as u32

@@ -1,14 +1,15 @@
 -- How parts that are read make up a longer part: one after the other, and again and again.
 use mathlib.Core.Path.{_≡_, refl, sym, ap, _∙_}
-use mathlib.Core.Bool.{true, false}
+use mathlib.Core.Bool.{true}
 use mathlib.Core.List.{List, [], _++_, append-nil}
-use Prim.Native.Nat.{ℕ, suc, _-_, _≤_, _<_}
+use Prim.Native.Nat.{ℕ, suc, _≤_, _<_}
 use native.Mathlib.Omega.{arith}
-use borrow.Author.Tests.{eq-eqb, ne-eqb}
+use borrow.Author.Tests.{eq-eqb}
 use lib.ListN.{length}
 use Rattle.model.specs.Block.{Block}
 use Rattle.model.specs.Keywords.{COMMA}
-use Rattle.model.specs.Parse.{Parse, Part, Checks, kind, text, is, refuse, change, advance, judged, expect, repeatOn, repeated, listed}
+use Rattle.model.specs.Parse.{Parse, Part, Checks, kind, text, refuse, change, advance, judged, expect, repeatOn, repeated, listed}
+use Rattle.laws.proofs.Again.{Again, again-more, again-end, repeats, once-more, no-more}
 use Rattle.cursor.specs.declared.Cursor.{Cursor}
 use Rattle.cursor.specs.View.{seen, textOf, Fits, left, Step, fault}
 use Rattle.cursor.proofs.Laws as cursor
@@ -52,7 +53,8 @@ pub also : {f g : Part} {s : List ℕ} {a b : ParseState} → Reads f s a b → 
 also {f} {g} {s} {a} {b} p e = record { reads = p .reads ∙ e; fewer = p .fewer; good = p .good }
 
 -- the tables changed, at a token
-pub changes : (s : List ℕ) (c : Cursor) (t u : Tables) (f : Block → Block) → Fits s c → (c .kind ≡ 0 → ⊥) → Changes s t u f → Reads (change f) s (at c t) (at c u)
+pub changes : (s : List ℕ) (c : Cursor) (t u : Tables) (f : Block → Block) → Fits s c → (c .kind ≡ 0 → ⊥) → Changes s t u f
+    → Reads (change f) s (at c t) (at c u)
 unfolding view
 changes s c t u f g h q = record {
   reads = ap (λ (b : Block). seen s c b 0) (q .view) ∙ sym (cursor.changed s c (blockView s t) 0 f (g .halted h));
@@ -69,45 +71,36 @@ module _ {part : Part} {s : List ℕ} {c : Cursor} {t : Tables} (cs : Checks) (n
   unfolding judged
   refuses {d} w f h g q = also (step t g q) (sym (e ∙ same-end cs (view s (at c t)) nxt ∙ cursor.judged-bad (view s (at c t)) nxt w cs [] f h))
 
-  pub passes : {f : Part} {r : ParseState} → cursor.numbered cs ≡ true → fault cs ≡ 0 → Reads f s (at c t) r → f (view s (at c t)) ≡ nxt → Reads part s (at c t) r
+  pub passes : {f : Part} {r : ParseState} → cursor.numbered cs ≡ true → fault cs ≡ 0 → Reads f s (at c t) r → f (view s (at c t)) ≡ nxt
+      → Reads part s (at c t) r
   unfolding judged
   passes {f} {r} n z x y = also x (y ∙ sym (e ∙ same-end cs (view s (at c t)) nxt ∙ cursor.judged-good (view s (at c t)) nxt cs [] n z))
 
 -- AGAIN AND AGAIN: some fuel that is enough gives what is asked for
 abbrev pub Runs : ℕ → Part → List ℕ → ParseState → ParseState → Type 0
-Runs k part s p₀ p = (n : ℕ) × (left s (p .cursor) < n) × (repeatOn n k part (view s p) ≡ repeated k part (view s p₀))
+Runs k part s p₀ p = Again (repeats k part) (left s (p .cursor)) (view s p) (repeated k part (view s p₀))
 
 abbrev pub Going : ℕ → Part → List ℕ → ParseState → ParseState → Type 0
 Going k part s p₀ p = (left s (p .cursor) ≤ left s (p₀ .cursor)) × Good s p × Runs k part s p₀ p
-
-module _ (n k : ℕ) (part : Part) (r : Parse) where
-  turn : is k r ≡ true → repeatOn (suc n) k part r ≡ repeatOn n k part (part r)
-  unfolding repeatOn
-  turn e = simp (repeatOn, e)
-
-  rest : is k r ≡ false → repeatOn (suc n) k part r ≡ r
-  unfolding repeatOn
-  rest e = simp (repeatOn, e)
 
 module _ (k : ℕ) (part : Part) (s : List ℕ) where
   pub begins : (p : ParseState) → Good s p → Going k part s p p
   unfolding repeated view
   begins p g = (omega arith, g, (suc (length (view s p .rest)), cursor.enough s (p .cursor) (blockView s (p .tables)) 0, refl))
 
-  opened : (p₀ p : ParseState) (g : Runs k part s p₀ p) → repeatOn (suc (g .0 - 1)) k part (view s p) ≡ repeated k part (view s p₀)
-  opened p₀ p g = let q : suc (g .0 - 1) ≡ g .0 = omega arith in ap (λ (m : ℕ). repeatOn m k part (view s p)) q ∙ g .2
-
-  pub goes : (p₀ p r : ParseState) → Going k part s p₀ p → p .cursor .kind ≡ k → Reads part s p r → left s (r .cursor) < left s (p .cursor) → Going k part s p₀ r
+  pub goes : (p₀ p r : ParseState) → Going k part s p₀ p → p .cursor .kind ≡ k → Reads part s p r → left s (r .cursor) < left s (p .cursor)
+      → Going k part s p₀ r
   goes p₀ p r g h q m =
-      let i : is k (view s p) ≡ true = simp (kind-view s p, eq-eqb _ _ h) in
-      let e = sym (turn (g .2 .0 - 1) k part (view s p) i) ∙ opened p₀ p (g .2) in
-      let z = g .2 .1 in
-      (omega arith, q .good, (g .2 .0 - 1, omega arith, ap (repeatOn (g .2 .0 - 1) k part) (q .reads) ∙ e))
+      let turn : (f : ℕ) → repeatOn (suc f) k part (view s p) ≡ repeatOn f k part (view s r) =
+      λ f. once-more k part (view s p) (kind-view s p ∙ h) f ∙ ap (repeatOn f k part) (sym (q .reads)) in
+      (omega arith, q .good, again-more (repeats k part) turn m (g .2))
 
   pub leaves : (p₀ p : ParseState) → Going k part s p₀ p → (p .cursor .kind ≡ k → ⊥) → Reads (repeated k part) s p₀ p
-  leaves p₀ p g h =
-      let i : is k (view s p) ≡ false = simp (kind-view s p, ne-eqb _ _ h) in
-      record { reads = sym (rest (g .2 .0 - 1) k part (view s p) i) ∙ opened p₀ p (g .2); fewer = g .0; good = g .1 }
+  leaves p₀ p g h = record {
+    reads = again-end (repeats k part) (no-more k part (view s p) (λ z. h (sym (kind-view s p) ∙ z))) (g .2);
+    fewer = g .0;
+    good = g .1;
+  }
 
 -- before the token that it asks for, expect advances
 pub expect-advance : (k : ℕ) (s : List ℕ) (p : ParseState) → p .cursor .kind ≡ k → expect k (view s p) ≡ advance (view s p)
@@ -119,7 +112,8 @@ module _ (part : Part) (s : List ℕ) where
   abbrev pub again : Part
   again r = part (expect COMMA r)
 
-  pub list-goes : (q₀ q r : ParseState) (d : Cursor) → Going COMMA again s q₀ q → q .cursor .kind ≡ COMMA → Step advance s (q .cursor) d → left s d < left s (q .cursor)
+  pub list-goes : (q₀ q r : ParseState) (d : Cursor) → Going COMMA again s q₀ q → q .cursor .kind ≡ COMMA → Step advance s (q .cursor) d
+      → left s d < left s (q .cursor)
       → Reads part s (at d (q .tables)) r → Going COMMA again s q₀ r
   list-goes q₀ q r d g k a m x =
       let y = also (next (step (q .tables) (g .1 .holds) a) x) (ap part (sym (expect-advance COMMA s q k))) in

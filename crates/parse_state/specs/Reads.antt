@@ -1,4 +1,5 @@
--- What a reading stands for in document 01's rules, and what a function that reads a part of them ensures.
+-- A helper: what a reading stands for in document 01's rules, and what a function that reads a part of them ensures:
+-- `Reads` ties it to a `Part` of the model.
 use mathlib.Core.Path.{_≡_}
 use mathlib.Core.List.{List}
 use Prim.Native.Nat.{ℕ, _≤_}

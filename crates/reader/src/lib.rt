@@ -8,11 +8,11 @@ ghost use Rattle.model.specs.Buffers.{readsInto};
 ghost use Rattle.parse_state.specs.Reads.{view, Good};
 ghost use Rattle.block_text.specs.Block.{frontText};
 ghost use Prim.Native.Nat.{_≤_};
+use block_tables::Totals;
 use model::Refusal;
 use model::Written;
 use parse_state::ParseState;
 use rule_text::Progress;
-use block_tables::Totals;
 
 // From the rule block on: p is what stands before it.
 fn read_on(s: &[u8], p: ParseState, out: &mut [u8]) -> Written
@@ -26,9 +26,9 @@ fn read_on(s: &[u8], p: ParseState, out: &mut [u8]) -> Written
     let c = p.cursor;
     let o = rule_heading::rule_heading(s, c);
     let d = o.cursor;
-    let mut rules = [0u32; 256];
-    let mut words = [0u32; 640];
-    let mut conclusions = [0u32; 256];
+    let mut rules = [0u32; bounds::RULES * block_tables::RULE_WIDTH];
+    let mut words = [0u32; bounds::WORDS];
+    let mut conclusions = [0u32; bounds::CONCLUSIONS * block_tables::CONCLUSION_WIDTH];
     let none = Totals {
         rules: 0,
         words: 0,
@@ -63,7 +63,7 @@ pub fn read(s: &[u8], out: &mut [u8]) -> Written
     ensures buffer { λ r. ⌜ now (out .exit)
         ≡ bufferAfter (now (out .entry)) (readsInto (length (now (out .entry))) (now (s .entry))) ⌝ }
 {
-    if 65536 < s.len() {
+    if bounds::TEXT < s.len() {
         return Written::Refused(Refusal::TextTooLong);
     }
     let p = block_text::front(s);

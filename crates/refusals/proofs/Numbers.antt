@@ -19,7 +19,11 @@ use Rattle.model.specs.Declarations.{variable, inputType, inputDeclaration, out
 use Rattle.model.specs.Rules.{ConditionRead, word, conditionTerm, termOrNot, subcondition, chainOn, chain, plain, operand, conditionWith, parenthesis, condition, andPair, orPair, algorithm, algorithmLine, algorithms, activation, activationLine, accumulation, ruleNumber, concludedTerm, conclusion, weight, weighted, ruleGiven, ruleFrom, rule, ruleBlock}
 use Rattle.model.specs.Reader.{endOfBlock, functionBlock, start}
 use Rattle.laws.proofs.Tests.{both}
-use Rattle.refusals.specs.Known.{Known}
+
+-- refused by 2 to 9, or by nothing
+pub record Known (r : Parse) : Type 0 where
+  pub most : r .why ≤ 9
+  pub not-one : r .why ≡ 1 → ⊥
 
 abbrev Keeps : Part → Type 0
 Keeps part = (r : Parse) → Known r → Known (part r)

@@ -1,4 +1,5 @@
--- What a rule block begins with, as the rules read it and as it is kept.
+-- A helper: what a rule block begins with, as the rules read it and as it is kept. `parts` of reader/proofs/Laws ties
+-- `opening` to the model's `ruleBlock`.
 use mathlib.Core.Path.{_≡_}
 use mathlib.Core.List.{List, []}
 use mathlib.Core.Option.{Option, none, some}

@@ -10,8 +10,8 @@ ghost use Rattle.model.specs.Rules.{andPair, orPair, algorithm as algorithmOf, 
 ghost use Rattle.cursor.specs.View.{seen, Fits, left};
 ghost use Rattle.block_tables.specs.View.{Headed};
 ghost use Rattle.rule_heading.specs.Opening.{opening, headed, Bare, Opens, pairs, pairAt};
-use cursor::Cursor;
 use block_tables::Heading;
+use cursor::Cursor;
 
 // A reading in a heading, beside what it says so far.
 pub struct Opened {

@@ -8,8 +8,8 @@ use borrow.Author.Tests.{eq-eqb, ne-eqb, lt-ltb, le-ltb}
 use lib.Dec.{ltb, eqb}
 use lib.ListN.{length, drop, getD, set, length-append, drop-of-length-le}
 use lib.Seq.{getD-take, drop-cons, sets, length-sets}
-use Rattle.model.specs.Basic.{if_then_else_, all, gather, total}
-use Rattle.model.specs.Block.{Block, Rule, Condition, Conclusion, size, term, neg, two, inputFirst, outputFirst, termsOf, singletonsOf, conclusions, withConclusion, withWeight}
+use Rattle.model.specs.Basic.{if_then_else_, all, gather}
+use Rattle.model.specs.Block.{Block, Rule, Condition, Conclusion, size, term, inputFirst, outputFirst, termsOf, singletonsOf, conclusions, withConclusion, withWeight}
 use Rattle.model.specs.Bounds.{M}
 use Rattle.model.specs.Image.{postfix, conclusionWords}
 use Rattle.model.specs.Keywords.{NUMBER, NAME, COMMA, SEMICOLON, IS, IF, COLON, RULE, THEN, WITH}
@@ -19,9 +19,10 @@ use Rattle.model.specs.Declarations.{inputOf, outputOf, termOf, singletonOf, is
 use Rattle.model.specs.Rules.{ConditionRead, addRule, changeRule, ruleNumber, concludedTerm, conclusion, weight, weighted, condition, conditionWith, parenthesis, ruleGiven, ruleFrom, rule}
 use Rattle.laws.proofs.Conditions.{length-postfix}
 use Rattle.laws.proofs.Lists.{gather-append, gather-last, total-last}
+use Rattle.laws.proofs.Again.{Again, again-more, again-end, repeats, once-more, no-more}
 use Rattle.cursor.specs.declared.Cursor.{Cursor}
 use Rattle.cursor.specs.View.{seen, textOf, Fits, left, Step, fault}
-use Rattle.cursor.proofs.Laws.{enough, kind-seen, text-seen, block-seen, changed, unchanged, clash, judged-bad, judged-good, numbered, lost-is, lost-expect, lost-judged, lost-repeated}
+use Rattle.cursor.proofs.Laws.{kind-seen, text-seen, block-seen, changed, unchanged, clash, judged-bad, judged-good, numbered, lost-is, lost-expect, lost-judged, lost-repeated}
 use Rattle.block_tables.specs.declared.Totals.{Totals}
 use Rattle.block_tables.specs.Stored.{ruleRow}
 use Rattle.block_tables.proofs.Lists.{updateLast-snoc}
@@ -277,25 +278,14 @@ concludes-one {s} {b} {rs} {q} {d} m o t p old a e new f = record {
 }
 
 -- REPEATED PARTS
-module _ (k : ℕ) (part : Part) where
-  once-more : (f : ℕ) (r : Parse) → kind r ≡ k → repeatOn (suc f) k part r ≡ repeatOn f k part (part r)
-  unfolding repeatOn
-  once-more f r e = λ i. elim (eq-eqb (kind r) k e i) as (λ x. Parse) [ true ↦ repeatOn f k part (part r) | false ↦ r ]
-
-  no-more : (f : ℕ) (r : Parse) → (kind r ≡ k → ⊥) → repeatOn f k part r ≡ r
-  unfolding repeatOn
-  no-more zero r e = refl
-  no-more (suc f) r e = λ i. elim (ne-eqb (kind r) k e i) as (λ x. Parse) [ true ↦ repeatOn f k part (part r) | false ↦ r ]
-
 unfoldable pub another : Part
 another y = conclusion (expect COMMA y)
 
 -- at p, conclusions have been added to the rule q that was there at p₀, and the loop that began there with n to spend has its answer before it
 pub record Lists (s : List ℕ) (b : Block) (rs : List Rule) (q : Rule) (m n : ℕ) (p₀ p : Concluded) (l₀ l : List ℕ) : Type 0 where
   pub more : List Conclusion
-  pub fuel : ℕ
-  pub enough : left s (p .cursor) < fuel
-  pub same : repeatOn fuel COMMA another (seen s (p .cursor) (midst b rs (gives more q)) m) ≡ repeatOn n COMMA another (seen s (p₀ .cursor) (midst b rs q) m)
+  pub again : Again (repeats COMMA another) (left s (p .cursor)) (seen s (p .cursor) (midst b rs (gives more q)) m)
+    (repeatOn n COMMA another (seen s (p₀ .cursor) (midst b rs q) m))
   pub count : p .count ≡ p₀ .count + length more
   pub put : Adds (p₀ .count * 2) (p .count * 2) (gather conclusionWords more) l₀ l
 
@@ -304,9 +294,7 @@ module _ (s : List ℕ) (b : Block) (rs : List Rule) (q : Rule) (m n : ℕ) wher
   unfolding gather
   lists-begin p l h = record {
     more = [];
-    fuel = n;
-    enough = h;
-    same = ap (λ (x : Rule). repeatOn n COMMA another (seen s (p .cursor) (midst b rs x) m)) (gives-none q);
+    again = (n, h, ap (λ (x : Rule). repeatOn n COMMA another (seen s (p .cursor) (midst b rs x) m)) (gives-none q));
     count = omega arith;
     put = record { put = omega arith; said = refl };
   }
@@ -314,7 +302,13 @@ module _ (s : List ℕ) (b : Block) (rs : List Rule) (q : Rule) (m n : ℕ) wher
   pub lists-go : (p₀ p r : Concluded) (d : Cursor) (l₀ l l′ : List ℕ) (x : Lists s b rs q m n p₀ p l₀ l) → p .cursor .kind ≡ COMMA → Step advance s (p .cursor) d
       → Concludes conclusion s b rs (gives (x .more) q) m (record { cursor = d; count = p .count }) r l l′ → left s (r .cursor) < left s (p .cursor) → Lists s b rs q m n p₀ r l₀ l′
   unfolding another expect
-  lists-go p₀ p r d l₀ l l′ x k a y lt = go (x .fuel) (x .enough) (x .same)
+  lists-go p₀ p r d l₀ l l′ x k a y lt = record {
+    more = x .more ++ y .more;
+    again = again-more (repeats COMMA another) (λ f. once-more COMMA another (seen s (p .cursor) at m) (kind-seen s (p .cursor) at m ∙ k) f
+        ∙ ap (repeatOn f COMMA another) (sym turn)) lt (x .again);
+    count = let u = length-append (x .more) (y .more) in let v = x .count in let w = y .count in omega arith;
+    put = subst (λ (z : List ℕ). Adds (p₀ .count * 2) (r .count * 2) z l₀ l′) (sym (gather-append conclusionWords (x .more) (y .more))) (adds (x .put) (y .put));
+  }
     where
       at : Block
       at = midst b rs (gives (x .more) q)
@@ -324,25 +318,15 @@ module _ (s : List ℕ) (b : Block) (rs : List Rule) (q : Rule) (m n : ℕ) wher
           ap (λ (z : Rule). seen s (r .cursor) (midst b rs z) m) (gives-more q (x .more) (y .more)) ∙ y .reads ∙ ap conclusion (a .reads at m)
           ∙ simp (kind-seen, eq-eqb _ _ k)
 
-      go : (f : ℕ) → left s (p .cursor) < f → repeatOn f COMMA another (seen s (p .cursor) at m) ≡ repeatOn n COMMA another (seen s (p₀ .cursor) (midst b rs q) m) → Lists s b rs q m n p₀ r l₀ l′
-      go zero h e = absurd (omega arith)
-      go (suc f) h e = record {
-        more = x .more ++ y .more;
-        fuel = f;
-        enough = omega arith;
-        same = ap (repeatOn f COMMA another) turn ∙ sym (once-more COMMA another f (seen s (p .cursor) at m) (kind-seen s (p .cursor) at m ∙ k)) ∙ e;
-        count = let u = length-append (x .more) (y .more) in let v = x .count in let w = y .count in omega arith;
-        put = subst (λ (z : List ℕ). Adds (p₀ .count * 2) (r .count * 2) z l₀ l′) (sym (gather-append conclusionWords (x .more) (y .more))) (adds (x .put) (y .put));
-      }
-
   pub lists-end : (p₀ p : Concluded) (l₀ l : List ℕ) → n ≡ suc (length (seen s (p₀ .cursor) (midst b rs q) m .rest)) → Lists s b rs q m n p₀ p l₀ l → (p .cursor .kind ≡ COMMA → ⊥)
       → Concludes (repeated COMMA another) s b rs q m p₀ p l₀ l
   unfolding repeated
   lists-end p₀ p l₀ l e x k = record {
     more = x .more;
     reads =
-        sym (no-more COMMA another (x .fuel) (seen s (p .cursor) (midst b rs (gives (x .more) q)) m) (λ z. k (sym (kind-seen s (p .cursor) (midst b rs (gives (x .more) q)) m) ∙ z)))
-        ∙ x .same ∙ ap (λ (i : ℕ). repeatOn i COMMA another (seen s (p₀ .cursor) (midst b rs q) m)) e;
+        again-end (repeats COMMA another)
+        (no-more COMMA another (seen s (p .cursor) (midst b rs (gives (x .more) q)) m) (λ z. k (sym (kind-seen s (p .cursor) (midst b rs (gives (x .more) q)) m) ∙ z)))
+        (x .again) ∙ ap (λ (i : ℕ). repeatOn i COMMA another (seen s (p₀ .cursor) (midst b rs q) m)) e;
     count = x .count;
     put = x .put;
   }
@@ -491,31 +475,22 @@ within-then {s} {p} {q} {r} x y = record { fewer = let u = x .fewer in let v = y
 -- at q, rules have been read since q₀, and the loop that began there with n to spend has its answer before it
 pub record Runs (s : List ℕ) (b : Block) (rs₀ : List Rule) (n : ℕ) (q₀ q : Progress) (rows ws ks : List ℕ) : Type 0 where
   pub rules : List Rule
-  pub fuel : ℕ
-  pub enough : left s (q .cursor) < fuel
-  pub same : repeatOn fuel RULE rule (seen s (q .cursor) (holding rules b) (q .totals .words)) ≡ repeatOn n RULE rule (seen s (q₀ .cursor) (holding rs₀ b) (q₀ .totals .words))
+  pub again : Again (repeats RULE rule) (left s (q .cursor)) (seen s (q .cursor) (holding rules b) (q .totals .words))
+    (repeatOn n RULE rule (seen s (q₀ .cursor) (holding rs₀ b) (q₀ .totals .words)))
   pub kept : q .cursor .why ≡ 0 → Kept rules rows ws ks (q .totals)
 
 module _ (s : List ℕ) (b : Block) (rs₀ : List Rule) (n : ℕ) where
   pub runs-begin : (q : Progress) (rows ws ks : List ℕ) → left s (q .cursor) < n → (q .cursor .why ≡ 0 → Kept rs₀ rows ws ks (q .totals)) → Runs s b rs₀ n q q rows ws ks
-  runs-begin q rows ws ks h k = record { rules = rs₀; fuel = n; enough = h; same = refl; kept = k }
+  runs-begin q rows ws ks h k = record { rules = rs₀; again = (n, h, refl); kept = k }
 
   pub runs-go : (q₀ q r : Progress) (rows ws ks rows′ ws′ ks′ : List ℕ) (x : Runs s b rs₀ n q₀ q rows ws ks) → q .cursor .kind ≡ RULE → Goes rule s (holding (x .rules) b) q r rows′ ws′ ks′
       → left s (r .cursor) < left s (q .cursor) → Runs s b rs₀ n q₀ r rows′ ws′ ks′
-  runs-go q₀ q r rows ws ks rows′ ws′ ks′ x k y lt = go (x .fuel) (x .enough) (x .same)
-    where
-      at : Parse
-      at = seen s (q .cursor) (holding (x .rules) b) (q .totals .words)
-
-      go : (f : ℕ) → left s (q .cursor) < f → repeatOn f RULE rule at ≡ repeatOn n RULE rule (seen s (q₀ .cursor) (holding rs₀ b) (q₀ .totals .words)) → Runs s b rs₀ n q₀ r rows′ ws′ ks′
-      go zero h e = absurd (omega arith)
-      go (suc f) h e = record {
-        rules = y .rules;
-        fuel = f;
-        enough = omega arith;
-        same = ap (repeatOn f RULE rule) (y .reads) ∙ sym (once-more RULE rule f at (kind-seen s (q .cursor) (holding (x .rules) b) (q .totals .words) ∙ k)) ∙ e;
-        kept = y .kept;
-      }
+  runs-go q₀ q r rows ws ks rows′ ws′ ks′ x k y lt =
+      let at = seen s (q .cursor) (holding (x .rules) b) (q .totals .words) in
+      let stands = kind-seen s (q .cursor) (holding (x .rules) b) (q .totals .words) ∙ k in
+      let turn : (f : ℕ) → repeatOn (suc f) RULE rule at ≡ repeatOn f RULE rule (seen s (r .cursor) (holding (y .rules) b) (r .totals .words)) =
+      λ f. once-more RULE rule at stands f ∙ ap (repeatOn f RULE rule) (sym (y .reads)) in
+      record { rules = y .rules; again = again-more (repeats RULE rule) turn lt (x .again); kept = y .kept }
 
 pub runs-end : (s : List ℕ) (b : Block) (p q₀ q : Progress) (rows₀ ws₀ ks₀ rows ws ks : List ℕ) (g : Goes rule s b p q₀ rows₀ ws₀ ks₀)
     → Runs s b (g .rules) (suc (length (seen s (q₀ .cursor) (holding (g .rules) b) (q₀ .totals .words) .rest))) q₀ q rows ws ks → (q .cursor .kind ≡ RULE → ⊥)
@@ -524,7 +499,9 @@ unfolding repeated
 runs-end s b p q₀ q rows₀ ws₀ ks₀ rows ws ks g x k = record {
   rules = x .rules;
   reads =
-      sym (no-more RULE rule (x .fuel) (seen s (q .cursor) (holding (x .rules) b) (q .totals .words)) (λ z. k (sym (kind-seen s (q .cursor) (holding (x .rules) b) (q .totals .words)) ∙ z)))
-      ∙ x .same ∙ ap (repeated RULE rule) (g .reads);
+      again-end (repeats RULE rule)
+      (no-more RULE rule (seen s (q .cursor) (holding (x .rules) b) (q .totals .words))
+      (λ z. k (sym (kind-seen s (q .cursor) (holding (x .rules) b) (q .totals .words)) ∙ z)))
+      (x .again) ∙ ap (repeated RULE rule) (g .reads);
   kept = x .kept;
 }

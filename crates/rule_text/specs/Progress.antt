@@ -1,4 +1,5 @@
--- What reading rules adds: the rules' reading of the text, and each rule's words behind those that are kept.
+-- A helper: what reading rules adds: the rules' reading of the text, and each rule's words behind those that are kept.
+-- `Goes`, which `rules` ensures, ties both to the model's `rule`.
 use mathlib.Core.Path.{_≡_}
 use mathlib.Core.List.{List, [], _∷_, _++_}
 use Prim.Native.Nat.{ℕ, _+_, _*_, _≤_}

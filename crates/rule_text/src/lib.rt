@@ -16,10 +16,17 @@ ghost use Rattle.cursor.specs.View.{seen, textOf, Fits, left, Step, Moves};
 ghost use Rattle.symbol_table.specs.Symbols.{Symbols, Describes, outputCount};
 ghost use Rattle.condition_text.specs.Pending.{Adds};
 ghost use Rattle.rule_text.specs.Progress.{Kept, Few, Rows, Concludes, Onward, Ends, Goes, Within, midst};
+use block_tables::CONCLUSION_WIDTH;
+use block_tables::Conclusions;
+use block_tables::RULE_WIDTH;
+use block_tables::Rules;
+use block_tables::Totals;
+use block_tables::Words;
 use condition_text::Pending;
 use cursor::Cursor;
+use lookup::Names;
 use model::Degree;
-use block_tables::Totals;
+use symbol_table::SymbolTable;
 
 // A reading among rules, beside how many are kept.
 pub struct Progress {
@@ -44,14 +51,14 @@ struct Weighed {
 }
 
 // Whether one of the rules has this number.
-fn is_used(rules: &[u32; 256], count: usize, number: u32) -> bool
+fn is_used(rules: &Rules, count: usize, number: u32) -> bool
     requires { ⌜ count ≤ 64 ⌝ }
     ensures { λ r. ⌜ ((rs : List Rule) → Rows rs (now (rules .entry)) count
         → r ≡ not (all (λ q. not (eqb (q .number) number)) rs)) ⌝ }
 {
     let mut k = 0;
     while k < count {
-        if rules[k * 4] == number {
+        if rules[k * RULE_WIDTH] == number {
             return true;
         }
         k += 1;
@@ -59,7 +66,7 @@ fn is_used(rules: &[u32; 256], count: usize, number: u32) -> bool
     false
 }
 
-fn rule_number(s: &[u8], rules: &[u32; 256], count: usize, c: Cursor) -> Numbered
+fn rule_number(s: &[u8], rules: &Rules, count: usize, c: Cursor) -> Numbered
     requires { ⌜ Fits (now s) c × (count ≤ 64) ⌝ }
     ensures { λ r. ⌜ ((b : Block) (m : ℕ) → Rows (b .rules) (now (rules .entry)) count
         → seen (now (s .entry)) (r .cursor) b m ≡ ruleNumber (seen (now (s .entry)) c b m)) ⌝ }
@@ -101,9 +108,9 @@ fn not_concluded(p: Concluded, why: u8) -> Concluded
 // term, of output o
 fn concluded_term(
     s: &[u8],
-    names: &[usize; 224],
-    symbols: &[usize; 17],
-    conclusions: &mut [u32; 256],
+    names: &Names,
+    symbols: &SymbolTable,
+    conclusions: &mut Conclusions,
     p: Concluded,
     o: usize,
 ) -> Concluded
@@ -120,15 +127,15 @@ fn concluded_term(
     if w != 0 {
         return not_concluded(p, w);
     }
-    let v = 8 + o;
+    let v = bounds::INPUTS + o;
     let j = symbol_table::term_of(s, names, symbols, v, c);
     if symbols[v + 1] - symbols[v] <= j {
         return not_concluded(p, 5);
     }
     let d = cursor::advance(s, c);
     let n = p.count;
-    conclusions[n * 2] = o as u32;
-    conclusions[n * 2 + 1] = (symbols[v] + j) as u32;
+    conclusions[n * CONCLUSION_WIDTH] = o as u32;
+    conclusions[n * CONCLUSION_WIDTH + 1] = (symbols[v] + j) as u32;
     Concluded {
         cursor: d,
         count: n + 1,
@@ -138,9 +145,9 @@ fn concluded_term(
 // output IS term
 fn conclusion(
     s: &[u8],
-    names: &[usize; 224],
-    symbols: &[usize; 17],
-    conclusions: &mut [u32; 256],
+    names: &Names,
+    symbols: &SymbolTable,
+    conclusions: &mut Conclusions,
     p: Concluded,
 ) -> Concluded
     requires { ⌜ Fits (now s) (p .cursor) × Symbols (now s) (now names) (now symbols) × (p .count ≤ 128) ⌝ }
@@ -156,10 +163,10 @@ fn conclusion(
         return not_concluded(p, w);
     }
     let o = symbol_table::output_of(s, names, symbols, c);
-    if symbols[16] <= o {
+    if symbols[symbol_table::OUTPUT_COUNT] <= o {
         return not_concluded(p, 5);
     }
-    if 128 <= p.count {
+    if bounds::CONCLUSIONS <= p.count {
         return not_concluded(p, 6);
     }
     let d = cursor::advance(s, c);
@@ -174,9 +181,9 @@ fn conclusion(
 // Conclusions, with commas between them.
 fn conclusion_list(
     s: &[u8],
-    names: &[usize; 224],
-    symbols: &[usize; 17],
-    conclusions: &mut [u32; 256],
+    names: &Names,
+    symbols: &SymbolTable,
+    conclusions: &mut Conclusions,
     p: Concluded,
 ) -> Concluded
     requires { ⌜ Fits (now s) (p .cursor) × Symbols (now s) (now names) (now symbols) × (p .count ≤ 128) ⌝ }
@@ -232,24 +239,24 @@ fn weighted(s: &[u8], c: Cursor) -> Weighed
 }
 
 // The row of rule k.
-fn put_row(rules: &mut [u32; 256], k: usize, number: u32, words: u32, conclusions: u32, weight: u32)
+fn put_row(rules: &mut Rules, k: usize, number: u32, words: u32, conclusions: u32, weight: u32)
     requires { ⌜ k < 64 ⌝ }
     ensures { λ r. ⌜ Adds (k * 4) ((k + 1) * 4) (number ∷ words ∷ conclusions ∷ weight ∷ [])
         (now (rules .entry)) (now (rules .exit)) ⌝ }
 {
-    rules[k * 4] = number;
-    rules[k * 4 + 1] = words;
-    rules[k * 4 + 2] = conclusions;
-    rules[k * 4 + 3] = weight;
+    rules[k * RULE_WIDTH] = number;
+    rules[k * RULE_WIDTH + 1] = words;
+    rules[k * RULE_WIDTH + 2] = conclusions;
+    rules[k * RULE_WIDTH + 3] = weight;
 }
 
 // From THEN on, for the rule of this number and with so many condition words.
 fn rule_given(
     s: &[u8],
-    names: &[usize; 224],
-    symbols: &[usize; 17],
-    rules: &mut [u32; 256],
-    conclusions: &mut [u32; 256],
+    names: &Names,
+    symbols: &SymbolTable,
+    rules: &mut Rules,
+    conclusions: &mut Conclusions,
     p: Progress,
     number: u32,
     words: u32,
@@ -293,11 +300,11 @@ fn rule_given(
 // From the rule's number on.
 fn rule_from(
     s: &[u8],
-    names: &[usize; 224],
-    symbols: &[usize; 17],
-    rules: &mut [u32; 256],
-    words: &mut [u32; 640],
-    conclusions: &mut [u32; 256],
+    names: &Names,
+    symbols: &SymbolTable,
+    rules: &mut Rules,
+    words: &mut Words,
+    conclusions: &mut Conclusions,
     p: Progress,
 ) -> Progress
     requires { ⌜ Fits (now s) (p .cursor) × Symbols (now s) (now names) (now symbols) × Few (p .totals)
@@ -318,7 +325,7 @@ fn rule_from(
         words: t.words,
         put: t.words,
     };
-    let q = condition_text::condition(s, names, symbols, words, a, 8);
+    let q = condition_text::condition(s, names, symbols, words, a, bounds::DEPTH);
     let g = q.cursor;
     let u = Totals {
         rules: t.rules,
@@ -353,11 +360,11 @@ fn refused(p: Progress, why: u8) -> Progress
 
 fn rule(
     s: &[u8],
-    names: &[usize; 224],
-    symbols: &[usize; 17],
-    rules: &mut [u32; 256],
-    words: &mut [u32; 640],
-    conclusions: &mut [u32; 256],
+    names: &Names,
+    symbols: &SymbolTable,
+    rules: &mut Rules,
+    words: &mut Words,
+    conclusions: &mut Conclusions,
     p: Progress,
 ) -> Progress
     requires { ⌜ Fits (now s) (p .cursor) × Symbols (now s) (now names) (now symbols) × Few (p .totals) ⌝ }
@@ -372,7 +379,7 @@ fn rule(
     if c.kind != token_kinds::RULE {
         return refused(p, 2);
     }
-    if 64 <= t.rules {
+    if bounds::RULES <= t.rules {
         return refused(p, 6);
     }
     let d = cursor::advance(s, c);
@@ -386,11 +393,11 @@ fn rule(
 // Rules, one or more.
 pub fn rules(
     s: &[u8],
-    names: &[usize; 224],
-    symbols: &[usize; 17],
-    rules: &mut [u32; 256],
-    words: &mut [u32; 640],
-    conclusions: &mut [u32; 256],
+    names: &Names,
+    symbols: &SymbolTable,
+    rules: &mut Rules,
+    words: &mut Words,
+    conclusions: &mut Conclusions,
     p: Progress,
 ) -> Progress
     requires { ⌜ Fits (now s) (p .cursor) × Symbols (now s) (now names) (now symbols) × Few (p .totals) ⌝ }

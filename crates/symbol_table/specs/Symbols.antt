@@ -1,6 +1,5 @@
--- The declared names as the rules look them up. Variables are counted inputs first, outputs from 8 on; name v is that of variable v, name
--- 14 + 7v + j that of its term j. The symbols says where the terms of each variable start, counted over all; at 15 and 16 it has the numbers of
--- inputs and outputs.
+-- A helper: the declared names as the rules look them up. The symbols say where the terms of each variable start,
+-- counted over all, and at 15 and 16 how many inputs and outputs there are. `Describes` ties them to a model's block.
 use mathlib.Core.Path.{_≡_}
 use mathlib.Core.List.{List}
 use Prim.Native.Nat.{ℕ, _+_, _-_, _*_, _≤_, _<_}

@@ -4,33 +4,56 @@ ghost use Prim.Native.Nat.{_+_, _*_, _≤_, _<_};
 ghost use Rattle.cursor.specs.View.{Fits, textOf};
 ghost use Rattle.symbol_table.specs.Symbols.{Symbols, termCount, inputCount, outputCount, among};
 use cursor::Cursor;
+use lookup::Names;
+
+// For each variable the first of its terms, counted over all variables; the number of all terms; how many inputs and
+// outputs there are.
+pub type SymbolTable = [usize; OUTPUT_COUNT + 1];
+
+pub const INPUT_COUNT: usize = bounds::VARIABLES + 1;
+
+pub const OUTPUT_COUNT: usize = INPUT_COUNT + 1;
 
 // Which input; their number where it is none.
-pub fn input_of(s: &[u8], names: &[usize; 224], symbols: &[usize; 17], c: Cursor) -> usize
+pub fn input_of(s: &[u8], names: &Names, symbols: &SymbolTable, c: Cursor) -> usize
     requires { ⌜ Fits (now s) c × Symbols (now s) (now names) (now symbols) ⌝ }
     ensures { λ r. ⌜ r ≡ among (now (s .entry)) (now (names .entry)) (textOf (now (s .entry)) c)
         (inputCount (now (symbols .entry))) 0 ⌝ }
     ensures within { λ r. ⌜ r ≤ 8 ⌝ }
 {
-    lookup::find(s, names, 0, symbols[15], c.start, c.end)
+    lookup::find(s, names, 0, symbols[INPUT_COUNT], c.start, c.end)
 }
 
 // Which output; their number where it is none.
-pub fn output_of(s: &[u8], names: &[usize; 224], symbols: &[usize; 17], c: Cursor) -> usize
+pub fn output_of(s: &[u8], names: &Names, symbols: &SymbolTable, c: Cursor) -> usize
     requires { ⌜ Fits (now s) c × Symbols (now s) (now names) (now symbols) ⌝ }
     ensures { λ r. ⌜ r ≡ among (now (s .entry)) (now (names .entry)) (textOf (now (s .entry)) c)
         (outputCount (now (symbols .entry))) 8 ⌝ }
     ensures within { λ r. ⌜ r ≤ 6 ⌝ }
 {
-    lookup::find(s, names, 8, symbols[16], c.start, c.end)
+    lookup::find(
+        s,
+        names,
+        lookup::FIRST_OUTPUT,
+        symbols[OUTPUT_COUNT],
+        c.start,
+        c.end,
+    )
 }
 
 // Which term of variable v; their number where it is none.
-pub fn term_of(s: &[u8], names: &[usize; 224], symbols: &[usize; 17], v: usize, c: Cursor) -> usize
+pub fn term_of(s: &[u8], names: &Names, symbols: &SymbolTable, v: usize, c: Cursor) -> usize
     requires { ⌜ Fits (now s) c × Symbols (now s) (now names) (now symbols) × (v < 14) ⌝ }
     ensures { λ r. ⌜ r ≡ among (now (s .entry)) (now (names .entry)) (textOf (now (s .entry)) c)
         (termCount (now (symbols .entry)) v) (14 + v * 7) ⌝ }
     ensures within { λ r. ⌜ r ≤ 7 ⌝ }
 {
-    lookup::find(s, names, 14 + v * 7, symbols[v + 1] - symbols[v], c.start, c.end)
+    lookup::find(
+        s,
+        names,
+        lookup::FIRST_TERM + v * bounds::TERMS,
+        symbols[v + 1] - symbols[v],
+        c.start,
+        c.end,
+    )
 }

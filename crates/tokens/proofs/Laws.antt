@@ -1,4 +1,4 @@
--- One step of each definition that walks over a text or a table, at a place of it.
+-- One step of each definition that walks over a text, at a place of it.
 use mathlib.Core.Path.{_≡_, refl, sym, ap, _∙_}
 use mathlib.Core.List.{List, [], _∷_}
 use mathlib.Core.Bool.{Bool, true, false, _&&_, not, and-false, false≢true}
@@ -6,44 +6,15 @@ use mathlib.Core.Option.{Option, none, some}
 use Prim.Native.Nat.{ℕ, zero, suc, _+_, _-_, _≤_, _<_}
 use native.Mathlib.Numerals.{add-one}
 use native.Mathlib.Omega.{arith}
-use borrow.Author.Tests.{eq-eqb, ne-eqb, eqb-true, eqb-false, leb-true}
-use lib.Dec.{eqb, leb}
+use borrow.Author.Tests.{eq-eqb, ne-eqb, eqb-true, eqb-false}
+use lib.Dec.{eqb}
 use lib.ListN.{length, take, drop, getD, drop-of-length-le, length-drop}
-use lib.Seq.{drop-cons, drop-nil, drop-drop, take-all, take-nil, slice, slice-empty}
-use Rattle.model.specs.Basic.{if_then_else_, all, run, same, indexOf}
-use Rattle.model.specs.Image.{tab}
-use Rattle.model.specs.Keywords.{END, WRONG, BLANK, keywords, keywordAt}
+use lib.Seq.{drop-cons, drop-drop, slice, slice-empty}
+use Rattle.model.specs.Basic.{if_then_else_, run}
+use Rattle.model.specs.Keywords.{END, WRONG, BLANK}
 use Rattle.model.specs.Tokens.{isUnderscore, isDigit, isNameByte, isMark, starts, tidy, wordKind, pointPart, numberPart, commentPart, commentPiece, piece, wordPiece, pieceAt, token, placed, scan}
-use Rattle.tokens.specs.Tokens.{spelling, tokensFrom, after}
-
--- the text from a place on, as a part of it
-pub part : (s : List ℕ) (a : ℕ) → take (length s - a) (drop a s) ≡ drop a s
-part s a = take-all (length s - a) (drop a s) (omega (arith, length-drop a s))
-
-module _ (f : ℕ → Bool) (s : List ℕ) (i : ℕ) where
-  pub starts-here : i < length s → starts f (drop i s) ≡ f (getD s i 0)
-  starts-here h = rw (drop-cons s i 0 h)
-
-  pub starts-end : length s ≤ i → starts f (drop i s) ≡ false
-  starts-end h = rw (drop-of-length-le s h)
-
-  pub run-more : i < length s → f (getD s i 0) ≡ true → i + run f (drop i s) ≡ (i + 1) + run f (drop (i + 1) s)
-  unfolding run
-  run-more h e =
-      let q : run f (drop i s) ≡ suc (run f (drop (suc i) s)) = rw (drop-cons s i 0 h) (simp (run, e)) in
-      rw add-one (omega (arith, q))
-
-  pub run-stop : i < length s → f (getD s i 0) ≡ false → i + run f (drop i s) ≡ i
-  unfolding run
-  run-stop h e =
-      let q : run f (drop i s) ≡ 0 = rw (drop-cons s i 0 h) (simp (run, e)) in
-      omega (arith, q)
-
-  pub run-end : length s ≤ i → i + run f (drop i s) ≡ i
-  unfolding run
-  run-end h =
-      let q : run f (drop i s) ≡ 0 = rw (drop-of-length-le s h) in
-      omega (arith, q)
+use Rattle.laws.proofs.Slices.{cut}
+use Rattle.tokens.specs.Tokens.{tokensFrom, after}
 
 -- WORDS
 tidy-cons : (c : ℕ) (w : List ℕ) → isUnderscore c ≡ false → tidy (c ∷ w) ≡ tidy w
@@ -67,80 +38,6 @@ pub tidy-end : (w : List ℕ) (i : ℕ) → length w ≤ i → tidy (drop i w) �
 unfolding tidy
 tidy-end w i h = rw (drop-of-length-le w h)
 
--- KEYWORDS
-spelling-end : (l : List ℕ) (k : ℕ) → getD l k 0 ≡ 0 → spelling (drop k l) ≡ []
-unfolding spelling
-spelling-end [] k e = rw (drop-nil {A = ℕ} k)
-spelling-end (b ∷ l) zero e = simp (eq-eqb b 0 e)
-spelling-end (b ∷ l) (suc k) e = spelling-end l k e
-
-spelling-more : (l : List ℕ) (k : ℕ) → (getD l k 0 ≡ 0 → ⊥) → spelling (drop k l) ≡ getD l k 0 ∷ spelling (drop (suc k) l)
-unfolding spelling
-spelling-more [] k n = absurd (n refl)
-spelling-more (b ∷ l) zero n = simp (ne-eqb b 0 n)
-spelling-more (b ∷ l) (suc k) n = spelling-more l k n
-
-module _ (w l : List ℕ) (k : ℕ) where
-  pub same-more : k < length w → (getD l k 0 ≡ 0 → ⊥) → getD w k 0 ≡ getD l k 0 → same (drop k w) (spelling (drop k l)) ≡ same (drop (k + 1) w) (spelling (drop (k + 1) l))
-  same-more h n e = rw (add-one, drop-cons w k 0 h, spelling-more l k n) (simp (eq-eqb _ _ e))
-
-  pub same-short : k < length w → getD l k 0 ≡ 0 → same (drop k w) (spelling (drop k l)) ≡ false
-  same-short h e = rw (drop-cons w k 0 h, spelling-end l k e)
-
-  pub same-stop : k < length w → (getD l k 0 ≡ 0 → ⊥) → (getD w k 0 ≡ getD l k 0 → ⊥) → same (drop k w) (spelling (drop k l)) ≡ false
-  same-stop h n e = rw (drop-cons w k 0 h, spelling-more l k n) (simp (ne-eqb _ _ e))
-
-  pub same-end : length w ≤ k → same (drop k w) (spelling (drop k l)) ≡ eqb (getD l k 0) 0
-  same-end h = rw (drop-of-length-le w h) (go (eqb (getD l k 0) 0) refl)
-    where
-      go : (b : Bool) → eqb (getD l k 0) 0 ≡ b → same [] (spelling (drop k l)) ≡ b
-      go true e = rw (spelling-end l k (eqb-true _ _ e))
-      go false e = rw (spelling-more l k (eqb-false _ _ e))
-
-module _ {A : Type 0} (p : A → Bool) (f : ℕ → A) (e i : ℕ) where
-  step : i < e → e - i ≡ suc (e - (i + 1))
-  step h = omega arith
-
-  pub index-more : i < e → p (f i) ≡ false → i + indexOf p (tab f (e - i) i) ≡ (i + 1) + indexOf p (tab f (e - (i + 1)) (i + 1))
-  unfolding tab
-  index-more h q =
-      let z : indexOf p (tab f (e - i) i) ≡ suc (indexOf p (tab f (e - (i + 1)) (i + 1))) = rw (step h) (simp (indexOf, q, add-one)) in
-      omega (arith, z)
-
-  pub index-here : i < e → p (f i) ≡ true → i + indexOf p (tab f (e - i) i) ≡ i
-  unfolding tab
-  index-here h q =
-      let z : indexOf p (tab f (e - i) i) ≡ 0 = rw (step h) (simp q) in
-      omega (arith, z)
-
-  pub index-end : e ≤ i → i + indexOf p (tab f (e - i) i) ≡ i
-  unfolding tab
-  index-end h =
-      let g : e - i ≡ 0 = omega arith in
-      let z : indexOf p (tab f (e - i) i) ≡ 0 = rw g in
-      omega (arith, z)
-
-same-length : (x y : List ℕ) → (length x ≡ length y → ⊥) → same x y ≡ false
-same-length [] [] n = absurd (n refl)
-same-length [] (b ∷ y) n = refl
-same-length (a ∷ x) [] n = refl
-same-length (a ∷ x) (b ∷ y) n = rw (same-length x y (λ e. n (ap suc e))) (and-false (eqb a b))
-
-index-length : (n : ℕ) (w : List ℕ) (ks : List (List ℕ)) → n < length w → all (λ k. leb (length k) n) ks ≡ true → indexOf (same w) ks ≡ length ks
-unfolding all
-index-length n w [] h e = refl
-index-length n w (k ∷ ks) h e = go (index-length n w ks h) (leb (length k) n) refl e
-  where
-    go : (all (λ k. leb (length k) n) ks ≡ true → indexOf (same w) ks ≡ length ks) → (b : Bool) → leb (length k) n ≡ b → b && all (λ k. leb (length k) n) ks ≡ true
-        → indexOf (same w) (k ∷ ks) ≡ length (k ∷ ks)
-    go ih true q r = let g = leb-true (length k) n q in rw (indexOf, same-length w k (λ e. omega (arith, e, g, h))) (ap suc (ih r))
-    go ih false q r = absurd (false≢true r)
-
--- no keyword is longer than 18 bytes
-pub keyword-long : (w : List ℕ) → 18 < length w → keywordAt w ≡ 43
-unfolding all
-keyword-long w h = index-length 18 w keywords h refl
-
 -- NUMBERS
 module _ (s : List ℕ) (i : ℕ) where
   pub point-here : (d : Bool) → i < length s → getD s i 0 ≡ 46 → d ≡ starts isDigit (drop (i + 1) s)
@@ -161,7 +58,8 @@ number s a e p h q =
     omega (arith, h, z)
 
 -- PIECES
-pub word-piece : (s : List ℕ) (e k : ℕ) → 0 < length s → e ≡ 1 + run isNameByte (drop 1 s) → k ≡ wordKind (take e s) → piece k (e - 1) ≡ wordPiece (getD s 0 0) (drop 1 s)
+pub word-piece : (s : List ℕ) (e k : ℕ) → 0 < length s → e ≡ 1 + run isNameByte (drop 1 s) → k ≡ wordKind (take e s)
+    → piece k (e - 1) ≡ wordPiece (getD s 0 0) (drop 1 s)
 unfolding wordPiece
 word-piece [] e k h p q = absurd (omega arith)
 word-piece (c ∷ s) e k h p q =
@@ -207,7 +105,8 @@ pub comment-begins : (s : List ℕ) → commentFrom s 2 ≡ commentPart (drop 2 
 comment-begins s = longer-zero (commentPart (drop 2 s))
 
 module _ (s : List ℕ) (i : ℕ) (g : 2 ≤ i) (b : Bool) where
-  at-byte : i < length s → b ≡ eqb (getD s i 0) 42 && starts (eqb 41) (drop (i + 1) s) → commentPart (drop i s) ≡ if b then some 2 else longer 1 (commentPart (drop (i + 1) s))
+  at-byte : i < length s → b ≡ eqb (getD s i 0) 42 && starts (eqb 41) (drop (i + 1) s)
+    → commentPart (drop i s) ≡ if b then some 2 else longer 1 (commentPart (drop (i + 1) s))
   at-byte h e = rw (add-one, drop-cons s i 0 h) (comment-cons (getD s i 0) (drop (suc i) s) b (rw add-one at e))
 
   pub comment-more : i < length s → b ≡ eqb (getD s i 0) 42 && starts (eqb 41) (drop (i + 1) s) → b ≡ false → commentFrom s i ≡ commentFrom s (i + 1)
@@ -242,11 +141,6 @@ jump (suc n) p [] h = absurd (omega arith)
 jump (suc n) p (c ∷ s) h =
     let z : suc p + n ≡ p + suc n = omega arith in
     jump n (suc p) s (omega arith) ∙ ap (λ (q : ℕ). scan 0 q (drop n s)) z
-
-cut : (f n : ℕ) (l : List ℕ) → take n (drop f l) ≡ slice f (f + n) l
-cut zero n l = let z : 0 + n ≡ n = omega arith in rw z
-cut (suc f) n [] = let z : suc f + n ≡ suc (f + n) = omega arith in rw z (take-nil {A = ℕ} n)
-cut (suc f) n (x ∷ l) = let z : suc f + n ≡ suc (f + n) = omega arith in rw z (cut f n l)
 
 first : (l : List ℕ) (i k m : ℕ) → m < length l → piece k m ≡ pieceAt (getD l 0 0) (drop 1 l)
     → scan 0 i l ≡ placed (piece k m) i l (scan 0 (i + 1 + m) (drop (suc m) l))

@@ -1,8 +1,9 @@
--- The tokens of a text from a place on, and the first of them as the scanner gives it.
-use mathlib.Core.List.{List, [], _∷_}
+-- A helper: the tokens of a text from a place on, by the model's `scan`, and the first of them as the scanner gives it.
+-- `begun` of cursor/proofs/Laws ties those from 0 on to the model's `tokens`.
+use mathlib.Core.List.{List, []}
 use Prim.Native.Nat.{ℕ}
 use lib.Dec.{eqb}
-use lib.ListN.{drop, getD}
+use lib.ListN.{drop}
 use lib.Seq.{slice}
 use Rattle.model.specs.Basic.{if_then_else_}
 use Rattle.model.specs.Keywords.{END}
@@ -22,11 +23,3 @@ after s t = if eqb (t .kind) END then [] else tokensFrom s (t .end)
 
 abbrev pub pieceOf : Piece → ModelPiece
 pieceOf p = piece (p .kind) (p .more)
-
--- a row of the table of keywords, up to its first zero
-unfoldable pub spelling : List ℕ → List ℕ
-spelling [] = []
-spelling (b ∷ s) = if eqb b 0 then [] else b ∷ spelling s
-
-abbrev pub spelt : List (List ℕ) → ℕ → List ℕ
-spelt t i = spelling (getD t i [])

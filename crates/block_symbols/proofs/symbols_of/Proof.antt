@@ -2,7 +2,6 @@ use mathlib.Core.Path.{_≡_}
 use borrow.Author.Needs.{needs}
 use Rattle.block_symbols.proofs.Laws as laws
 use lib.ListN.{length}
-use Rattle.block_symbols.specs.Firsts.{termsAt}
 use Rattle.block_symbols.proofs.symbols_of.Statement.{statement}
 use Rattle.block_symbols.proofs.symbols_of.Tie as tie
 
@@ -19,9 +18,12 @@ array-write-r-2 : tie.Need-array-write-r-2
 array-write-r-2 c = search needs
 
 returns : tie.Need-returns
-returns c = let a = c .before .before .before .before .args in
+returns c =
+    let c4 = c .before .before .before .before in
+    let a = c4 .args in
     let l : length (c .with-outputs .result) ≡ 17 = search needs in
-    let f = c .with-outputs .ensures (termsAt (a .t)) (c .before .before .with-inputs .ensures .0 (termsAt (a .t)) (laws.rows-in (a .t))) (laws.rows-out (a .t)) in
+    let f = c .with-outputs .ensures (laws.termsAt (a .t)) (c .before .before .with-inputs .ensures .0 (laws.termsAt (a .t)) (laws.rows-in (a .t)))
+    (laws.rows-out (a .t)) in
     ((λ s g. laws.is-symbols (a .t) (c .with-outputs .result) l f s g), λ s b g x y. laws.describes (a .t) (c .with-outputs .result) l f s g b x y)
 
 pub symbols-of-spec : {M : Type 1} → statement M

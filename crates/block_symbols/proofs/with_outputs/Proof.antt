@@ -12,7 +12,8 @@ use Rattle.block_symbols.proofs.with_outputs.Statement.{statement}
 use Rattle.block_symbols.proofs.with_outputs.Tie as tie
 
 abbrev Inv-loop : tie.InvT-loop
-Inv-loop n rows r₀ i₀ r i = (i ≤ 6) × (length r ≡ 17) × (getD r (8 + i) 0 ≤ 56 + i * 7) × ((k : ℕ) → getD rows k no-output .terms ≤ 7) × ((c : ℕ → ℕ) → Firsts c 8 r₀ → ((i : ℕ) → i < 6 → c (8 + i) ≡ (if ltb i n then getD rows i no-output .terms else 0)) → Firsts c (8 + i) r)
+Inv-loop n rows r₀ i₀ r i = (i ≤ 6) × (length r ≡ 17) × (getD r (8 + i) 0 ≤ 56 + i * 7) × ((k : ℕ) → getD rows k no-output .terms ≤ 7)
+    × ((c : ℕ → ℕ) → Firsts c 8 r₀ → ((i : ℕ) → i < 6 → c (8 + i) ≡ (if ltb i n then getD rows i no-output .terms else 0)) → Firsts c (8 + i) r)
 
 abbrev μ-loop : tie.MeasureT-loop
 μ-loop n rows r₀ i₀ r i = 6 - i
@@ -60,14 +61,17 @@ loop-less : tie.Need-loop-less Inv-loop μ-loop
 loop-less c = search needs
 
 loop-again : tie.Need-loop-again Inv-loop μ-loop
-loop-again c = let l = c .before .before .before .loop .inv in
+loop-again c =
+    let c3 = c .before .before .before in
+    let l = c3 .loop .inv in
     let t = c .before .before .loop-test .taken in
-    let r = c .before .before .before .loop .r in
-    let i = c .before .before .before .loop .i in
+    let r = c3 .loop .r in
+    let i = c3 .loop .i in
     let k = c .among .result in
     let e = c .among .ensures .0 in
     let m : k ≤ 7 = omega (arith, c .among .ensures .1, l .3 i) in
-    (omega arith, simp length-set (l .1), laws.bounded-on r i k (l .1) (omega arith) (l .2) m, l .3, λ d f h. laws.firsts-on r i k (l .1) (omega arith) d (l .4 d f h) (e ∙ sym (h i (omega arith))))
+    (omega arith, simp length-set (l .1), laws.bounded-on r i k (l .1) (omega arith) (l .2) m, l .3,
+    λ d f h. laws.firsts-on r i k (l .1) (omega arith) d (l .4 d f h) (e ∙ sym (h i (omega arith))))
 
 returns : tie.Need-returns Inv-loop μ-loop
 returns c = let l = c .before .loop .inv in

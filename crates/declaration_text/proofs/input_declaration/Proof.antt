@@ -18,11 +18,17 @@ expect-requires-2 : tie.Need-expect-requires-2
 expect-requires-2 c κs = (c .before .input-type .ensures .good .fits, omega arith)
 
 returns : tie.Need-returns
-returns c = let x = c .before .before .before .before .before .inputs .ensures in
-    let a = c .before .before .before .expect .ensures .0 in
+returns c =
+    let c3 = c .before .before .before in
+    let c5 = c3 .before .before in
+    let c7 = c5 .before .before in
+    let x = c5 .inputs .ensures in
+    let a = c3 .expect .ensures .0 in
     let y = c .before .before .input-type .ensures in
-    let b = c .expect2 .ensures .0 in (
-      reading.also (reading.next (reading.next (reading.next (x .0) (reading.step _ (x .0 .good .holds) a)) y) (reading.step _ (y .good .holds) b)) (laws.declaration-is _ (c .before .before .before .before .before .before .before .args .p)),
+    let b = c .expect2 .ensures .0 in
+    (
+      reading.also (reading.next (reading.next (reading.next (x .0) (reading.step _ (x .0 .good .holds) a)) y) (reading.step _ (y .good .holds) b))
+      (laws.declaration-is _ (c7 .args .p)),
       λ h. omega (arith, x .1 h, a .fewer, y .fewer, b .fewer),
     )
 

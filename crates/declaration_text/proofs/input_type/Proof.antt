@@ -10,9 +10,13 @@ advance-requires : tie.Need-advance-requires
 advance-requires c κs = search needs
 
 returns : tie.Need-returns
-returns c = let a = c .before .before .before .before .before .before .before .args in
-    let g = c .before .before .before .before .before .before .before .pre in
-    laws.type-int (a .s .now) (a .p .cursor) (a .p .tables) (c .advance .result) (a .n) (c .before .set-int .result) (g .fits) (c .before .before .before .if1 .taken) (c .before .set-int .ensures _ (g .holds)) (c .advance .ensures .0)
+returns c =
+    let c3 = c .before .before .before in
+    let c7 = c3 .before .before .before .before in
+    let a = c7 .args in
+    let g = c7 .pre in
+    laws.type-int (a .s .now) (a .p .cursor) (a .p .tables) (c .advance .result) (a .n) (c .before .set-int .result) (g .fits) (c3 .if1 .taken)
+    (c .before .set-int .ensures _ (g .holds)) (c .advance .ensures .0)
 
 expect-requires : tie.Need-expect-requires
 expect-requires c κs = search needs

@@ -1,9 +1,17 @@
 use borrow.Author.Needs.{needs}
 use native.Mathlib.Nat.{mul-one}
+use native.Mathlib.Omega.{arith}
+use Rattle.model.specs.Block.{emptyBlock}
 use Rattle.model.specs.Image.{endOf, offsets}
 use Rattle.image.specs.Rows.{headWords}
 use Rattle.image.proofs.head_words.Statement.{statement}
 use Rattle.image.proofs.head_words.Tie as tie
+
+layout-word-requires : tie.Need-layout-word-requires
+layout-word-requires c κs = search needs
+
+cast-layout : tie.Need-cast-layout
+cast-layout c = let one = c .layout-word .ensures emptyBlock in omega arith
 
 mul-outputs : tie.Need-mul-outputs
 mul-outputs c = search needs
@@ -46,12 +54,16 @@ add-end c = search needs
 
 returns : tie.Need-returns
 unfolding headWords endOf offsets
-returns c = simp mul-one
+returns c =
+    let one = c .before .before .before .before .before .before .before .layout-word .ensures emptyBlock in
+    simp (one, mul-one)
 
 pub head-words-spec : {M : Type 1} → statement M
 head-words-spec =
     tie.close
     (tie.spec
+    layout-word-requires
+    cast-layout
     mul-outputs
     add-outputs
     mul-terms

@@ -3,7 +3,8 @@ use mathlib.Core.Path.{_≡_, ap, _∙_}
 use native.Mathlib.Omega.{arith}
 use lib.ListN.{length}
 use Rattle.model.specs.Image.{nameWords}
-use Rattle.image.proofs.Over.{joined, retold, part}
+use Rattle.laws.proofs.Slices.{part}
+use Rattle.word_writer.proofs.Over.{joined, retold}
 use Rattle.image.proofs.header.Statement.{statement}
 use Rattle.image.proofs.header.Tie as tie
 

@@ -6,7 +6,8 @@ use lib.ListN.{length, getD}
 use Rattle.model.specs.Image.{nameWords}
 use Rattle.block_tables.specs.View.{no-input}
 use Rattle.image.specs.Rows.{inputSize, inputWords, inputRows}
-use Rattle.image.proofs.Over.{Going, begins, goes, ends, retold}
+use Rattle.word_writer.proofs.Over.{retold}
+use Rattle.image.proofs.Turns.{Going, begins, goes, ends}
 use Rattle.image.proofs.input_table.Statement.{statement}
 use Rattle.image.proofs.input_table.Tie as tie
 

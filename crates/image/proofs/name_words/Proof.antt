@@ -4,7 +4,7 @@ use Prim.Native.Nat.{_+_}
 use lib.ListN.{getD}
 use Rattle.model.specs.Image.{nameWords}
 use Rattle.lookup.specs.Names.{nameOf}
-use Rattle.image.proofs.Over.{part}
+use Rattle.laws.proofs.Slices.{part}
 use Rattle.image.proofs.name_words.Statement.{statement}
 use Rattle.image.proofs.name_words.Tie as tie
 

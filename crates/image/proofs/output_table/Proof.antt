@@ -6,7 +6,8 @@ use lib.ListN.{length, getD}
 use Rattle.model.specs.Image.{nameWords}
 use Rattle.block_tables.specs.View.{no-output}
 use Rattle.image.specs.Rows.{outputSize, outputWords, outputRows}
-use Rattle.image.proofs.Over.{Going, begins, goes, ends, retold}
+use Rattle.word_writer.proofs.Over.{retold}
+use Rattle.image.proofs.Turns.{Going, begins, goes, ends}
 use Rattle.image.proofs.output_table.Statement.{statement}
 use Rattle.image.proofs.output_table.Tie as tie
 

@@ -6,7 +6,7 @@ use lib.ListN.{length, getD}
 use Rattle.layout.specs.Tables.{sums}
 use Rattle.image.specs.Rows.{held, heldIn, pointsIn, pointRows, onward}
 use Rattle.image.proofs.Lists.{sums-more, sums-end}
-use Rattle.image.proofs.Over.{Going, begins, goes, ends}
+use Rattle.image.proofs.Turns.{Going, begins, goes, ends}
 use Rattle.image.proofs.point_table.Statement.{statement}
 use Rattle.image.proofs.point_table.Tie as tie
 

@@ -4,7 +4,7 @@ use Prim.Native.Nat.{_+_, _*_, _-_, _≤_}
 use native.Mathlib.Omega.{arith}
 use lib.ListN.{length}
 use Rattle.image.specs.Rows.{ruleWords, ruleNext, ruleRows}
-use Rattle.image.proofs.Over.{Going, begins, goes, ends}
+use Rattle.image.proofs.Turns.{Going, begins, goes, ends}
 use Rattle.image.proofs.rule_table.Statement.{statement}
 use Rattle.image.proofs.rule_table.Tie as tie
 

@@ -6,7 +6,8 @@ use native.Mathlib.Omega.{arith}
 use lib.ListN.{length, getD}
 use Rattle.block_tables.specs.View.{no-point}
 use Rattle.image.specs.Rows.{pointRow, rows, onward}
-use Rattle.image.proofs.Over.{Going, begins, goes, ends, retold}
+use Rattle.word_writer.proofs.Over.{retold}
+use Rattle.image.proofs.Turns.{Going, begins, goes, ends}
 use Rattle.image.proofs.some_points.Statement.{statement}
 use Rattle.image.proofs.some_points.Tie as tie
 

@@ -11,7 +11,7 @@ use Rattle.block_tables.specs.View.{wholeView}
 use Rattle.block_tables.specs.Stored.{Stored}
 use Rattle.image.specs.declared.Counts.{Counts}
 use Rattle.image.specs.Rows.{headWords, variableWords, entriesOf}
-use Rattle.image.proofs.Over.{joined, retold, from-start}
+use Rattle.word_writer.proofs.Over.{joined, retold, from-start}
 use Rattle.image.proofs.Views.{Ordered}
 use Rattle.image.proofs.Whole.{words-are, size-is, too-short, stored}
 use Rattle.image.proofs.store.Statement.{statement}

@@ -5,7 +5,8 @@ use native.Mathlib.Omega.{arith}
 use lib.ListN.{length, getD}
 use Rattle.model.specs.Image.{nameWords}
 use Rattle.image.specs.Rows.{held, termWords, termRows}
-use Rattle.image.proofs.Over.{Going, begins, goes, ends, retold}
+use Rattle.word_writer.proofs.Over.{retold}
+use Rattle.image.proofs.Turns.{Going, begins, goes, ends}
 use Rattle.image.proofs.term_table.Statement.{statement}
 use Rattle.image.proofs.term_table.Tie as tie
 

@@ -1,7 +1,7 @@
 use borrow.Author.Needs.{needs}
 use native.Mathlib.Omega.{arith}
 use Rattle.image.specs.Rows.{variableRows}
-use Rattle.image.proofs.Over.{joined}
+use Rattle.word_writer.proofs.Over.{joined}
 use Rattle.image.proofs.variables.Statement.{statement}
 use Rattle.image.proofs.variables.Tie as tie
 

@@ -6,6 +6,7 @@ use borrow.Author.Needs.{needs}
 use lib.ListN.{getD}
 use lib.Seq.{slice}
 use Rattle.model.specs.Tokens.{sameName}
+use Rattle.laws.proofs.Search.{Past, past-start, past-more, past-here, past-end}
 use Rattle.lookup.specs.Names.{nameOf}
 use Rattle.lookup.proofs.Names as laws
 use Rattle.lookup.proofs.find.Statement.{statement}
@@ -19,7 +20,7 @@ abbrev μ-loop : tie.MeasureT-loop
 μ-loop s names from count start end n i₀ k a e j₀ i j = n - j
 
 abbrev Inv-search : tie.InvT-search
-Inv-search s names from count start end n i₀ i = laws.Past s names from count start end i
+Inv-search s names from count start end n i₀ i = Past (sameName (slice start end s)) (nameOf s names) count from i
 
 abbrev μ-search : tie.MeasureT-search
 μ-search s names from count start end n i₀ i = count - i
@@ -28,7 +29,9 @@ sub-n : tie.Need-sub-n Inv-loop μ-loop Inv-search μ-search
 sub-n c = search needs
 
 search-holds : tie.Need-search-holds Inv-loop μ-loop Inv-search μ-search
-search-holds c = laws.past-start (c .args .s .now) (c .args .names .now) (c .args .from) (c .args .count) (c .args .start) (c .args .end)
+search-holds c =
+    let a = c .args in
+    past-start (sameName (slice (a .start) (a .end) (a .s .now))) (nameOf (a .s .now) (a .names .now)) (a .count) (a .from)
 
 add-k : tie.Need-add-k Inv-loop μ-loop Inv-search μ-search
 add-k c = search needs
@@ -61,7 +64,10 @@ shared-slice-read-if2 : tie.Need-shared-slice-read-if2 Inv-loop μ-loop Inv-sear
 shared-slice-read-if2 c = search needs
 
 add-if2-2 : tie.Need-add-if2-2 Inv-loop μ-loop Inv-search μ-search
-add-if2-2 c = omega (arith, c .before .before .before .before .before .before .before .before .pre .3 .inside (112 + (c .before .before .before .before .before .before .before .before .args .from + c .before .before .before .before .before .before .before .search .i)))
+add-if2-2 c =
+    let o = c .before .before .before .before .before .before .before in
+    let z = o .before in
+    omega (arith, z .pre .3 .inside (112 + (z .args .from + o .search .i)))
 
 shared-slice-read-if2-2 : tie.Need-shared-slice-read-if2-2 Inv-loop μ-loop Inv-search μ-search
 shared-slice-read-if2-2 c =
@@ -78,11 +84,20 @@ search-less c = search needs
 search-again : tie.Need-search-again Inv-loop μ-loop Inv-search μ-search
 unfolding nameOf
 search-again c =
-    let z = c .before .before .before .before .before .before .before .before .before .before in
-    let o = c .before .before .before .before .before .before .before .before .before .search in
-    let l = c .before .before .before .before .loop in
-    let q = laws.differ-here (z .args .s .now) (z .args .start) (z .args .end) (getD (z .args .names .now) (z .args .from + o .i) 0) (getD (z .args .names .now) (112 + (z .args .from + o .i)) 0) (z .pre .1) (z .pre .3 .inside (112 + (z .args .from + o .i))) (l .j) (omega arith) (omega (arith, z .pre .3 .order (z .args .from + o .i) (omega arith))) (c .if2 .taken) in
-    rw (l .inv .0) (laws.past-more (z .args .s .now) (z .args .names .now) (z .args .from) (z .args .count) (z .args .start) (z .args .end) (o .i) (search needs) (sym (l .inv .2) ∙ q) (o .inv))
+    let c4 = c .before .before .before .before in
+    let c9 = c4 .before .before .before .before .before in
+    let z = c9 .before in
+    let o = c9 .search in
+    let l = c4 .loop in
+    let a = z .args in
+    let names = a .names .now in
+    let k = a .from + o .i in
+    let e = z .pre .3 .inside (112 + k) in
+    let h = z .pre .3 .order k (omega arith) in
+    let q = laws.differ-here (a .s .now) (a .start) (a .end) (getD names k 0) (getD names (112 + k) 0) (z .pre .1) e (l .j) (omega arith)
+    (omega arith) (c .if2 .taken) in
+    let same = sameName (slice (a .start) (a .end) (a .s .now)) in
+    rw (l .inv .0) (past-more same (nameOf (a .s .now) names) (a .count) (a .from) (o .i) (search needs) (sym (l .inv .2) ∙ q) (o .inv))
 
 add-j : tie.Need-add-j Inv-loop μ-loop Inv-search μ-search
 add-j c = search needs
@@ -92,10 +107,18 @@ loop-less c = search needs
 
 loop-again : tie.Need-loop-again Inv-loop μ-loop Inv-search μ-search
 loop-again c =
-    let z = c .before .before .before .before .before .before .before .before .before .before in
-    let o = c .before .before .before .before .before .before .before .before .before .search in
-    let l = c .before .before .before .before .loop in
-    let q = laws.alike-more (z .args .s .now) (z .args .start) (z .args .end) (getD (z .args .names .now) (z .args .from + o .i) 0) (getD (z .args .names .now) (112 + (z .args .from + o .i)) 0) (z .pre .1) (z .pre .3 .inside (112 + (z .args .from + o .i))) (l .j) (omega arith) (omega (arith, z .pre .3 .order (z .args .from + o .i) (omega arith))) (c .if2 .left) in
+    let c4 = c .before .before .before .before in
+    let c9 = c4 .before .before .before .before .before in
+    let z = c9 .before in
+    let o = c9 .search in
+    let l = c4 .loop in
+    let a = z .args in
+    let names = a .names .now in
+    let k = a .from + o .i in
+    let e = z .pre .3 .inside (112 + k) in
+    let h = z .pre .3 .order k (omega arith) in
+    let q = laws.alike-more (a .s .now) (a .start) (a .end) (getD names k 0) (getD names (112 + k) 0) (z .pre .1) e (l .j) (omega arith) (omega arith)
+    (c .if2 .left) in
     (l .inv .0, search needs, sym q ∙ l .inv .2)
 
 add-i-2 : tie.Need-add-i-2 Inv-loop μ-loop Inv-search μ-search
@@ -107,21 +130,35 @@ search-less-2 c = search needs
 search-again-2 : tie.Need-search-again-2 Inv-loop μ-loop Inv-search μ-search
 unfolding nameOf
 search-again-2 c =
-    let z = c .before .before .before .before .before in
     let o = c .before .before .before .before .search in
-    laws.past-more (z .args .s .now) (z .args .names .now) (z .args .from) (z .args .count) (z .args .start) (z .args .end) (o .i) (search needs) (laws.differ-long (z .args .s .now) (z .args .start) (z .args .end) (getD (z .args .names .now) (z .args .from + o .i) 0) (getD (z .args .names .now) (112 + (z .args .from + o .i)) 0) (z .pre .1) (z .pre .3 .inside (112 + (z .args .from + o .i))) (λ q. c .if1 .left (sym q))) (o .inv)
+    let z = c .before .before .before .before .before in
+    let a = z .args in
+    let names = a .names .now in
+    let k = a .from + o .i in
+    let e = z .pre .3 .inside (112 + k) in
+    let q = laws.differ-long (a .s .now) (a .start) (a .end) (getD names k 0) (getD names (112 + k) 0) (z .pre .1) e (λ q. c .if1 .left (sym q)) in
+    past-more (sameName (slice (a .start) (a .end) (a .s .now))) (nameOf (a .s .now) names) (a .count) (a .from) (o .i) (search needs) q (o .inv)
 
 returns : tie.Need-returns Inv-loop μ-loop Inv-search μ-search
-returns c = (laws.past-end (c .before .before .args .s .now) (c .before .before .args .names .now) (c .before .before .args .from) (c .before .before .args .count) (c .before .before .args .start) (c .before .before .args .end) (c .before .search .i) (search needs) (c .before .search .inv), search needs)
+returns c =
+    let a = c .before .before .args in
+    let o = c .before .search in
+    let same = sameName (slice (a .start) (a .end) (a .s .now)) in
+    (past-end same (nameOf (a .s .now) (a .names .now)) (a .count) (a .from) (o .i) (search needs) (o .inv), search needs)
 
 returns-2 : tie.Need-returns-2 Inv-loop μ-loop Inv-search μ-search
 unfolding nameOf
 returns-2 c =
-    let z = c .before .before .before .before .before .before .before in
     let o = c .before .before .before .before .before .before .search in
     let l = c .before .loop in
-    let q = laws.alike-end (z .args .s .now) (z .args .start + l .j) (z .args .end) (getD (z .args .names .now) (z .args .from + o .i) 0 + l .j) (getD (z .args .names .now) (112 + (z .args .from + o .i)) 0) (omega arith) (omega (arith, z .pre .3 .order (z .args .from + o .i) (omega arith))) in
-    rw (l .inv .0) (laws.past-here (z .args .s .now) (z .args .names .now) (z .args .from) (z .args .count) (z .args .start) (z .args .end) (o .i) (search needs) (sym (l .inv .2) ∙ q) (o .inv), search needs)
+    let z = c .before .before .before .before .before .before .before in
+    let a = z .args in
+    let names = a .names .now in
+    let k = a .from + o .i in
+    let h = z .pre .3 .order k (omega arith) in
+    let q = laws.alike-end (a .s .now) (a .start + l .j) (a .end) (getD names k 0 + l .j) (getD names (112 + k) 0) (omega arith) (omega arith) in
+    let same = sameName (slice (a .start) (a .end) (a .s .now)) in
+    rw (l .inv .0) (past-here same (nameOf (a .s .now) names) (a .count) (a .from) (o .i) (search needs) (sym (l .inv .2) ∙ q) (o .inv), search needs)
 
 pub find-spec : {M : Type 1} → statement M
 find-spec =

@@ -22,7 +22,7 @@ returns c =
     let a = c .before .before .before .sign-size in
     let e = c .before .before .digits-end in
     let f = c .before .behind in
-    let q = laws.too-long w (a .result) (e .result) (a .ensures .0) (e .ensures .0) (e .ensures .1) (f .result) (f .ensures .0) (c .if1 .taken) in
+    let q = laws.too-long w (a .result) (e .result) (a .ensures .0) (e .ensures .0) (e .ensures .1 .1) (f .result) (f .ensures .0) (c .if1 .taken) in
     (sym q, laws.none-written w q)
 
 sub-if2 : tie.Need-sub-if2
@@ -34,7 +34,7 @@ returns-2 c =
     let a = c .before .before .before .before .sign-size in
     let e = c .before .before .before .digits-end in
     let f = c .before .before .behind in
-    let q = laws.too-fine w (a .result) (e .result) (a .ensures .0) (e .ensures .0) (e .ensures .1) (f .result) (f .ensures .0) (c .if2 .taken) in
+    let q = laws.too-fine w (a .result) (e .result) (a .ensures .0) (e .ensures .0) (e .ensures .1 .1) (f .result) (f .ensures .0) (c .if2 .taken) in
     (sym q, laws.none-written w q)
 
 decimal-of-requires : tie.Need-decimal-of-requires
@@ -51,12 +51,19 @@ add-t11 c = search needs
 
 returns-3 : tie.Need-returns-3
 returns-3 c =
-    let w = c .before .before .before .before .before .before .before .before .args .w .now in
-    let a = c .before .before .before .before .before .before .sign-size in
-    let e = c .before .before .before .before .before .digits-end in
-    let f = c .before .before .before .before .behind in
-    let q = laws.fits w (a .result) (e .result) (a .ensures .0) (e .ensures .0) (e .ensures .1) (f .result) (f .ensures .0) (c .before .before .before .if1 .left) (c .before .before .if2 .left) in
-    (sym q, (rw (c .before .decimal-of .ensures .0, c .thousandths .ensures .0) (laws.magnitude-is w (a .result) (e .result) (a .ensures .0) (e .ensures .0) (e .ensures .1) (f .result) (f .ensures .0))) ∙ laws.written w q)
+    let c3 = c .before .before .before in
+    let c4 = c3 .before in
+    let c5 = c4 .before in
+    let c6 = c5 .before in
+    let c8 = c6 .before .before in
+    let w = c8 .args .w .now in
+    let a = c6 .sign-size in
+    let e = c5 .digits-end in
+    let f = c4 .behind in
+    let q = laws.fits w (a .result) (e .result) (a .ensures .0) (e .ensures .0) (e .ensures .1 .1) (f .result) (f .ensures .0) (c3 .if1 .left)
+    (c .before .before .if2 .left) in
+    (sym q, (rw (c .before .decimal-of .ensures .0, c .thousandths .ensures .0)
+    (laws.magnitude-is w (a .result) (e .result) (a .ensures .0) (e .ensures .0) (e .ensures .1 .1) (f .result) (f .ensures .0))) ∙ laws.written w q)
 
 pub amount-of-spec : {M : Type 1} → statement M
 amount-of-spec =

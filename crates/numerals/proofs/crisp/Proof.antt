@@ -17,9 +17,12 @@ returns c =
 
 returns-2 : tie.Need-returns-2
 returns-2 c =
-    let w = c .before .before .before .before .before .before .args .w .now in
-    let n = c .before .before .before .before .amount-of in
-    values.high-crisp w (n .result .thousandths) (n .ensures .1) (sym (n .ensures .0) ∙ not-false (n .result .fits) (c .before .before .if1 .left)) (c .if2 .taken)
+    let c4 = c .before .before .before .before in
+    let c6 = c4 .before .before in
+    let w = c6 .args .w .now in
+    let n = c4 .amount-of in
+    values.high-crisp w (n .result .thousandths) (n .ensures .1) (sym (n .ensures .0) ∙ not-false (n .result .fits) (c .before .before .if1 .left))
+    (c .if2 .taken)
 
 is-negative-requires : tie.Need-is-negative-requires
 is-negative-requires c κs = search needs
@@ -35,15 +38,25 @@ cast-t11 c = search needs
 
 returns-3 : tie.Need-returns-3
 returns-3 c =
-    let w = c .before .before .before .before .before .before .before .before .before .args .w .now in
-    let n = c .before .before .before .before .before .before .before .amount-of in
-    values.crisp-is w (n .result .thousandths) (n .ensures .1) (sym (n .ensures .0) ∙ not-false (n .result .fits) (c .before .before .before .before .before .if1 .left)) (c .before .before .before .if2 .left) true (sym (c .before .before .is-negative .ensures) ∙ c .before .if3 .taken) _ (values.minus-is (n .result .thousandths) (c .before .before .before .if2 .left))
+    let c3 = c .before .before .before in
+    let c5 = c3 .before .before in
+    let c7 = c5 .before .before in
+    let c9 = c7 .before .before in
+    let w = c9 .args .w .now in
+    let n = c7 .amount-of in
+    values.crisp-is w (n .result .thousandths) (n .ensures .1) (sym (n .ensures .0) ∙ not-false (n .result .fits) (c5 .if1 .left)) (c3 .if2 .left)
+    true (sym (c .before .before .is-negative .ensures) ∙ c .before .if3 .taken) _ (values.minus-is (n .result .thousandths) (c3 .if2 .left))
 
 returns-4 : tie.Need-returns-4
 returns-4 c =
-    let w = c .before .before .before .before .before .before .before .before .before .args .w .now in
-    let n = c .before .before .before .before .before .before .before .amount-of in
-    values.crisp-is w (n .result .thousandths) (n .ensures .1) (sym (n .ensures .0) ∙ not-false (n .result .fits) (c .before .before .before .before .before .if1 .left)) (c .before .before .before .if2 .left) false (sym (c .before .before .is-negative .ensures) ∙ c .before .if3 .left) _ (values.plus-is (n .result .thousandths) (c .before .before .before .if2 .left))
+    let c3 = c .before .before .before in
+    let c5 = c3 .before .before in
+    let c7 = c5 .before .before in
+    let c9 = c7 .before .before in
+    let w = c9 .args .w .now in
+    let n = c7 .amount-of in
+    values.crisp-is w (n .result .thousandths) (n .ensures .1) (sym (n .ensures .0) ∙ not-false (n .result .fits) (c5 .if1 .left)) (c3 .if2 .left)
+    false (sym (c .before .before .is-negative .ensures) ∙ c .before .if3 .left) _ (values.plus-is (n .result .thousandths) (c3 .if2 .left))
 
 pub crisp-spec : {M : Type 1} → statement M
 crisp-spec =

@@ -20,9 +20,13 @@ unit-limit-requires c κs = search needs
 
 returns-2 : tie.Need-returns-2
 returns-2 c =
-    let w = c .before .before .before .before .before .before .before .args .w .now in
-    let n = c .before .before .before .before .before .amount-of in
-    values.high-unit w (n .result .thousandths) (n .ensures .1) (sym (n .ensures .0) ∙ not-false (n .result .fits) (c .before .before .before .if1 .left)) (rw (sym (c .before .before .unit-limit .ensures .0)) (c .if2 .taken))
+    let c3 = c .before .before .before in
+    let c5 = c3 .before .before in
+    let c7 = c5 .before .before in
+    let w = c7 .args .w .now in
+    let n = c5 .amount-of in
+    values.high-unit w (n .result .thousandths) (n .ensures .1) (sym (n .ensures .0) ∙ not-false (n .result .fits) (c3 .if1 .left))
+    (rw (sym (c .before .before .unit-limit .ensures .0)) (c .if2 .taken))
 
 cast-t7 : tie.Need-cast-t7
 cast-t7 c = omega (arith, c .before .before .before .unit-limit .ensures .1, c .before .if2 .left)
@@ -32,9 +36,14 @@ mul-t8 c = omega (arith, c .before .before .before .unit-limit .ensures .1, c .b
 
 returns-3 : tie.Need-returns-3
 returns-3 c =
-    let w = c .before .before .before .before .before .before .before .before .args .w .now in
-    let n = c .before .before .before .before .before .before .amount-of in
-    values.unit-is w (n .result .thousandths) (n .ensures .1) (sym (n .ensures .0) ∙ not-false (n .result .fits) (c .before .before .before .before .if1 .left)) (rw (sym (c .before .before .before .unit-limit .ensures .0)) (c .before .if2 .left))
+    let c3 = c .before .before .before in
+    let c4 = c3 .before in
+    let c6 = c4 .before .before in
+    let c8 = c6 .before .before in
+    let w = c8 .args .w .now in
+    let n = c6 .amount-of in
+    values.unit-is w (n .result .thousandths) (n .ensures .1) (sym (n .ensures .0) ∙ not-false (n .result .fits) (c4 .if1 .left))
+    (rw (sym (c3 .unit-limit .ensures .0)) (c .before .if2 .left))
 
 pub unit-spec : {M : Type 1} → statement M
 unit-spec =

@@ -40,7 +40,10 @@ returns-7 c = numbered _ (c .match .keys7)
 returns-8 : tie.Need-returns-8
 returns-8 c =
     let others = c .match .rest in
-    let least : 9 ≤ c .before .args .why = above 8 _ (others .1) (above 7 _ (others .0 .1) (above 6 _ (others .0 .0 .1) (above 5 _ (others .0 .0 .0 .1) (above 4 _ (others .0 .0 .0 .0 .1) (above 3 _ (others .0 .0 .0 .0 .0 .1) (above 2 _ (others .0 .0 .0 .0 .0 .0 .1) (c .before .pre .0))))))) in
+    let least : 9 ≤ c .before .args .why = above 8 _ (others .1)
+    (above 7 _ (others .0 .1) (above 6 _ (others .0 .0 .1)
+    (above 5 _ (others .0 .0 .0 .1) (above 4 _ (others .0 .0 .0 .0 .1)
+    (above 3 _ (others .0 .0 .0 .0 .0 .1) (above 2 _ (others .0 .0 .0 .0 .0 .0 .1) (c .before .pre .0))))))) in
     numbered _ (nine _ (c .before .pre .1) least)
 
 pub refusal-of-spec : {M : Type 1} → statement M

@@ -17,10 +17,14 @@ shared-slice-read-result : tie.Need-shared-slice-read-result
 shared-slice-read-result c = search needs
 
 returns : tie.Need-returns
-returns c = simp (le-leb _ _ (c .if2 .taken)) (tidy-last (c .before .before .before .args .w .now) (c .before .before .before .args .i) (search needs) (c .before .if1 .taken) (c .if2 .taken))
+returns c =
+    let c3 = c .before .before .before in
+    simp (le-leb _ _ (c .if2 .taken)) (tidy-last (c3 .args .w .now) (c3 .args .i) (search needs) (c .before .if1 .taken) (c .if2 .taken))
 
 returns-2 : tie.Need-returns-2
-returns-2 c = tidy-pair (c .before .before .before .before .args .w .now) (c .before .before .before .before .args .i) (search needs) (c .before .before .if1 .taken) (c .before .if2 .left)
+returns-2 c =
+    let c4 = c .before .before .before .before in
+    tidy-pair (c4 .args .w .now) (c4 .args .i) (search needs) (c .before .before .if1 .taken) (c .before .if2 .left)
 
 returns-3 : tie.Need-returns-3
 returns-3 c = simp (ne-eqb _ _ (c .if1 .left)) (tidy-plain (c .before .before .args .w .now) (c .before .before .args .i) (search needs) (c .if1 .left))

@@ -4,7 +4,8 @@ use mathlib.Core.Path.{_≡_, refl, sym, _∙_}
 use Prim.Native.Nat.{_-_, _≤_}
 use lib.ListN.{length, length-drop}
 use Rattle.tokens.specs.Tokens.{tokensFrom}
-use Rattle.tokens.proofs.Laws.{part, pass, answer, last}
+use Rattle.laws.proofs.Slices.{rest}
+use Rattle.tokens.proofs.Laws.{pass, answer, last}
 use Rattle.tokens.proofs.next.Statement.{statement}
 use Rattle.tokens.proofs.next.Tie as tie
 
@@ -37,20 +38,28 @@ add-e-2 c = search needs
 
 returns : tie.Need-returns Inv-loop μ-loop
 returns c =
-    let l = c .before .before .before .before .before .before .loop in
-    let p = c .before .before .before .first-piece in
-    let h = simp part at (p .ensures .1 .1) in
-    (sym (l .inv .1) ∙ answer (c .before .before .before .before .before .before .before .before .args .s .now) (l .i) (p .result .kind) (p .result .more) h (simp part at (p .ensures .0)) (c .if1 .taken) (p .ensures .1 .0), omega (arith, h, length-drop (l .i) (c .before .before .before .before .before .before .before .before .args .s .now)))
+    let c3 = c .before .before .before in
+    let c6 = c3 .before .before .before in
+    let c8 = c6 .before .before in
+    let l = c6 .loop in
+    let p = c3 .first-piece in
+    let h = simp rest at (p .ensures .1 .1) in
+    (sym (l .inv .1) ∙ answer (c8 .args .s .now) (l .i) (p .result .kind) (p .result .more) h (simp rest at (p .ensures .0)) (c .if1 .taken)
+    (p .ensures .1 .0), omega (arith, h, length-drop (l .i) (c8 .args .s .now)))
 
 loop-less : tie.Need-loop-less Inv-loop μ-loop
 loop-less c = search needs
 
 loop-again : tie.Need-loop-again Inv-loop μ-loop
 loop-again c =
-    let l = c .before .before .before .before .before .before .loop in
-    let p = c .before .before .before .first-piece in
-    let h = simp part at (p .ensures .1 .1) in
-    (omega (arith, h, length-drop (l .i) (c .before .before .before .before .before .before .before .before .args .s .now)), sym (pass (c .before .before .before .before .before .before .before .before .args .s .now) (l .i) (p .result .kind) (p .result .more) h (simp part at (p .ensures .0)) (c .if1 .left)) ∙ l .inv .1)
+    let c3 = c .before .before .before in
+    let c6 = c3 .before .before .before in
+    let c8 = c6 .before .before in
+    let l = c6 .loop in
+    let p = c3 .first-piece in
+    let h = simp rest at (p .ensures .1 .1) in
+    (omega (arith, h, length-drop (l .i) (c8 .args .s .now)),
+    sym (pass (c8 .args .s .now) (l .i) (p .result .kind) (p .result .more) h (simp rest at (p .ensures .0)) (c .if1 .left)) ∙ l .inv .1)
 
 returns-2 : tie.Need-returns-2 Inv-loop μ-loop
 returns-2 c =

@@ -15,10 +15,14 @@ shared-slice-read-if2 : tie.Need-shared-slice-read-if2
 shared-slice-read-if2 c = search needs
 
 returns : tie.Need-returns
-returns c = (point-here _ _ (c .before .before .digit-at .result) (c .before .before .before .if1 .taken) (c .if2 .taken) (c .before .before .digit-at .ensures), λ q. c .before .before .before .if1 .taken)
+returns c =
+    let c3 = c .before .before .before in
+    (point-here _ _ (c .before .before .digit-at .result) (c3 .if1 .taken) (c .if2 .taken) (c .before .before .digit-at .ensures), λ q. c3 .if1 .taken)
 
 returns-2 : tie.Need-returns-2
-returns-2 c = (rw (ne-eqb _ _ (c .if2 .left)) (point-none _ _ (c .before .before .before .if1 .taken) (c .if2 .left)), λ q. c .before .before .before .if1 .taken)
+returns-2 c =
+    let c3 = c .before .before .before in
+    (rw (ne-eqb _ _ (c .if2 .left)) (point-none _ _ (c3 .if1 .taken) (c .if2 .left)), λ q. c3 .if1 .taken)
 
 returns-3 : tie.Need-returns-3
 returns-3 c = (point-end _ _ (c .if1 .left), λ q. absurd (false≢true q))

@@ -18,7 +18,10 @@ sub-t6 : tie.Need-sub-t6
 sub-t6 c = search needs
 
 returns : tie.Need-returns
-returns c = (word-piece (c .before .before .before .before .args .rest .now) (c .before .before .name-end .result) (c .word-kind .result) (search needs) (c .before .before .name-end .ensures .0) (c .word-kind .ensures .0), search needs)
+returns c =
+    let c4 = c .before .before .before .before in
+    (word-piece (c4 .args .rest .now) (c .before .before .name-end .result) (c .word-kind .result) (search needs)
+    (c .before .before .name-end .ensures .0) (c .word-kind .ensures .0), search needs)
 
 pub word-piece-spec : {M : Type 1} → statement M
 word-piece-spec =
