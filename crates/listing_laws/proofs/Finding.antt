@@ -8,7 +8,7 @@ use borrow.Author.Tests.{not-true, le-ltb, lt-ltb}
 use lib.Dec.{ltb, eqb}
 use lib.ListN.{length, length-append, length-map, getD, take}
 use lib.Seq.{getD-at, take-at}
-use Rattle.model.specs.Basic.{all, total, gather, distinct, indexOf, update, updateLast}
+use Rattle.model.specs.Basic.{isEmpty, all, total, gather, distinct, indexOf, update, updateLast}
 use Rattle.model.specs.Tokens.{sameName}
 use Rattle.laws.proofs.Tests.{both, and-i, clash}
 use Rattle.laws.proofs.Lists.{all-append, gather-append}
@@ -128,6 +128,19 @@ distinct-front eq (x ∷ xs) ys h =
     let b = both (all (λ y. not (eq x y)) (xs ++ ys)) (distinct eq (xs ++ ys)) h in
     and-i (all (λ y. not (eq x y)) xs) (distinct eq xs) (all-front (λ y. not (eq x y)) xs ys (b .0)) (distinct-front eq xs ys (b .1))
 
+pub distinct-back : {A : Type 0} (eq : A → A → Bool) (xs ys : List A) → distinct eq (xs ++ ys) ≡ true → distinct eq ys ≡ true
+unfolding distinct
+distinct-back eq [] ys h = h
+distinct-back eq (x ∷ xs) ys h = distinct-back eq xs ys (both (all (λ y. not (eq x y)) (xs ++ ys)) (distinct eq (xs ++ ys)) h .1)
+
+pub filled : {A : Type 0} (xs : List A) → 1 ≤ length xs → (x : A) × (es : List A) × (xs ≡ x ∷ es)
+filled [] h = absurd (omega arith)
+filled (x ∷ xs) h = (x, xs, refl)
+
+pub not-empty : {A : Type 0} (xs : List A) → not (isEmpty xs) ≡ true → 1 ≤ length xs
+not-empty [] h = clash h
+not-empty (x ∷ xs) h = omega arith
+
 -- A LIST CUT AT A PLACE
 pub record Cut {A : Type 0} (xs : List A) (n : ℕ) : Type 0 where
   pub before : List A
@@ -173,7 +186,22 @@ module _ {A : Type 0} {xs : List A} {n : ℕ} (c : Cut xs n) where
         ap (λ (l : List A). ltb (indexOf (named name (name (c .mid))) l) (length l)) (c .split)
         ∙ found (named name (name (c .mid))) (c .before) (c .mid) (c .after) unique (name-self (name (c .mid)))
 
+abbrev pub map-cut : {A B : Type 0} (g : A → B) {xs : List A} {n : ℕ} → Cut xs n → Cut (map g xs) n
+map-cut {A} {B} g {xs} {n} c =
+    record {
+      before = map g (c .before);
+      mid = g (c .mid);
+      after = map g (c .after);
+      split = ap (map g) (c .split) ∙ map-append g (c .before) (c .mid ∷ c .after);
+      counted = length-map (c .before) g ∙ c .counted;
+    }
+
 -- LISTS GATHERED FROM LISTS
+pub total-append : {A : Type 0} (count : A → ℕ) (xs ys : List A) → total count (xs ++ ys) ≡ total count xs + total count ys
+unfolding total
+total-append count [] ys = omega arith
+total-append count (x ∷ xs) ys = omega (arith, total-append count xs ys)
+
 pub length-gather : {A B : Type 0} (h : A → List B) (count : A → ℕ) → ((x : A) → length (h x) ≡ count x)
     → (xs : List A) → length (gather h xs) ≡ total count xs
 unfolding gather total
