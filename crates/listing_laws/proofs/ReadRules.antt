@@ -116,15 +116,18 @@ module _ (f : ℕ → ℕ) (b : Block) (h : BlockFacts b) where
             ∙ ap (λ (m : ℕ). at f (semicolon ∷ xs) (ruled (ds ++ (withWeight m r ∷ []))) w) (sym (eqb-true (r .weight) M z))
         go false z = some-weight (r .weight) (facts .weight) ds (given (r .conclusions)) (semicolon ∷ xs) w
 
+    new-number : all (λ q. not (eqb (q .number) (r .number))) ds ≡ true
+    new-number =
+        sym (all-map (λ m. not (eqb m (r .number))) (λ q. q .number) ds)
+        ∙ distinct-earlier eqb (map (λ q. q .number) ds) (r .number) (map (λ q. q .number) es)
+          (sym (ap (distinct eqb) (ap (map (λ q. q .number)) e ∙ map-append (λ q. q .number) ds (r ∷ es))) ∙ h .numbers)
+
     number-read : (xs : List Item) (w : ℕ) → ruleNumber (at f (number (digits (r .number)) ∷ xs) (ruled ds) w) ≡ at f xs (ruled ds) w
     unfolding ruleNumber at kind text advance
     number-read xs w =
-        let n = r .number in
-        let apart : distinct eqb (map (λ q. q .number) ds ++ (n ∷ map (λ q. q .number) es)) ≡ true =
-          sym (ap (distinct eqb) (ap (map (λ q. q .number)) e ∙ map-append (λ q. q .number) ds (r ∷ es))) ∙ h .numbers in
-        let fresh = sym (all-map (λ m. not (eqb m n)) (λ q. q .number) ds) ∙ distinct-earlier eqb (map (λ q. q .number) ds) n (map (λ q. q .number) es) apart in
         judged-pass _ _ _
-        (refl, (is-rule-number n (facts .number), (ap (λ (m : ℕ). all (λ q. not (eqb (q .number) m)) ds) (decimal-digits n) ∙ fresh, tt)))
+        (refl, (is-rule-number (r .number) (facts .number),
+          (ap (λ (m : ℕ). all (λ q. not (eqb (q .number) m)) ds) (decimal-digits (r .number)) ∙ new-number, tt)))
 
     -- fewer conclusions than the limit, before one more
     room : (kds : List Conclusion) (k : Conclusion) (kes : List Conclusion) → r .conclusions ≡ kds ++ (k ∷ kes)

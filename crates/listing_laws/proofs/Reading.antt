@@ -176,8 +176,15 @@ listed-reads {X} part items B W f xs walks rest stops x es e =
     after : Walks each more B W f xs
     after ds y zs ys h = ap part (expects Keywords.COMMA f _ (items y ++ ys) (B ds) (W ds)) ∙ walks ds y zs ys h
 
+pub listed-one : (part : Part) (r : Parse) (f : ℕ → ℕ) (rest : List Item) (b : Block) (w : ℕ) → part r ≡ at f rest b w
+    → eqb (headKind rest) Keywords.COMMA ≡ false → listed part r ≡ at f rest b w
+unfolding listed repeated
+listed-one part r f rest b w h stops =
+    ap (repeated Keywords.COMMA (λ q. part (expect Keywords.COMMA q))) h
+    ∙ never Keywords.COMMA (λ q. part (expect Keywords.COMMA q)) _ (at f rest b w) (is-head Keywords.COMMA f rest b w ∙ stops)
+
 -- PLACES: any tokens are laid from their items
-abbrev placesOf : List Token → ℕ → ℕ
+abbrev pub placesOf : List Token → ℕ → ℕ
 placesOf [] n = 0
 placesOf (t ∷ ts) n = if eqb n (length ts) then t .place else placesOf ts n
 
