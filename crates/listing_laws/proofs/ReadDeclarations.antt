@@ -1,12 +1,12 @@
 -- The items of VAR_INPUT and VAR_OUTPUT read back to variables as declared.
 use mathlib.Core.Path.{_≡_, refl, sym, ap, _∙_}
-use mathlib.Core.Bool.{Bool, true, false, not, _||_}
+use mathlib.Core.Bool.{true, false, not, _||_}
 use mathlib.Core.List.{List, [], _∷_, _++_, map, append-assoc, map-append}
-use Prim.Native.Nat.{ℕ, suc, _+_, _<_, _≤_}
+use Prim.Native.Nat.{ℕ, _+_}
 use native.Mathlib.Omega.{arith}
 use borrow.Author.Tests.{lt-ltb}
 use lib.Dec.{leb, ltb, eqb}
-use lib.ListN.{length, length-append, length-map, take, drop}
+use lib.ListN.{length, length-append, length-map}
 use lib.Seq.{take-append-seam, drop-append-seam}
 use Rattle.model.specs.Basic.{all, gather, distinct}
 use Rattle.model.specs.Bounds.{nameLimit, inputLimit, outputLimit}
@@ -15,14 +15,13 @@ use Rattle.model.specs.Tokens.{sameName}
 use Rattle.model.specs.Block.{Input, Output, Block, asInt}
 use Rattle.model.specs.declared.InputType.{InputType}
 use Rattle.model.specs.declared.InputType.the-variants.{Real as real, Int as int}
-use Rattle.model.specs.Parse.{Parse, kind, text, is, advance, change, judged, expect, repeated, listed}
+use Rattle.model.specs.Parse.{Parse, kind, text, is, advance, change, expect, repeated, listed}
 use Rattle.model.specs.Declarations.{inputOf, outputOf, isInput, isOutput, addInput, addOutput, intFrom, variable, inputCount, outputCount, inputType, inputDeclaration, outputDeclaration}
-use Rattle.model.specs.WellFormed.{inputOk, outputOk}
 use Rattle.laws.proofs.Tests.{both}
 use Rattle.laws.proofs.Lists.{all-append}
-use Rattle.listing_laws.proofs.Items.{Item, item, name, word, colon, semicolon, typeItem, inputItems, outputItems}
-use Rattle.listing_laws.proofs.Finding.{all-mid, all-map, distinct-fresh, distinct-before, distinct-front, fresh, fresh-map, named, none-of, not-found, filled}
-use Rattle.listing_laws.proofs.Facts.{BlockFacts, input-facts, output-facts}
+use Rattle.listing_laws.proofs.Items.{Item, name, word, colon, semicolon, typeItem, inputItems, outputItems}
+use Rattle.listing_laws.proofs.Finding.{all-map, distinct-fresh, fresh, fresh-map, named, none-of, not-found, filled}
+use Rattle.listing_laws.proofs.Facts.{BlockFacts, input-at, input-new, output-at}
 use Rattle.listing_laws.proofs.Reading.{at, headKind, judged-pass, expects, listed-one, some-read}
 use Rattle.listing_laws.proofs.Stages.{staged, bareInput, bareOutput}
 
@@ -63,19 +62,13 @@ module _ (f : ℕ → ℕ) where
       abbrev before : Block
       before = staged (b .name) (map bareInput ds) []
 
-      new-input : none-of (named (λ u. u .name) (v .name)) ds ≡ true
-      new-input =
-          distinct-before (λ u. u .name) ds v es
-          (sym (ap (λ (l : List Input). distinct sameName (map (λ u. u .name) l)) e)
-          ∙ distinct-front sameName (map (λ u. u .name) (b .inputs)) (map (λ u. u .name) (b .outputs)) (h .apart))
-
       input-name : variable addInput inputCount inputLimit (at f (name (v .name) ∷ xs) before w)
           ≡ at f xs (staged (b .name) (map bareInput ds ++ (record { name = v .name; type = real; terms = [] } ∷ [])) []) w
       unfolding addInput all
       input-name =
           variable-read addInput inputCount inputLimit (v .name) xs before w
-          (input-facts v (all-mid inputOk ds v es (sym (ap (all inputOk) e) ∙ h .inputs-ok)) .name)
-          (not-input (v .name) (b .name) ds [] new-input) (not-output (v .name) (b .name) [] [] (map bareInput ds) refl)
+          (input-at b h ds v es e .name)
+          (not-input (v .name) (b .name) ds [] (input-new b h ds v es e)) (not-output (v .name) (b .name) [] [] (map bareInput ds) refl)
           (lt-ltb (length (map bareInput ds)) inputLimit (omega (arith, length-map ds bareInput, ap length e, length-append ds (v ∷ es), h .inputs .1)))
 
     input-read : (ds : List Input) (v : Input) (es : List Input) (xs : List Item) → b .inputs ≡ ds ++ (v ∷ es) → (w : ℕ)
@@ -122,12 +115,13 @@ module _ (f : ℕ → ℕ) where
           both (fresh (v .name) names) (fresh (v .name) (map (λ u. u .name) ds))
           (sym (all-append (λ m. not (sameName (v .name) m)) names (map (λ u. u .name) ds)) ∙ new-name)
 
-      output-name : (xs : List Item) (w : ℕ) → variable addOutput outputCount outputLimit (at f (name (v .name) ∷ xs) (staged (b .name) ins (map bareOutput ds)) w)
+      output-name : (xs : List Item) (w : ℕ)
+          → variable addOutput outputCount outputLimit (at f (name (v .name) ∷ xs) (staged (b .name) ins (map bareOutput ds)) w)
           ≡ at f xs (staged (b .name) ins (map bareOutput ds ++ (bareOutput v ∷ []))) w
       unfolding addOutput
       output-name xs w =
           variable-read addOutput outputCount outputLimit (v .name) xs (staged (b .name) ins (map bareOutput ds)) w
-          (output-facts v (all-mid outputOk ds v es (sym (ap (all outputOk) e) ∙ h .outputs-ok)) .name)
+          (output-at b h ds v es e .name)
           (not-input (v .name) (b .name) (b .inputs) (map bareOutput ds) (fresh-map (λ u. u .name) (v .name) (b .inputs) (new-parts .0)))
           (not-output (v .name) (b .name) [] ds ins (fresh-map (λ u. u .name) (v .name) ds (new-parts .1)))
           (lt-ltb (length (map bareOutput ds)) outputLimit (omega (arith, length-map ds bareOutput, ap length e, length-append ds (v ∷ es), h .outputs .1)))
@@ -138,9 +132,10 @@ module _ (f : ℕ → ℕ) where
       unfolding outputDeclaration
       output-read xs w =
           let x₁ = word "REAL" ∷ semicolon ∷ xs in
+          let c = staged (b .name) ins (map bareOutput ds) in
           let d = staged (b .name) ins (map bareOutput ds ++ (bareOutput v ∷ [])) in
           ap (λ (p : Parse). expect SEMICOLON (expect REAL (expect COLON p)))
-            (listed-one (variable addOutput outputCount outputLimit) (at f (name (v .name) ∷ colon ∷ x₁) (staged (b .name) ins (map bareOutput ds)) w) f (colon ∷ x₁) d w
+            (listed-one (variable addOutput outputCount outputLimit) (at f (name (v .name) ∷ colon ∷ x₁) c w) f (colon ∷ x₁) d w
             (output-name (colon ∷ x₁) w) refl)
           ∙ ap (λ (p : Parse). expect SEMICOLON (expect REAL p)) (expects COLON f _ x₁ d w)
           ∙ ap (expect SEMICOLON) (expects REAL f _ (semicolon ∷ xs) d w)
@@ -148,7 +143,8 @@ module _ (f : ℕ → ℕ) where
           ∙ ap (λ (l : List Output). at f xs (staged (b .name) ins l) w) (sym (map-append bareOutput ds (v ∷ [])))
 
     pub outputs-read : (rest : List Item) (w : ℕ) → eqb (headKind rest) NAME ≡ false
-        → repeated NAME outputDeclaration (outputDeclaration (at f (gather outputItems (b .outputs) ++ rest) (staged (b .name) (map bareInput (b .inputs)) []) w))
+        → repeated NAME outputDeclaration
+          (outputDeclaration (at f (gather outputItems (b .outputs) ++ rest) (staged (b .name) (map bareInput (b .inputs)) []) w))
         ≡ at f rest (staged (b .name) (map bareInput (b .inputs)) (map bareOutput (b .outputs))) w
     outputs-read rest w stops =
         let first = filled (b .outputs) (h .outputs .0) in

@@ -1,30 +1,30 @@
 -- The items of DEFUZZIFY read back to an output.
-use mathlib.Core.Path.{_≡_, refl, sym, ap, _∙_}
-use mathlib.Core.Bool.{Bool, true, false, not, _&&_}
-use mathlib.Core.List.{List, [], _∷_, _++_, map, append-assoc}
+use mathlib.Core.Path.{_≡_, refl, ap, _∙_}
+use mathlib.Core.Bool.{true, false, not, _&&_}
+use mathlib.Core.List.{List, [], _∷_, _++_, append-assoc}
 use mathlib.Core.Option.{Option, none, some}
-use Prim.Native.Nat.{ℕ, suc, _+_, _<_, _≤_}
+use Prim.Native.Nat.{ℕ, _+_}
 use native.Mathlib.Omega.{arith}
 use borrow.Author.Tests.{lt-ltb}
-use lib.Dec.{leb, ltb, eqb}
+use lib.Dec.{ltb, eqb}
 use lib.IntN.{ℤ}
 use lib.ListN.{length, length-append}
 use lib.Signed.{ltZ}
-use Rattle.model.specs.Basic.{isEmpty, all, gather, distinct, indexOf}
-use Rattle.model.specs.Bounds.{nameLimit, termLimit}
-use Rattle.model.specs.Keywords.{OPEN, CLOSE, DOTS, ASSIGN, COLON, SEMICOLON, CoGS, DEFAULT, DEFUZZIFY, END-DEFUZZIFY, METHOD, RANGE, TERM}
-use Rattle.model.specs.Tokens.{isName, sameName, inCrisp, isCrisp, valueOf}
+use Rattle.model.specs.Basic.{isEmpty, gather, indexOf}
+use Rattle.model.specs.Bounds.{termLimit}
+use Rattle.model.specs.Keywords.{CLOSE, DOTS, ASSIGN, COLON, SEMICOLON, CoGS, DEFAULT, DEFUZZIFY, END-DEFUZZIFY, METHOD, RANGE, TERM}
+use Rattle.model.specs.Tokens.{isName, inCrisp, valueOf}
 use Rattle.model.specs.Block.{Singleton, Range, Output, Block, Input, singletonsOf, rangeOf, inRange, withSingleton, withRange, withDefault}
-use Rattle.model.specs.Parse.{Parse, Part, kind, text, is, advance, change, judged, expect, repeated}
+use Rattle.model.specs.Parse.{Parse, Part, kind, text, is, advance, change, expect, repeated}
 use Rattle.model.specs.Declarations.{outputOf, isOutput, singletonOf, isSingleton, changeOutput, lowerEnd, upperEnd, rangeBody, rangePart, figure, singletonBody, outputTerm, defaultValue, defuzzifyOf, defuzzifyVariable, defuzzify}
 use Rattle.model.specs.Listing.{crispText}
 use Rattle.model.specs.WellFormed.{rangeOk, figureOk, defaultOk, singletonOk}
 use Rattle.laws.proofs.Tests.{both}
-use Rattle.listing_laws.proofs.Items.{Item, item, name, number, word, opening, closing, colon, semicolon, assign, dots, rangeItems, singletonItems, defaultItem, defuzzifyItems}
+use Rattle.listing_laws.proofs.Items.{Item, name, number, word, opening, closing, colon, semicolon, assign, dots, rangeItems, singletonItems, defaultItem, defuzzifyItems}
 use Rattle.listing_laws.proofs.Numbers.{value-crisp, is-crisp}
-use Rattle.listing_laws.proofs.Finding.{Cut, getD-cut, update-at, all-mid, distinct-before, named, none-of, index-at, found, not-found, name-self, filled}
+use Rattle.listing_laws.proofs.Finding.{getD-cut, update-at, all-split, distinct-split, named, none-of, index-at, found, not-found, name-self, filled}
 use Rattle.listing_laws.proofs.Facts.{name-fits, OutputFacts}
-use Rattle.listing_laws.proofs.Reading.{at, headKind, is-head, judged-pass, expects, Walks, some-read}
+use Rattle.listing_laws.proofs.Reading.{at, headKind, is-head, judged-pass, expects, some-read}
 use Rattle.listing_laws.proofs.Stages.{staged, focus, bareOutput}
 
 module _ (f : ℕ → ℕ) (n : List ℕ) (is : List Input) (ds rest : List Output) where
@@ -92,12 +92,13 @@ module _ (f : ℕ → ℕ) (n : List ℕ) (is : List Input) (ds rest : List Outp
       let b = both (inCrisp (g .most)) (ltZ (g .least) (g .most)) (a .1) in
       let o : Output = record { name = v; terms = []; range = none; default = none } in
       let x₁ = number (crispText (g .most)) ∷ closing ∷ semicolon ∷ xs in
+      let least = valueOf (crispText (g .least)) in
       let c = holding o in
       let e : Block = holding (withRange g o) in
       range-start (number (crispText (g .least)) ∷ dots ∷ x₁) c w
       ∙ body-start (crispText (g .least)) (dots ∷ x₁) c w
-      ∙ ap (λ (p : Parse). expect SEMICOLON (expect CLOSE (upperEnd i (valueOf (crispText (g .least))) (expect DOTS p)))) (lower-read (g .least) (a .0) (dots ∷ x₁) c w)
-      ∙ ap (λ (p : Parse). expect SEMICOLON (expect CLOSE (upperEnd i (valueOf (crispText (g .least))) p))) (expects DOTS f _ x₁ c w)
+      ∙ ap (λ (p : Parse). expect SEMICOLON (expect CLOSE (upperEnd i least (expect DOTS p)))) (lower-read (g .least) (a .0) (dots ∷ x₁) c w)
+      ∙ ap (λ (p : Parse). expect SEMICOLON (expect CLOSE (upperEnd i least p))) (expects DOTS f _ x₁ c w)
       ∙ ap (λ (z : ℤ). expect SEMICOLON (expect CLOSE (upperEnd i z (at f x₁ c w)))) (value-crisp (g .least))
       ∙ ap (λ (p : Parse). expect SEMICOLON (expect CLOSE p)) (upper-read (g .least) (g .most) (b .0) (b .1) o (closing ∷ semicolon ∷ xs) w)
       ∙ ap (expect SEMICOLON) (expects CLOSE f _ (semicolon ∷ xs) e w)
@@ -111,14 +112,13 @@ module _ (f : ℕ → ℕ) (n : List ℕ) (is : List Input) (ds rest : List Outp
 
     module _ (ss : List Singleton) (s : Singleton) (es : List Singleton) (e : v .terms ≡ ss ++ (s ∷ es)) (xs : List Item) (w : ℕ) where
       ok : singletonOk (v .range) s ≡ true
-      ok = all-mid (singletonOk (v .range)) ss s es (sym (ap (all (singletonOk (v .range))) e) ∙ h .terms)
+      ok = all-split (singletonOk (v .range)) ss s es e (h .terms)
 
       new : not (isSingleton i (s .name) (holding (having ss))) ≡ true
       unfolding singletonOf
       new =
           ap (λ (l : List Singleton). not (ltb (indexOf (named (λ u. u .name) (s .name)) l) (length l))) (singletons-here (having ss))
-          ∙ ap not (not-found (named (λ u. u .name) (s .name)) ss
-            (distinct-before (λ u. u .name) ss s es (sym (ap (λ (l : List Singleton). distinct sameName (map (λ u. u .name) l)) e) ∙ h .apart)))
+          ∙ ap not (not-found (named (λ u. u .name) (s .name)) ss (distinct-split (λ u. u .name) ss s es e (h .apart)))
 
       body-read : singletonBody i (at f (name (s .name) ∷ assign ∷ number (crispText (s .at)) ∷ semicolon ∷ xs) (holding (having ss)) w)
           ≡ at f xs (holding (having (ss ++ (s ∷ [])))) w
@@ -140,7 +140,8 @@ module _ (f : ℕ → ℕ) (n : List ℕ) (is : List Input) (ds rest : List Outp
           ∙ body-read
 
     terms-read : (xs : List Item) (w : ℕ) → eqb (headKind xs) TERM ≡ false
-        → repeated TERM (outputTerm i) (outputTerm i (at f (gather singletonItems (v .terms) ++ xs) (holding (having [])) w)) ≡ at f xs (holding (having (v .terms))) w
+        → repeated TERM (outputTerm i) (outputTerm i (at f (gather singletonItems (v .terms) ++ xs) (holding (having [])) w))
+        ≡ at f xs (holding (having (v .terms))) w
     unfolding singletonItems
     terms-read xs w stops =
         let first = filled (v .terms) (h .count .0) in

@@ -1,27 +1,27 @@
 -- The items of FUZZIFY read back to an input.
 use mathlib.Core.Path.{_≡_, refl, sym, ap, _∙_}
-use mathlib.Core.Bool.{Bool, true, false, not, _&&_}
+use mathlib.Core.Bool.{true, false, not}
 use mathlib.Core.List.{List, [], _∷_, _++_, map, append-nil, append-assoc, map-append}
-use Prim.Native.Nat.{ℕ, suc, _+_, _<_, _≤_}
+use Prim.Native.Nat.{ℕ, _+_}
 use native.Mathlib.Omega.{arith}
 use borrow.Author.Tests.{lt-ltb, le-leb}
 use lib.Dec.{leb, ltb, eqb}
 use lib.IntN.{ℤ}
 use lib.ListN.{length, length-append}
 use lib.Seq.{append-snoc}
-use Rattle.model.specs.Basic.{isEmpty, all, gather, distinct, indexOf, updateLast}
-use Rattle.model.specs.Bounds.{nameLimit, termLimit, pointLeast, pointLimit}
+use Rattle.model.specs.Basic.{isEmpty, gather, indexOf, updateLast}
+use Rattle.model.specs.Bounds.{termLimit, pointLeast, pointLimit}
 use Rattle.model.specs.Keywords.{CLOSE, COMMA, ASSIGN, FUZZIFY, END-FUZZIFY, TERM}
-use Rattle.model.specs.Tokens.{sameName, inCrisp, valueOf}
+use Rattle.model.specs.Tokens.{inCrisp, valueOf}
 use Rattle.model.specs.Block.{Point, Term, Input, Output, Block, termsOf, mayFollow, withTerms, withPoint}
-use Rattle.model.specs.Parse.{Parse, Part, kind, text, is, advance, change, judged, expect, repeated, listed}
+use Rattle.model.specs.Parse.{Parse, Part, kind, text, is, advance, change, expect, repeated, listed}
 use Rattle.model.specs.Declarations.{inputOf, isInput, termOf, isTerm, addTerm, addPoint, lastPoints, pointsOf, pointPosition, pointDegree, pointBody, point, endOfPoints, termName, inputTerm, fuzzifyOf, fuzzifyVariable, fuzzify}
 use Rattle.model.specs.Listing.{crispText, unitText}
 use Rattle.model.specs.WellFormed.{unitOk, pointOk, rising, termOk}
 use Rattle.laws.proofs.Tests.{both}
-use Rattle.listing_laws.proofs.Items.{Item, item, name, number, word, comma, closing, semicolon, assign, commas, pointItems, termItems, fuzzifyItems}
+use Rattle.listing_laws.proofs.Items.{Item, name, number, word, comma, closing, semicolon, assign, commas, pointItems, termItems, fuzzifyItems}
 use Rattle.listing_laws.proofs.Numbers.{value-crisp, is-crisp, is-unit, unit-back}
-use Rattle.listing_laws.proofs.Finding.{getD-cut, update-at, update-last, all-mid, distinct-before, named, none-of, index-at, found, not-found, name-self, filled}
+use Rattle.listing_laws.proofs.Finding.{getD-cut, update-at, update-last, all-split, distinct-split, named, none-of, index-at, found, not-found, name-self, filled}
 use Rattle.listing_laws.proofs.Facts.{InputFacts, TermFacts, term-facts}
 use Rattle.listing_laws.proofs.Reading.{at, headKind, judged-pass, expects, listed-reads, some-read}
 use Rattle.listing_laws.proofs.Stages.{staged, focus, bareInput}
@@ -83,7 +83,7 @@ module _ (f : ℕ → ℕ) (n : List ℕ) (os : List Output) (ds rest : List Inp
   -- ONE TERM
   module _ (ts : List Term) (t : Term) (es : List Term) (e : v .terms ≡ ts ++ (t ∷ es)) where
     facts : TermFacts t
-    facts = term-facts t (all-mid termOk ts t es (sym (ap (all termOk) e) ∙ h .terms))
+    facts = term-facts t (all-split termOk ts t es e (h .terms))
 
     -- with the points so far
     abbrev drawn : List Point → Block
@@ -92,7 +92,7 @@ module _ (f : ℕ → ℕ) (n : List ℕ) (os : List Output) (ds rest : List Inp
     module _ (ps : List Point) (p : Point) (qs : List Point) (z : t .points ≡ ps ++ (p ∷ qs)) where
       ok : (inCrisp (p .at) ≡ true) × (unitOk (p .degree) ≡ true)
       unfolding pointOk
-      ok = both (inCrisp (p .at)) (unitOk (p .degree)) (all-mid pointOk ps p qs (sym (ap (all pointOk) z) ∙ facts .points))
+      ok = both (inCrisp (p .at)) (unitOk (p .degree)) (all-split pointOk ps p qs z (facts .points))
 
       follows : mayFollow (map (λ q. q .at) ps) (p .at) ≡ true
       follows =
@@ -142,8 +142,7 @@ module _ (f : ℕ → ℕ) (n : List ℕ) (os : List Output) (ds rest : List Inp
     unfolding termOf
     new =
         ap (λ (l : List Term). not (ltb (indexOf (named (λ u. u .name) (t .name)) l) (length l))) (terms-here ts)
-        ∙ ap not (not-found (named (λ u. u .name) (t .name)) ts
-          (distinct-before (λ u. u .name) ts t es (sym (ap (λ (l : List Term). distinct sameName (map (λ u. u .name) l)) e) ∙ h .apart)))
+        ∙ ap not (not-found (named (λ u. u .name) (t .name)) ts (distinct-split (λ u. u .name) ts t es e (h .apart)))
 
     name-read : (xs : List Item) (w : ℕ) → termName i (at f (name (t .name) ∷ xs) (having ts) w) ≡ at f xs (drawn []) w
     unfolding termName at kind text advance change

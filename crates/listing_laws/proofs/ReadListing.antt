@@ -1,38 +1,31 @@
 -- The items of a listing read back to the block.
 use mathlib.Core.Path.{_≡_, refl, sym, ap, _∙_}
-use mathlib.Core.Bool.{Bool, true, false, not}
-use mathlib.Core.List.{List, [], _∷_, _++_, map, append-assoc}
-use Prim.Native.Nat.{ℕ, suc, _+_, _≤_}
+use mathlib.Core.Bool.{true, false, not}
+use mathlib.Core.List.{List, [], _∷_, _++_, map}
+use Prim.Native.Nat.{ℕ, _+_, _≤_}
 use native.Mathlib.Omega.{arith}
 use lib.Dec.{eqb}
 use lib.ListN.{length}
-use lib.Seq.{append-snoc}
-use Rattle.model.specs.Basic.{isEmpty, all, gather, total, distinct}
-use Rattle.model.specs.Keywords.{END, NAME, DEFUZZIFY, END-FUNCTION-BLOCK, END-VAR, FUNCTION-BLOCK, FUZZIFY, VAR-INPUT, VAR-OUTPUT}
+use Rattle.model.specs.Basic.{isEmpty, all, gather, total}
+use Rattle.model.specs.Keywords.{END, NAME, DEFUZZIFY, END-VAR, FUNCTION-BLOCK, FUZZIFY, VAR-INPUT, VAR-OUTPUT}
 use Rattle.model.specs.Outcome.{accepted}
-use Rattle.model.specs.Tokens.{Token, sameName}
+use Rattle.model.specs.Tokens.{Token}
 use Rattle.model.specs.Block.{Input, Output, Block, size, emptyBlock, withName}
-use Rattle.model.specs.Parse.{Parse, Part, kind, advance, judged, expect, repeated, ownName}
+use Rattle.model.specs.Parse.{Parse, Part, kind, advance, expect, repeated, ownName}
 use Rattle.model.specs.Declarations.{inputDeclaration, outputDeclaration, fuzzify, defuzzify}
 use Rattle.model.specs.Rules.{ruleBlock}
 use Rattle.model.specs.Reader.{partsThere, endOfBlock, functionBlock, outcomeOf}
 use Rattle.model.specs.WellFormed.{inputOk, outputOk, wellFormed}
 use Rattle.laws.proofs.Tests.{and-i}
 use Rattle.listing_laws.proofs.Items.{Item, item, itemOf, name, word, inputItems, outputItems, fuzzifyItems, defuzzifyItems, ruleBlockItems, listingItems}
-use Rattle.listing_laws.proofs.Finding.{all-mid, all-imp, distinct-before, distinct-front, distinct-back, filled}
-use Rattle.listing_laws.proofs.Facts.{BlockFacts, block-facts, input-facts, output-facts}
-use Rattle.listing_laws.proofs.Reading.{laid, laid-back, placesOf, at, headKind, judged-pass, expects, some-read}
-use Rattle.listing_laws.proofs.Stages.{staged, bareInput, bareOutput, partly, partly-at, partly-all}
+use Rattle.listing_laws.proofs.Finding.{all-imp, filled}
+use Rattle.listing_laws.proofs.Facts.{BlockFacts, block-facts, input-facts, output-facts, input-at, input-new, output-at, output-new}
+use Rattle.listing_laws.proofs.Reading.{laid, laid-back, placesOf, at, own-name, headKind, judged-pass, expects, some-read}
+use Rattle.listing_laws.proofs.Stages.{staged, bareInput, bareOutput, partly, partly-at, partly-next, partly-all}
 use Rattle.listing_laws.proofs.ReadDeclarations.{inputs-read, outputs-read}
 use Rattle.listing_laws.proofs.ReadFuzzify.{fuzzify-read}
 use Rattle.listing_laws.proofs.ReadDefuzzify.{defuzzify-read}
-use Rattle.listing_laws.proofs.ReadRules.{own-name, rule-block-read}
-
--- one element more is whole
-partly-next : {A : Type 0} (bare : A → A) (xs ds : List A) (x : A) (es : List A) → xs ≡ ds ++ (x ∷ es)
-    → partly bare xs (ds ++ (x ∷ [])) ≡ ds ++ (x ∷ map bare es)
-partly-next bare xs ds x es e =
-    partly-at bare xs (ds ++ (x ∷ [])) es (e ∙ sym (append-snoc ds x es)) ∙ append-snoc ds x (map bare es)
+use Rattle.listing_laws.proofs.ReadRules.{rule-block-read}
 
 terms-there : {A : Type 0} (xs : List A) → 1 ≤ length xs → not (isEmpty xs) ≡ true
 terms-there [] h = absurd (omega arith)
@@ -49,11 +42,7 @@ module _ (f : ℕ → ℕ) (b : Block) (h : BlockFacts b) where
   fuzzify-next ds v es xs e w =
       ap (λ (l : List Input). fuzzify (at f (fuzzifyItems v ++ xs) (staged (b .name) l bareOutputs) w)) (partly-at bareInput (b .inputs) ds (v ∷ es) e)
       ∙ fuzzify-read f (b .name) bareOutputs ds (map bareInput es) v
-        (input-facts v (all-mid inputOk ds v es (sym (ap (all inputOk) e) ∙ h .inputs-ok)))
-        (distinct-before (λ u. u .name) ds v es
-          (sym (ap (λ (l : List Input). distinct sameName (map (λ u. u .name) l)) e)
-          ∙ distinct-front sameName (map (λ u. u .name) (b .inputs)) (map (λ u. u .name) (b .outputs)) (h .apart)))
-        xs w
+        (input-at b h ds v es e) (input-new b h ds v es e) xs w
       ∙ ap (λ (l : List Input). at f xs (staged (b .name) l bareOutputs) w) (sym (partly-next bareInput (b .inputs) ds v es e))
 
   fuzzifies-read : (rest : List Item) (w : ℕ) → eqb (headKind rest) FUZZIFY ≡ false
@@ -62,8 +51,8 @@ module _ (f : ℕ → ℕ) (b : Block) (h : BlockFacts b) where
   unfolding fuzzifyItems
   fuzzifies-read rest w stops =
       let first = filled (b .inputs) (h .inputs .0) in
-      some-read FUZZIFY fuzzify fuzzifyItems (λ ds. staged (b .name) (partly bareInput (b .inputs) ds) bareOutputs) (λ ds. w) f (b .inputs) (λ v. (_, _, refl))
-      (λ ds v es ys e. fuzzify-next ds v es ys e w) rest stops (first .0) (first .1) (first .2)
+      some-read FUZZIFY fuzzify fuzzifyItems (λ ds. staged (b .name) (partly bareInput (b .inputs) ds) bareOutputs) (λ ds. w) f (b .inputs)
+      (λ v. (_, _, refl)) (λ ds v es ys e. fuzzify-next ds v es ys e w) rest stops (first .0) (first .1) (first .2)
       ∙ ap (λ (l : List Input). at f rest (staged (b .name) l bareOutputs) w) (partly-all bareInput (b .inputs))
 
   -- DEFUZZIFY
@@ -73,11 +62,7 @@ module _ (f : ℕ → ℕ) (b : Block) (h : BlockFacts b) where
   defuzzify-next ds v es xs e w =
       ap (λ (l : List Output). defuzzify (at f (defuzzifyItems v ++ xs) (staged (b .name) (b .inputs) l) w)) (partly-at bareOutput (b .outputs) ds (v ∷ es) e)
       ∙ defuzzify-read f (b .name) (b .inputs) ds (map bareOutput es) v
-        (output-facts v (all-mid outputOk ds v es (sym (ap (all outputOk) e) ∙ h .outputs-ok)))
-        (distinct-before (λ u. u .name) ds v es
-          (sym (ap (λ (l : List Output). distinct sameName (map (λ u. u .name) l)) e)
-          ∙ distinct-back sameName (map (λ u. u .name) (b .inputs)) (map (λ u. u .name) (b .outputs)) (h .apart)))
-        xs w
+        (output-at b h ds v es e) (output-new b h ds v es e) xs w
       ∙ ap (λ (l : List Output). at f xs (staged (b .name) (b .inputs) l) w) (sym (partly-next bareOutput (b .outputs) ds v es e))
 
   defuzzifies-read : (rest : List Item) (w : ℕ) → eqb (headKind rest) DEFUZZIFY ≡ false
@@ -86,8 +71,8 @@ module _ (f : ℕ → ℕ) (b : Block) (h : BlockFacts b) where
   unfolding defuzzifyItems
   defuzzifies-read rest w stops =
       let first = filled (b .outputs) (h .outputs .0) in
-      some-read DEFUZZIFY defuzzify defuzzifyItems (λ ds. staged (b .name) (b .inputs) (partly bareOutput (b .outputs) ds)) (λ ds. w) f (b .outputs) (λ v. (_, _, refl))
-      (λ ds v es ys e. defuzzify-next ds v es ys e w) rest stops (first .0) (first .1) (first .2)
+      some-read DEFUZZIFY defuzzify defuzzifyItems (λ ds. staged (b .name) (b .inputs) (partly bareOutput (b .outputs) ds)) (λ ds. w) f (b .outputs)
+      (λ v. (_, _, refl)) (λ ds v es ys e. defuzzify-next ds v es ys e w) rest stops (first .0) (first .1) (first .2)
       ∙ ap (λ (l : List Output). at f rest (staged (b .name) (b .inputs) l) w) (partly-all bareOutput (b .outputs))
 
   -- THE ENDS

@@ -4,7 +4,7 @@ use mathlib.Core.List.{List, [], _∷_, _++_, map, append-nil}
 use mathlib.Core.Option.{none}
 use Prim.Native.Nat.{ℕ}
 use lib.ListN.{length, drop}
-use lib.Seq.{drop-append-seam, drop-length}
+use lib.Seq.{append-snoc, drop-append-seam, drop-length}
 use Rattle.model.specs.Block.{Input, Output, Block, blockOf}
 use Rattle.model.specs.declared.Pair.the-variants.{MinMax as min-max}
 use Rattle.model.specs.declared.Accumulation.the-variants.{Max as by-max}
@@ -31,6 +31,12 @@ partly bare xs ds = ds ++ map bare (drop (length ds) xs)
 
 pub partly-at : {A : Type 0} (bare : A → A) (xs ds es : List A) → xs ≡ ds ++ es → partly bare xs ds ≡ ds ++ map bare es
 partly-at {A} bare xs ds es e = ap (λ (l : List A). ds ++ map bare l) (ap (drop (length ds)) e ∙ drop-append-seam ds es)
+
+-- one element more is whole
+pub partly-next : {A : Type 0} (bare : A → A) (xs ds : List A) (x : A) (es : List A) → xs ≡ ds ++ (x ∷ es)
+    → partly bare xs (ds ++ (x ∷ [])) ≡ ds ++ (x ∷ map bare es)
+partly-next bare xs ds x es e =
+    partly-at bare xs (ds ++ (x ∷ [])) es (e ∙ sym (append-snoc ds x es)) ∙ append-snoc ds x (map bare es)
 
 pub partly-all : {A : Type 0} (bare : A → A) (xs : List A) → partly bare xs xs ≡ xs
 partly-all {A} bare xs = ap (λ (l : List A). xs ++ map bare l) (drop-length xs) ∙ append-nil xs
