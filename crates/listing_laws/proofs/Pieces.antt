@@ -1,7 +1,7 @@
 -- Names and numbers in front of a text, cut off as tokens; places are left out.
 use mathlib.Core.Path.{_≡_, refl, ap}
 use mathlib.Core.List.{List, [], _∷_, _++_, map, append-nil, append-assoc}
-use mathlib.Core.Bool.{Bool, true, false, _||_}
+use mathlib.Core.Bool.{Bool, true, false, _&&_, _||_}
 use Prim.Native.Nat.{ℕ, zero, suc, _+_, _/_, _≤_}
 use native.Mathlib.Omega.{arith}
 use lib.Dec.{leb, eqb}
@@ -127,6 +127,19 @@ pub record Keyword (w : List ℕ) : Type 0 where
   pub neat : tidy w ≡ true
   pub held : isKeyword w ≡ true
 
+-- as a test
+unfoldable pub spelt : List ℕ → Bool
+unfolding all tidy isKeyword
+spelt w = starts startsName w && (all isNameByte w && (tidy w && isKeyword w))
+
+pub keyword : (w : List ℕ) → spelt w ≡ true → Keyword w
+unfolding spelt
+keyword w h =
+    let a = both (starts startsName w) _ h in
+    let b = both (all isNameByte w) _ (a .1) in
+    let c = both (tidy w) (isKeyword w) (b .1) in
+    record { first = a .0; bytes = b .0; neat = c .0; held = c .1 }
+
 pub keyword-cut : (w s : List ℕ) → Keyword w → starts isNameByte s ≡ false → cut 0 (w ++ s) ≡ wordOf w ∷ cut 0 s
 unfolding wordKind
 keyword-cut w s f e =
@@ -180,18 +193,18 @@ pub opening-cut : (s : List ℕ) → starts (eqb 42) s ≡ false → cut 0 (40 �
 unfolding pieceAt
 opening-cut s e = cut-off OPEN 40 [] s (rw (e, pieceAt)) refl
 
-pub crisp-start : (z : ℤ) (s : List ℕ) → starts (eqb 42) (crispText z ++ s) ≡ false
+pub crisp-start : (z : ℤ) (v s : List ℕ) → starts (eqb 42) ((crispText z ++ v) ++ s) ≡ false
 unfolding crispText
-crisp-start (pos n) s = go (thousandthsText n ++ s) (thousandths-start n s)
+crisp-start (pos n) v s = rw (append-assoc (thousandthsText n) v s) (go (thousandthsText n ++ (v ++ s)) (thousandths-start n (v ++ s)))
   where
     go : (w : List ℕ) → starts isDigit w ≡ true → starts (eqb 42) w ≡ false
     go [] h = refl
     go (c ∷ w) h = let r = digit-range c h in ne-eqb 42 c (λ e. omega arith)
-crisp-start (negsuc n) s = refl
+crisp-start (negsuc n) v s = refl
 
-pub name-start : (w s : List ℕ) → isName w ≡ true → starts (eqb 42) (w ++ s) ≡ false
-name-start w s h = go w (name-facts w h .first)
+pub name-start : (w v s : List ℕ) → isName w ≡ true → starts (eqb 42) ((w ++ v) ++ s) ≡ false
+name-start w v s h = go w (name-facts w h .first)
   where
-    go : (w : List ℕ) → starts startsName w ≡ true → starts (eqb 42) (w ++ s) ≡ false
+    go : (w : List ℕ) → starts startsName w ≡ true → starts (eqb 42) ((w ++ v) ++ s) ≡ false
     go [] q = clash q
     go (c ∷ w) q = let l = starter c q in ne-eqb 42 c (λ e. omega arith)
