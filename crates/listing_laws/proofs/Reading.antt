@@ -6,7 +6,7 @@ use Prim.Native.Nat.{ℕ, zero, suc, _+_, _<_, _≤_}
 use native.Mathlib.Omega.{arith}
 use borrow.Author.Tests.{eq-eqb, ne-eqb}
 use lib.Dec.{eqb}
-use lib.ListN.{length, length-append}
+use lib.ListN.{length, length-append, length-map}
 use lib.Seq.{append-snoc}
 use Rattle.model.specs.Basic.{if_then_else_, gather}
 use Rattle.model.specs.Keywords
@@ -186,16 +186,12 @@ laid-agree f g [] h = refl
 laid-agree f g (x ∷ xs) h =
     λ j. token (x .kind) (x .text) (h (length xs) (omega arith) j) ∷ laid-agree f g xs (λ n l. h n (omega arith)) j
 
-length-map : {A B : Type 0} (g : A → B) (xs : List A) → length (map g xs) ≡ length xs
-length-map g [] = refl
-length-map g (x ∷ xs) = ap suc (length-map g xs)
-
 pub laid-back : (ts : List Token) → laid (placesOf ts) (map itemOf ts) ≡ ts
 laid-back [] = refl
 laid-back (t ∷ ts) = λ j. token (t .kind) (t .text) (here j) ∷ (later ∙ laid-back ts) j
   where
     n : length (map itemOf ts) ≡ length ts
-    n = length-map itemOf ts
+    n = length-map ts itemOf
 
     here : placesOf (t ∷ ts) (length (map itemOf ts)) ≡ t .place
     here = rw (n, eq-eqb (length ts) (length ts) refl)
