@@ -1,29 +1,9 @@
 -- Whatever the text, the reader refuses by a number from 2 to 9: the steps of reading keep to these numbers, and so does every part.
+use mathlib.Core.Path.{_≡_}
 use mathlib.Core.Bool.{Bool, true, false}
 use mathlib.Core.List.{List}
 use Prim.Native.Nat.{ℕ, _≤_}
 use native.Mathlib.Omega.{arith}
-<<<<<<< HEAD
-use borrow.Author.Tests.{leb-true}
-use lib.Dec.{leb, ltb, eqb}
-use lib.IntN.{ℤ}
-use lib.ListN.{length}
-use Rattle.model.specs.Basic.{if_then_else_, between}
-use Rattle.model.specs.Bounds.{wordLimit, depthLimit}
-use Rattle.model.specs.Block.{Block, Op, Output, and, or}
-use Rattle.model.specs.declared.Pair.{Pair}
-use Rattle.model.specs.Keywords.{END, NAME, OPEN, CLOSE, COMMA, COLON, SEMICOLON, ASSIGN, DOTS, ACCU, ACT, AND, BSUM, CoGS, DEFAULT, DEFUZZIFY, END-DEFUZZIFY, END-FUZZIFY, END-RULEBLOCK, END-VAR, FUNCTION-BLOCK, FUZZIFY, IF, INT, IS, MAX, METHOD, MIN, NC, NOT, OR, PROD, RANGE, REAL, RULE, RULEBLOCK, TERM, THEN, VAR-INPUT, VAR-OUTPUT, WITH}
-use Rattle.model.specs.Parse.{Parse, Part, Checks, is, refuse, advance, change, judged, expect, repeatOn, repeated, listed, ownName}
-use Rattle.model.specs.Declarations.{variable, inputType, inputDeclaration, outputDeclaration, pointPosition, pointDegree, pointBody, point, endOfPoints, termName, inputTerm, fuzzifyOf, fuzzifyVariable, fuzzify, lowerEnd, upperEnd, rangeBody, rangePart, figure, singletonBody, outputTerm, defaultValue, defuzzifyOf, defuzzifyVariable, defuzzify}
-use Rattle.model.specs.Rules.{ConditionRead, word, conditionTerm, termOrNot, subcondition, chainOn, chain, plain, operand, conditionWith, parenthesis, condition, andPair, orPair, algorithm, algorithmLine, algorithms, activation, activationLine, accumulation, ruleNumber, concludedTerm, conclusion, weight, weighted, ruleGiven, ruleFrom, rule, ruleBlock}
-use Rattle.model.specs.Reader.{endOfBlock, functionBlock, start}
-use Rattle.laws.proofs.Tests.{both}
-
--- refused by 2 to 9, or by nothing
-pub record Known (r : Parse) : Type 0 where
-  pub most : r .why ≤ 9
-  pub not-one : r .why ≡ 1 → ⊥
-=======
 use lib.Dec.{ltb, eqb}
 use Rattle.model.specs.Basic.{if_then_else_}
 use Rattle.model.specs.Bounds.{wordLimit}
@@ -32,8 +12,11 @@ use Rattle.model.specs.Parse.{Parse, refuse, advance, change}
 use Rattle.model.specs.Rules.{word}
 use Rattle.model.specs.Reader.{functionBlock, start}
 use Rattle.laws.proofs.Walk.{Steps, keeps-functionBlock}
-use Rattle.refusals.specs.Known.{Known}
->>>>>>> ab72e49a6c3a1359bd782518f7e195d5067a2e48
+
+-- refused by 2 to 9, or by nothing
+pub record Known (r : Parse) : Type 0 where
+  pub most : r .why ≤ 9
+  pub not-one : r .why ≡ 1 → ⊥
 
 either : {p q : Parse} (b : Bool) → Known p → Known q → Known (if b then p else q)
 either true k l = k
