@@ -16,7 +16,7 @@ use Rattle.stored_names.specs.Stored.{nameStored}
 use Rattle.stored_names.proofs.Tables.{Stored, nameIn, distinct-names, joined-names}
 use Rattle.layout.specs.Tables.{inputCount, outputCount, nameExact}
 use Rattle.layout.specs.Groups.{tablesOk, variablesOk}
-use Rattle.layout.proofs.Parts.{inputFirst, outputFirst}
+use Rattle.layout.proofs.Parts.{inputFirst}
 use Rattle.stored_variables.specs.Stored.{termStored, termsApart, inputStored, rangeAt, defaultAt, singletonStored, outputStored, variablesApart}
 use Rattle.stored_variables.proofs.Exact.{Span, no-span, span, Exact, frame-names}
 
@@ -117,7 +117,7 @@ module _ (w : ℕ → ℕ) where
   unfolding singletonStored
   singleton-named o t h = both (nameStored w (w 11 + t * 6)) _ h .0
 
-  output-same : (i : ℕ) → nameExact w (w 10 + i * 11) ≡ true → Exact w (w 11) 6 (outputCount w i) (outputFirst w i) → outputStored w i ≡ outputOk (outputAt w i)
+  output-same : (i : ℕ) → nameExact w (w 10 + i * 11) ≡ true → Exact w (w 11) 6 (outputCount w i) (outputFirstAt w i) → outputStored w i ≡ outputOk (outputAt w i)
   unfolding outputStored outputOk outputAt every rangeAt defaultAt
   output-same i e x =
       let o = w 10 + i * 11 in

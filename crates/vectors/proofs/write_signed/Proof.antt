@@ -1,7 +1,7 @@
-use Rattle.call_vectors.proofs.Numbers.{stored, minus-fits, minus-casts, figure-casts}
+use Rattle.vectors.proofs.Figures.{stored, minus-fits, minus-casts, figure-casts}
 use borrow.Author.Needs.{needs}
-use Rattle.call_vectors.proofs.write_signed.Statement.{statement}
-use Rattle.call_vectors.proofs.write_signed.Tie as tie
+use Rattle.vectors.proofs.write_signed.Statement.{statement}
+use Rattle.vectors.proofs.write_signed.Tie as tie
 
 slice-aggregate-write-all : tie.Need-slice-aggregate-write-all
 slice-aggregate-write-all c = search needs
@@ -19,10 +19,10 @@ write-all-requires-2 : tie.Need-write-all-requires-2
 write-all-requires-2 c κs = search needs
 
 sub-print-decimal : tie.Need-sub-print-decimal
-sub-print-decimal c = minus-fits (stored (c .before .before .before .before .before .args .x .0)) (c .before .before .before .if1 .left) (c .before .before .if2 .taken)
+sub-print-decimal c = let p = c .before .before in minus-fits (stored (p .before .before .before .args .x .0)) (p .before .if1 .left) (p .if2 .taken)
 
 cast-print-decimal : tie.Need-cast-print-decimal
-cast-print-decimal c = minus-casts (stored (c .before .before .before .before .before .args .x .0)) (c .before .before .before .if1 .left) (c .before .before .if2 .taken)
+cast-print-decimal c = let p = c .before .before in minus-casts (stored (p .before .before .before .args .x .0)) (p .before .if1 .left) (p .if2 .taken)
 
 print-decimal-requires : tie.Need-print-decimal-requires
 print-decimal-requires c κs = search needs

@@ -1,7 +1,7 @@
-use Rattle.call_vectors.proofs.Numbers.{no-nan}
+use Rattle.vectors.proofs.Figures.{no-nan}
 use borrow.Author.Needs.{needs}
-use Rattle.call_vectors.proofs.write_bits.Statement.{statement}
-use Rattle.call_vectors.proofs.write_bits.Tie as tie
+use Rattle.vectors.proofs.write_bits.Statement.{statement}
+use Rattle.vectors.proofs.write_bits.Tie as tie
 
 slice-aggregate-write-all : tie.Need-slice-aggregate-write-all
 slice-aggregate-write-all c = search needs
