@@ -14,7 +14,7 @@ use Rattle.laws.proofs.Tests.{both}
 use Rattle.laws.proofs.Places.{length-tab}
 use Rattle.stored_names.specs.Stored.{nameStored}
 use Rattle.stored_names.proofs.Tables.{Stored, nameIn, distinct-names, joined-names}
-use Rattle.layout.specs.Tables.{inputCount, outputCount, nameExact}
+use Rattle.layout.specs.Tables.{inputCount, outputCount, outputFirstAt, nameExact}
 use Rattle.layout.specs.Groups.{tablesOk, variablesOk}
 use Rattle.layout.proofs.Parts.{inputFirst}
 use Rattle.stored_variables.specs.Stored.{termStored, termsApart, inputStored, rangeAt, defaultAt, singletonStored, outputStored, variablesApart}
