@@ -1,4 +1,5 @@
--- A helper: the header as the code holds it is the header's words, which `wordAt` and the places of model's `Image` define.
+-- A helper: the header as the code holds it. Each field is the word of the image that model's Image names; `header_of`
+-- ensures it.
 use mathlib.Core.Path.{_≡_}
 use Prim.Native.Nat.{ℕ, _≤_}
 use Rattle.header.specs.declared.Header.{Header}

@@ -100,6 +100,18 @@ pub const RULE_WEIGHT: usize = 5;
 
 pub const CONCLUSION_TERM: usize = 1;
 
+// The greatest code of each choice, from 0 on.
+pub const LAST_PAIR: usize = 2;
+
+pub const LAST_ACCU: usize = 1;
+
+pub const LAST_ACT: usize = 1;
+
+pub const LAST_TYPE: usize = 1;
+
+// The flag of RANGE and the kind of DEFAULT where they are given, else 0.
+pub const GIVEN: usize = 1;
+
 // The layout that reader and load check agree on.
 pub fn layout_word() -> usize
     ensures { λ r. ⌜ ((b : Block) → r ≡ layoutWord b) ⌝ }

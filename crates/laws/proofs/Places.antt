@@ -48,6 +48,12 @@ module _ {A : Type 0} (f : ℕ → A) where
   tab-at i [] h = refl
   tab-at i (x ∷ xs) h = λ j. h .0 j ∷ tab-at (suc i) xs (h .1) j
 
+-- one element of a list that stands in f
+pub at-nth : {A : Type 0} (f : ℕ → A) (o : ℕ) (xs : List A) (k : ℕ) (d : A) → k < length xs → At f o xs → f (o + k) ≡ getD xs k d
+at-nth f o [] k d h a = absurd (omega arith)
+at-nth f o (x ∷ xs) zero d h a = ap f (omega arith) ∙ a .0
+at-nth f o (x ∷ xs) (suc k) d h a = ap f (omega arith) ∙ at-nth f (suc o) xs k d (omega arith) (a .1)
+
 -- two lists that `same` finds equal are equal
 pub same-eq : (xs ys : List ℕ) → same xs ys ≡ true → xs ≡ ys
 same-eq [] [] h = refl
@@ -60,6 +66,10 @@ same-eq (x ∷ xs) (y ∷ ys) h =
 pub same-refl : (xs : List ℕ) → same xs xs ≡ true
 same-refl [] = refl
 same-refl (x ∷ xs) = and-i (eqb x x) (same xs xs) (eq-eqb x x refl) (same-refl xs)
+
+-- a field of the row at p, read where the code has it
+pub field : {A : Type 0} (f : ℕ → A) (o p k : ℕ) (v : A) → v ≡ f (o + k) → o ≡ p → v ≡ f (p + k)
+field f o p k v ev eo = ev ∙ ap (λ (x : ℕ). f (x + k)) eo
 
 -- WALKS: what is left from i up to e, one element a turn
 pub step : (e i : ℕ) → i < e → e - i ≡ suc (e - (i + 1))
@@ -134,6 +144,16 @@ tab-ext f g (suc n) p q e =
     let z = e 0 (omega arith) in
     let r = tab-ext f g n (suc p) (suc q) (λ k h. ap f (omega arith) ∙ e (suc k) (omega arith) ∙ ap g (omega arith)) in
     λ j. (ap f (sym a) ∙ z ∙ ap g b) j ∷ r j
+
+-- places counted from o on
+pub tab-from : {A : Type 0} (f : ℕ → A) (o n i : ℕ) → tab (λ k. f (o + k)) n i ≡ tab f n (o + i)
+tab-from f o n i = tab-ext (λ k. f (o + k)) f n i (o + i) (λ k h. ap f (omega arith))
+
+pub take-tab : {A : Type 0} (f : ℕ → A) (n i p : ℕ) → i ≤ n → take i (tab f n p) ≡ tab f i p
+unfolding tab
+take-tab f n zero p h = refl
+take-tab f zero (suc i) p h = absurd (omega arith)
+take-tab {A} f (suc n) (suc i) p h = ap (λ (l : List A). f p ∷ l) (take-tab f n i (suc p) (omega arith))
 
 -- an element of an array whose first n are values of f
 pub element : {A B : Type 0} (π : A → B) (xs : List A) (f : ℕ → B) (n p k : ℕ) (d : A) → map π (take n xs) ≡ tab f n p → k < n → π (getD xs k d) ≡ f (p + k)

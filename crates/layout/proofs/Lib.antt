@@ -1,6 +1,7 @@
 pub mod RowLaws
 pub mod TableLaws
 pub mod Parts
+pub mod Codes
 pub mod Whole
 pub mod Bytes
 pub mod Groups

@@ -13,8 +13,8 @@ use Rattle.model.specs.Image.{nameWords, rangeWords, defaultWords, postfix, sin
 use Rattle.laws.proofs.Lists.{map-tab, gather-append}
 use Rattle.laws.proofs.Tests.{both}
 use Rattle.laws.proofs.Places.{length-tab, same-eq}
-use Rattle.layout.specs.Tables.{inputRow, inputNext, outputRow, outputNext, termRow, termNext, ruleRow, ruleNext, outputTermAt, outputPointAt, inputCount, outputCount, termCount, wordCount, conclusionCount, inputTermsIn, outputTermsIn, inputPointsIn, wordsIn, conclusionsIn, inputRows, outputRows, inputTermRows, outputTermRows, ruleRows, conditionExact, conditionRows}
-use Rattle.layout.proofs.RowLaws.{stands}
+use Rattle.layout.specs.Tables.{inputRow, inputNext, outputRow, outputNext, termRow, termNext, ruleRow, ruleNext, outputTermAt, outputPointAt, inputCount, outputCount, outputFirstAt, termCount, wordCount, conclusionCount, inputTermsIn, outputTermsIn, inputPointsIn, wordsIn, conclusionsIn, inputRows, outputRows, inputTermRows, outputTermRows, ruleRows, conditionExact, conditionRows}
+use Rattle.layout.proofs.RowLaws.{word-of}
 use Rattle.layout.proofs.TableLaws.{Each, each, Runs, runs-from, gather-runs, sums-one}
 
 -- every row has the words of its table
@@ -40,9 +40,6 @@ module _ (w : ℕ → ℕ) where
   abbrev pub inputFirst : ℕ → ℕ
   inputFirst i = w (w 9 + i * 7 + 5)
 
-  abbrev pub outputFirst : ℕ → ℕ
-  outputFirst i = w (w 10 + i * 11 + 4)
-
   abbrev termFirst : ℕ → ℕ
   termFirst i = w (w 11 + i * 6 + 4)
 
@@ -52,66 +49,48 @@ module _ (w : ℕ → ℕ) where
   abbrev pub conclusionFirst : ℕ → ℕ
   conclusionFirst i = w (w 13 + i * 6 + 3)
 
-  -- a word further on in a row
-  on : (o k m : ℕ) → o + k ≡ m → w (o + k) ≡ w m
-  on o k m e = ap w e
-
   pub input-row : (i n : ℕ) → same (tab w 7 (w 9 + i * 7)) (inputRow n (inputAt w i)) ≡ true
       → (inputFirst i ≡ n) × (inputNext n (inputAt w i) ≡ n + inputCount w i)
   unfolding nameWords inputAt
   input-row i n h =
       let o = w 9 + i * 7 in
-      let a = stands w o 7 (inputRow n (inputAt w i)) h in (
-        on o 5 (suc (suc (suc (suc (suc o))))) (omega arith) ∙ a .1 .1 .1 .1 .1 .0,
-        ap (λ (x : ℕ). n + x) (length-tab (termAt w) (w (o + 6)) (w (o + 5))),
-      )
+      (word-of w o 7 (inputRow n (inputAt w i)) 5 (omega arith) h, ap (λ (x : ℕ). n + x) (length-tab (termAt w) (w (o + 6)) (w (o + 5))))
 
   pub output-row : (i n : ℕ) → same (tab w 11 (w 10 + i * 11)) (outputRow n (outputAt w i)) ≡ true
-      → (outputFirst i ≡ n) × (outputNext n (outputAt w i) ≡ n + outputCount w i)
+      → (outputFirstAt w i ≡ n) × (outputNext n (outputAt w i) ≡ n + outputCount w i)
   unfolding nameWords outputAt
   output-row i n h =
       let o = w 10 + i * 11 in
-      let a = stands w o 11 (outputRow n (outputAt w i)) h in (
-        on o 4 (suc (suc (suc (suc o)))) (omega arith) ∙ a .1 .1 .1 .1 .0,
-        ap (λ (x : ℕ). n + x) (length-tab (singletonAt w) (w (o + 5)) (w (o + 4))),
-      )
+      let v = outputAt w i in
+      (word-of w o 11 (outputRow n v) 4 (omega (arith, wide-output n v)) h, ap (λ (x : ℕ). n + x) (length-tab (singletonAt w) (w (o + 5)) (w (o + 4))))
 
   term-row : (i n : ℕ) → same (tab w 6 (w 11 + i * 6)) (termRow n (termAt w i)) ≡ true
       → (termFirst i ≡ n) × (termNext n (termAt w i) ≡ n + termCount w i)
   unfolding nameWords termAt
   term-row i n h =
       let o = w 11 + i * 6 in
-      let a = stands w o 6 (termRow n (termAt w i)) h in (
-        on o 4 (suc (suc (suc (suc o)))) (omega arith) ∙ a .1 .1 .1 .1 .0,
-        ap (λ (x : ℕ). n + x) (length-tab (pointAt w) (w (o + 5)) (w (o + 4))),
-      )
+      (word-of w o 6 (termRow n (termAt w i)) 4 (omega arith) h, ap (λ (x : ℕ). n + x) (length-tab (pointAt w) (w (o + 5)) (w (o + 4))))
 
   output-term-row : (i n : ℕ) → same (tab w 6 (w 11 + i * 6)) (termRow n (outputTermAt w i)) ≡ true
       → (termFirst i ≡ n) × (termNext n (outputTermAt w i) ≡ n + 1)
   unfolding nameWords singletonAt
   output-term-row i n h =
       let o = w 11 + i * 6 in
-      let a = stands w o 6 (termRow n (outputTermAt w i)) h in
-      (on o 4 (suc (suc (suc (suc o)))) (omega arith) ∙ a .1 .1 .1 .1 .0, refl)
+      (word-of w o 6 (termRow n (outputTermAt w i)) 4 (omega arith) h, refl)
 
   pub rule-words-row : (i : ℕ) (σ : ℕ × ℕ) → same (tab w 6 (w 13 + i * 6)) (ruleRow σ (ruleAt w i)) ≡ true
       → (wordFirst i ≡ σ .0) × (ruleNext σ (ruleAt w i) .0 ≡ σ .0 + wordCount w i)
   rule-words-row i σ h =
       let o = w 13 + i * 6 in
-      let a = stands w o 6 (ruleRow σ (ruleAt w i)) h in (
-        on o 1 (suc o) (omega arith) ∙ a .1 .0,
-        ap (λ (x : ℕ). σ .0 + x) (sym (on o 2 (suc (suc o)) (omega arith) ∙ a .1 .1 .0)),
-      )
+      let row = ruleRow σ (ruleAt w i) in
+      (word-of w o 6 row 1 (omega arith) h, ap (λ (x : ℕ). σ .0 + x) (sym (word-of w o 6 row 2 (omega arith) h)))
 
   pub rule-conclusions-row : (i : ℕ) (σ : ℕ × ℕ) → same (tab w 6 (w 13 + i * 6)) (ruleRow σ (ruleAt w i)) ≡ true
       → (conclusionFirst i ≡ σ .1) × (ruleNext σ (ruleAt w i) .1 ≡ σ .1 + conclusionCount w i)
   unfolding ruleAt
   rule-conclusions-row i σ h =
       let o = w 13 + i * 6 in
-      let a = stands w o 6 (ruleRow σ (ruleAt w i)) h in (
-        on o 3 (suc (suc (suc o))) (omega arith) ∙ a .1 .1 .1 .0,
-        ap (λ (x : ℕ). σ .1 + x) (length-tab (conclusionAt w) (w (o + 4)) (w (o + 3))),
-      )
+      (word-of w o 6 (ruleRow σ (ruleAt w i)) 3 (omega arith) h, ap (λ (x : ℕ). σ .1 + x) (length-tab (conclusionAt w) (w (o + 4)) (w (o + 3))))
 
   pub inputFirsts-run : inputRows w ≡ true → Runs inputFirst (inputCount w) (w 2) 0 0
   unfolding inputRows
@@ -122,11 +101,16 @@ module _ (w : ℕ → ℕ) where
   inputTerms-are h =
       gather-runs (λ v. v .terms) (inputAt w) (termAt w) inputFirst (inputCount w) (w 2) 0 0 (each _ (λ j. refl) (w 2) 0) (inputFirsts-run h)
 
+  pub outputFirsts-run : outputRows w ≡ true → Runs (outputFirstAt w) (outputCount w) (w 3) 0 (inputTermsIn w)
+  unfolding outputRows
+  outputFirsts-run h =
+      runs-from outputRow outputNext (outputAt w) w (w 10) 11 (λ n. n) (outputFirstAt w) (outputCount w) (λ i n e. output-row i n e) (w 3) 0 (inputTermsIn w) h
+
   pub outputTerms-are : outputRows w ≡ true → outputTerms (decode w) ≡ tab (singletonAt w) (outputTermsIn w) (inputTermsIn w)
-  unfolding outputRows decode outputAt
+  unfolding decode outputAt
   outputTerms-are h =
-      gather-runs (λ v. v .terms) (outputAt w) (singletonAt w) outputFirst (outputCount w) (w 3) 0 (inputTermsIn w) (each _ (λ j. refl) (w 3) 0)
-      (runs-from outputRow outputNext (outputAt w) w (w 10) 11 (λ n. n) outputFirst (outputCount w) (λ i n e. output-row i n e) (w 3) 0 (inputTermsIn w) h)
+      gather-runs (λ v. v .terms) (outputAt w) (singletonAt w) (outputFirstAt w) (outputCount w) (w 3) 0 (inputTermsIn w) (each _ (λ j. refl) (w 3) 0)
+      (outputFirsts-run h)
 
   pub terms-are : inputRows w ≡ true → outputRows w ≡ true
       → terms (decode w) ≡ tab (termAt w) (inputTermsIn w) 0 ++ tab (outputTermAt w) (outputTermsIn w) (inputTermsIn w)

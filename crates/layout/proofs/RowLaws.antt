@@ -2,20 +2,24 @@
 use mathlib.Core.Path.{_≡_, refl, sym, ap, _∙_, subst}
 use mathlib.Core.List.{List, [], _∷_, _++_, append-assoc}
 use mathlib.Core.Bool.{true}
-use Prim.Native.Nat.{ℕ, zero, suc, _+_, _*_}
+use Prim.Native.Nat.{ℕ, zero, suc, _+_, _*_, _<_}
 use native.Mathlib.Omega.{arith}
 use native.Mathlib.Nat.{suc-mul, zero-mul}
-use lib.ListN.{length, length-append}
+use lib.ListN.{length, getD, length-append}
 use Rattle.model.specs.Basic.{same}
 use Rattle.model.specs.Image.{tab}
 use Rattle.laws.proofs.Tests.{both, and-i}
-use Rattle.laws.proofs.Places.{At, at-shift, at-cut, at-join, at-tab, tab-at, same-eq, same-refl}
+use Rattle.laws.proofs.Places.{At, at-shift, at-cut, at-join, at-nth, at-tab, tab-at, same-eq, same-refl}
 use Rattle.layout.specs.Rows.{laid, after, rowsOk}
 use Rattle.layout.specs.Tables.{sums}
 
 -- words that are those of a list
 pub stands : (w : ℕ → ℕ) (o s : ℕ) (xs : List ℕ) → same (tab w s o) xs ≡ true → At w o xs
 stands w o s xs h = subst (λ (l : List ℕ). At w o l) (same-eq (tab w s o) xs h) (at-tab w s o)
+
+-- the word at place k of a row
+pub word-of : (w : ℕ → ℕ) (o s : ℕ) (xs : List ℕ) (k : ℕ) → k < length xs → same (tab w s o) xs ≡ true → w (o + k) ≡ getD xs k 0
+word-of w o s xs k l h = at-nth w o xs k 0 l (stands w o s xs h)
 
 pub stood : (w : ℕ → ℕ) (o s : ℕ) (xs : List ℕ) → length xs ≡ s → At w o xs → same (tab w s o) xs ≡ true
 stood w o s xs e h = ap (λ (n : ℕ). same (tab w n o) xs) (sym e) ∙ ap (λ (l : List ℕ). same l xs) (tab-at w o xs h) ∙ same-refl xs

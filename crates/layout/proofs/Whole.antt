@@ -9,12 +9,6 @@ use lib.ListN.{length, getD, length-append}
 use borrow.Author.Tests.{eq-eqb, eqb-true, le-leb, leb-true}
 use Rattle.model.specs.Basic.{all, gather, total, same}
 use Rattle.model.specs.Block.{Point, Term, Conclusion, Rule, inputTerms, conclusions, size, Condition, term, neg, two}
-use Rattle.model.specs.declared.Pair.{Pair}
-use Rattle.model.specs.declared.Pair.the-variants.{MinMax, ProdAsum, BdifBsum}
-use Rattle.model.specs.declared.Accumulation.{Accumulation}
-use Rattle.model.specs.declared.Accumulation.the-variants.{Max, Bsum}
-use Rattle.model.specs.declared.Activation.{Activation}
-use Rattle.model.specs.declared.Activation.the-variants.{Min, Prod}
 use Rattle.model.specs.Image.{crispWord, crispOf, nameWords, nameAt, opWord, pairWord, pairOf, accuWord, accuOf, actWord, actOf, terms, points, postfix, inputTable, outputTable, termTable, pointWords, ruleTable, conclusionWords, offsets, endOf, header, words, tab, pointAt, termAt, inputAt, outputAt, conclusionAt, ruleAt, decode}
 use Rattle.laws.proofs.Conditions.{length-postfix}
 use Rattle.laws.proofs.Lists.{gather-append}
@@ -22,6 +16,7 @@ use Rattle.laws.proofs.Tests.{both, and-i, Every, passed, pass}
 use Rattle.laws.proofs.Places.{At, at-shift, at-cut, at-join, length-tab}
 use Rattle.layout.specs.Rows.{laid, rowsOk}
 use Rattle.layout.specs.Tables.{inputRow, inputNext, outputRow, outputNext, termRow, termNext, ruleRow, ruleNext, alone, onward, outputTermAt, outputPointAt, termCount, wordCount, inputTermsIn, outputTermsIn, inputPointsIn, wordsIn, conclusionsIn, inputRows, outputRows, inputTermRows, outputTermRows, outputPointRows, ruleRows, conditionExact, conditionRows, nameExact, headerOk, countsOk, shapeOk}
+use Rattle.layout.proofs.Codes.{pair-code, pair-small, accu-code, accu-small, act-code, act-small}
 use Rattle.layout.proofs.RowLaws.{stands, stood, rows-out, rows-in, length-laid, laid-append, after-sums}
 use Rattle.layout.proofs.TableLaws.{input-table, output-table, term-table, rule-table, gather-laid}
 use Rattle.layout.proofs.Parts.{wide-input, wide-output, wide-term, rule-words-row, inputTerms-are, terms-are, points-are, conclusions-are, conditions-are}
@@ -35,56 +30,11 @@ word-crisp x h = go (ltb x 2147483648) refl
     go true e = simp e
     go false e = let q : 4294967295 - (4294967295 - x) ≡ x = omega arith in simp (e, q)
 
--- one element of a list that stands in f
-at-nth : (f : ℕ → ℕ) (o : ℕ) (xs : List ℕ) (k : ℕ) → k < length xs → At f o xs → f (o + k) ≡ getD xs k 0
-at-nth f o [] k h a = absurd (omega arith)
-at-nth f o (x ∷ xs) zero h a = ap f (omega arith) ∙ a .0
-at-nth f o (x ∷ xs) (suc k) h a = ap f (omega arith) ∙ at-nth f (suc o) xs k (omega arith) (a .1)
-
 pub length-conditions : (rs : List Rule) → length (gather (λ r. postfix (r .condition)) rs) ≡ total (λ r. size (r .condition)) rs
 unfolding gather total
 length-conditions [] = refl
 length-conditions (r ∷ rs) =
     length-append (postfix (r .condition)) (gather (λ q. postfix (q .condition)) rs) ∙ (λ j. length-postfix (r .condition) j + length-conditions rs j)
-
--- small words that are their own codes
-pub pair-code : (x : ℕ) → x ≤ 2 → pairWord (pairOf x) ≡ x
-pair-code zero h = refl
-pair-code (suc zero) h = refl
-pair-code (suc (suc zero)) h = refl
-pair-code (suc (suc (suc x))) h = absurd (omega arith)
-
-pair-small : (x : ℕ) → pairWord (pairOf x) ≡ x → x ≤ 2
-pair-small x h = subst (λ (n : ℕ). n ≤ 2) h (go (pairOf x))
-  where
-    go : (p : Pair) → pairWord p ≤ 2
-    go MinMax = omega arith
-    go ProdAsum = omega arith
-    go BdifBsum = omega arith
-
-pub accu-code : (x : ℕ) → x ≤ 1 → accuWord (accuOf x) ≡ x
-accu-code zero h = refl
-accu-code (suc zero) h = refl
-accu-code (suc (suc x)) h = absurd (omega arith)
-
-accu-small : (x : ℕ) → accuWord (accuOf x) ≡ x → x ≤ 1
-accu-small x h = subst (λ (n : ℕ). n ≤ 1) h (go (accuOf x))
-  where
-    go : (p : Accumulation) → accuWord p ≤ 1
-    go Max = omega arith
-    go Bsum = omega arith
-
-pub act-code : (x : ℕ) → x ≤ 1 → actWord (actOf x) ≡ x
-act-code zero h = refl
-act-code (suc zero) h = refl
-act-code (suc (suc x)) h = absurd (omega arith)
-
-act-small : (x : ℕ) → actWord (actOf x) ≡ x → x ≤ 1
-act-small x h = subst (λ (n : ℕ). n ≤ 1) h (go (actOf x))
-  where
-    go : (p : Activation) → actWord p ≤ 1
-    go Min = omega arith
-    go Prod = omega arith
 
 module _ (w : ℕ → ℕ) where
   -- rows that are always laid out so

@@ -1,4 +1,5 @@
--- Tables of an image row by row: each row's words are those that its entry is laid out as, with the firsts as running totals.
+-- A helper: tables of an image row by row, with the firsts as running totals. `layout/proofs/TableLaws` ties `laid` to the
+-- tables of model's Image, `layout/proofs/RowLaws` `rowsOk` to what stands in the words.
 use mathlib.Core.Bool.{Bool, true, _&&_}
 use mathlib.Core.List.{List, [], _∷_, _++_}
 use Prim.Native.Nat.{ℕ, zero, suc, _+_, _*_}

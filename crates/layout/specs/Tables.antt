@@ -1,4 +1,5 @@
--- The rows of each table, as document 01 lays them out, and what the words of an image must satisfy to be laid out so.
+-- A helper: the rows of each table, and what the words of an image must satisfy to be those of the block that they stand
+-- for. `layout/proofs/Bytes.same-image` ties `shapeOk` to model's `image` and `decode`.
 use mathlib.Core.Bool.{Bool}
 use mathlib.Core.List.{List, [], _∷_, _++_}
 use Prim.Native.Nat.{ℕ, zero, suc, _+_, _*_}
@@ -61,6 +62,10 @@ inputCount w i = w (w 9 + i * 7 + 6)
 abbrev pub outputCount : (ℕ → ℕ) → ℕ → ℕ
 outputCount w i = w (w 10 + i * 11 + 5)
 
+-- the first term of output i
+abbrev pub outputFirstAt : (ℕ → ℕ) → ℕ → ℕ
+outputFirstAt w i = w (w 10 + i * 11 + 4)
+
 abbrev pub termCount : (ℕ → ℕ) → ℕ → ℕ
 termCount w i = w (w 11 + i * 6 + 5)
 
@@ -97,7 +102,8 @@ unfoldable pub inputTermRows : (ℕ → ℕ) → Bool
 inputTermRows w = rowsOk termRow termNext (termAt w) w (w 11) 6 (inputTermsIn w) 0 0
 
 unfoldable pub outputTermRows : (ℕ → ℕ) → Bool
-outputTermRows w = rowsOk termRow termNext (outputTermAt w) w (w 11) 6 (outputTermsIn w) (inputTermsIn w) (inputPointsIn w)
+outputTermRows w =
+    rowsOk termRow termNext (outputTermAt w) w (w 11) 6 (outputTermsIn w) (inputTermsIn w) (inputPointsIn w)
 
 unfoldable pub outputPointRows : (ℕ → ℕ) → Bool
 outputPointRows w = rowsOk (alone pointWords) onward (outputPointAt w) w (w 12) 2 (outputTermsIn w) (inputPointsIn w) tt
@@ -107,7 +113,8 @@ ruleRows w = rowsOk ruleRow ruleNext (ruleAt w) w (w 13) 6 (w 6) 0 (0, 0)
 
 -- a rule's condition words are the postfix of the tree that they stand for
 unfoldable pub conditionExact : (ℕ → ℕ) → ℕ → Bool
-conditionExact w i = same (tab (λ k. w (w 14 + k)) (wordCount w i) (w (w 13 + i * 6 + 1))) (postfix (ruleAt w i .condition))
+conditionExact w i =
+    same (tab (λ k. w (w 14 + k)) (wordCount w i) (w (w 13 + i * 6 + 1))) (postfix (ruleAt w i .condition))
 
 unfoldable pub conditionRows : (ℕ → ℕ) → Bool
 conditionRows w = all (conditionExact w) (tab (λ i. i) (w 6) 0)

@@ -172,7 +172,8 @@ abbrev pub withDefault : ℤ → Output → Output
 withDefault x v = record { name = v .name; terms = v .terms; range = v .range; default = some x }
 
 abbrev pub withConclusion : Conclusion → Rule → Rule
-withConclusion k r = record { number = r .number; condition = r .condition; conclusions = r .conclusions ++ (k ∷ []); weight = r .weight }
+withConclusion k r =
+    record { number = r .number; condition = r .condition; conclusions = r .conclusions ++ (k ∷ []); weight = r .weight }
 
 abbrev pub withWeight : ℕ → Rule → Rule
 withWeight w r = record { number = r .number; condition = r .condition; conclusions = r .conclusions; weight = w }

@@ -54,7 +54,9 @@ intFrom n = withInputs (λ vs. take n vs ++ map asInt (drop n vs))
 -- a new variable, where there are fewer than the limit
 unfoldable pub variable : (List ℕ → Block → Block) → (Block → ℕ) → ℕ → Part
 variable add count limit r =
-    judged (aName r ((not (isInput (text r) (r .block) || isOutput (text r) (r .block)), 4) ∷ (ltb (count (r .block)) limit, 6) ∷ []))
+    judged
+    (aName r
+    ((not (isInput (text r) (r .block) || isOutput (text r) (r .block)), 4) ∷ (ltb (count (r .block)) limit, 6) ∷ []))
     r (advance (change (add (text r)) r))
 
 abbrev pub inputCount : Block → ℕ
@@ -169,7 +171,8 @@ singletonBody o r =
 
 unfoldable pub outputTerm : ℕ → Part
 outputTerm o r =
-    judged ((is TERM r, 2) ∷ (ltb (length (singletonsOf o (r .block))) termLimit, 6) ∷ []) r (singletonBody o (advance r))
+    judged ((is TERM r, 2) ∷ (ltb (length (singletonsOf o (r .block))) termLimit, 6) ∷ [])
+    r (singletonBody o (advance r))
 
 unfoldable pub defaultValue : ℕ → Part
 defaultValue o r = if is NC r then advance r else figure withDefault o r

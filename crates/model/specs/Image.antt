@@ -21,7 +21,8 @@ bytesOf ws = gather wordBytes ws
 
 -- the i-th word of some bytes; a byte past the end counts as 0
 unfoldable pub wordAt : List ℕ → ℕ → ℕ
-wordAt s i = getD s (i * 4) 0 + getD s (i * 4 + 1) 0 * 256 + getD s (i * 4 + 2) 0 * 65536 + getD s (i * 4 + 3) 0 * 16777216
+wordAt s i =
+    getD s (i * 4) 0 + getD s (i * 4 + 1) 0 * 256 + getD s (i * 4 + 2) 0 * 65536 + getD s (i * 4 + 3) 0 * 16777216
 
 -- two's complement
 abbrev pub crispWord : ℤ → ℕ
@@ -95,7 +96,8 @@ unfoldable pub outputTable : ℕ → List Output → List ℕ
 outputTable n [] = []
 outputTable n (v ∷ vs) =
     nameWords (v .name)
-    ++ (n ∷ length (v .terms) ∷ (rangeWords (v .range) ++ (defaultWords (v .default) ++ outputTable (n + length (v .terms)) vs)))
+    ++ (n ∷ length (v .terms)
+    ∷ (rangeWords (v .range) ++ (defaultWords (v .default) ++ outputTable (n + length (v .terms)) vs)))
 
 -- n is the first point of the next term
 unfoldable pub termTable : ℕ → List Term → List ℕ
@@ -163,7 +165,8 @@ unfoldable pub header : Block → List ℕ
 header b =
     layoutWord b ∷ endOf headerSize (counts b) widths
     ∷ (counts b ++ (offsets headerSize (counts b) widths
-    ++ (pairWord (b .pair) ∷ accuWord (b .accu) ∷ actWord (b .act) ∷ 0 ∷ (nameWords (b .name) ++ nameWords (b .ruleBlock)))))
+    ++ (pairWord (b .pair) ∷ accuWord (b .accu) ∷ actWord (b .act) ∷ 0
+    ∷ (nameWords (b .name) ++ nameWords (b .ruleBlock)))))
 
 unfoldable pub words : Block → List ℕ
 words b =
@@ -299,7 +302,9 @@ outputAt w i =
     record {
       name = nameAt w o;
       terms = tab (singletonAt w) (w (o + 5)) (w (o + 4));
-      range = if eqb (w (o + 6)) 0 then none else some (record { least = crispOf (w (o + 7)); most = crispOf (w (o + 8)) });
+      range =
+        if eqb (w (o + 6)) 0 then none
+        else some (record { least = crispOf (w (o + 7)); most = crispOf (w (o + 8)) });
       default = if eqb (w (o + 9)) 0 then none else some (crispOf (w (o + 10)));
     }
 

@@ -65,7 +65,8 @@ COLON = 58
 abbrev pub SEMICOLON : ℕ
 SEMICOLON = 59
 
--- keywords are of kind 128 and their place in the list
+-- keywords are of kind 128 and their place in the list; CoA, CoG, END_OPTIONS, LM, NSUM, OPTIONS, RM and VAR are
+-- reserved: no rule asks for them, so they have no name here
 
 abbrev pub kindOf : String → ℕ
 kindOf w = 128 + keywordAt (bytes w)

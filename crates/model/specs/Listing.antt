@@ -10,7 +10,7 @@ use Rattle.model.specs.Basic.{if_then_else_, bytes, isEmpty, gather}
 use Rattle.model.specs.Bounds.{M}
 use Rattle.model.specs.Block.{Point, Term, Singleton, InputType, real, int, Input, Range, Output, Op, and, or, Condition, term, neg, two, Conclusion, Rule, Pair, min-max, prod-asum, bdif-bsum, Accumulation, by-max, by-bsum, Activation, by-min, by-prod, Block}
 use Rattle.model.specs.Image.{terms}
-use Rattle.model.specs.Parentheses.{form, besideNot, leftOf, rightOf}
+use Rattle.model.specs.Parentheses.{form, bareBehindNot, bareLeft, bareRight}
 
 -- one text after the other
 infixr 12 _⊕_
@@ -77,14 +77,14 @@ wrapped l k s = if ltb l k then bytes "(" ⊕ s ⊕ bytes ")" else s
 -- the NOT right over a term stands after IS
 abbrev pub negatedText : (ℕ → TermNames) → Condition → List ℕ → List ℕ
 negatedText f (term t) s = f t .variable ⊕ bytes " IS NOT " ⊕ f t .term
-negatedText f (neg c) s = bytes "NOT " ⊕ wrapped besideNot (form (neg c)) s
-negatedText f (two o a b) s = bytes "NOT " ⊕ wrapped besideNot (form (two o a b)) s
+negatedText f (neg c) s = bytes "NOT " ⊕ wrapped bareBehindNot (form (neg c)) s
+negatedText f (two o a b) s = bytes "NOT " ⊕ wrapped bareBehindNot (form (two o a b)) s
 
 unfoldable pub conditionText : (ℕ → TermNames) → Condition → List ℕ
 conditionText f (term t) = f t .variable ⊕ bytes " IS " ⊕ f t .term
 conditionText f (neg c) = negatedText f c (conditionText f c)
 conditionText f (two o a b) =
-    wrapped (leftOf o) (form a) (conditionText f a) ⊕ operator o ⊕ wrapped (rightOf o) (form b) (conditionText f b)
+    wrapped (bareLeft o) (form a) (conditionText f a) ⊕ operator o ⊕ wrapped (bareRight o) (form b) (conditionText f b)
 
 -- THE PARTS
 abbrev pub typeText : InputType → List ℕ
@@ -142,7 +142,8 @@ accuText by-bsum = bytes "BSUM"
 
 unfoldable pub conclusionText : Block → Conclusion → List ℕ
 conclusionText b k =
-    getD (map (λ v. v .name) (b .outputs)) (k .output) [] ⊕ bytes " IS " ⊕ getD (map (λ t. t .name) (terms b)) (k .term) []
+    getD (map (λ v. v .name) (b .outputs)) (k .output) []
+    ⊕ bytes " IS " ⊕ getD (map (λ t. t .name) (terms b)) (k .term) []
 
 abbrev pub weightText : ℕ → List ℕ
 weightText w = if eqb w M then [] else bytes " WITH " ⊕ unitText w

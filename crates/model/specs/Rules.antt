@@ -92,10 +92,16 @@ changeRule f = withRules (updateLast f)
 
 -- the pair of an algorithm for AND, for OR
 abbrev pub andPair : ℕ → Option Pair
-andPair k = if eqb k MIN then some min-max else if eqb k PROD then some prod-asum else if eqb k BDIF then some bdif-bsum else none
+andPair k =
+    if eqb k MIN then some min-max else
+    if eqb k PROD then some prod-asum else
+    if eqb k BDIF then some bdif-bsum else none
 
 abbrev pub orPair : ℕ → Option Pair
-orPair k = if eqb k MAX then some min-max else if eqb k ASUM then some prod-asum else if eqb k BSUM then some bdif-bsum else none
+orPair k =
+    if eqb k MAX then some min-max else
+    if eqb k ASUM then some prod-asum else
+    if eqb k BSUM then some bdif-bsum else none
 
 abbrev pub samePair : Pair → Pair → Bool
 samePair min-max min-max = true
@@ -121,21 +127,29 @@ algorithmLine second k pairOf r =
 -- each optional, in either order
 unfoldable pub algorithms : Part
 algorithms r =
-    if is AND r then algorithmLine false AND andPair r ▸ (λ q. if is OR q then algorithmLine true OR orPair q else q) else
-    if is OR r then algorithmLine false OR orPair r ▸ (λ q. if is AND q then algorithmLine true AND andPair q else q) else r
+    if is AND r then
+      algorithmLine false AND andPair r ▸ (λ q. if is OR q then algorithmLine true OR orPair q else q) else
+    if is OR r then
+      algorithmLine false OR orPair r ▸ (λ q. if is AND q then algorithmLine true AND andPair q else q) else r
 
 unfoldable pub activation : Part
-activation r = if is MIN r then advance (change (withAct by-min) r) else if is PROD r then advance (change (withAct by-prod) r) else refuse 2 r
+activation r =
+    if is MIN r then advance (change (withAct by-min) r) else
+    if is PROD r then advance (change (withAct by-prod) r) else refuse 2 r
 
 unfoldable pub activationLine : Part
 activationLine r = if is ACT r then advance r ▸ expect COLON ▸ activation ▸ expect SEMICOLON else r
 
 unfoldable pub accumulation : Part
-accumulation r = if is MAX r then advance (change (withAccu by-max) r) else if is BSUM r then advance (change (withAccu by-bsum) r) else refuse 2 r
+accumulation r =
+    if is MAX r then advance (change (withAccu by-max) r) else
+    if is BSUM r then advance (change (withAccu by-bsum) r) else refuse 2 r
 
 unfoldable pub ruleNumber : Part
 ruleNumber r =
-    judged ((is NUMBER r, 2) ∷ (isRuleNumber (text r), 3) ∷ (all (λ q. not (eqb (q .number) (decimal (text r)))) (r .block .rules), 4) ∷ [])
+    let n : ℕ = decimal (text r) in
+    judged
+    ((is NUMBER r, 2) ∷ (isRuleNumber (text r), 3) ∷ (all (λ q. not (eqb (q .number) n)) (r .block .rules), 4) ∷ [])
     r (advance r)
 
 -- a term of output o
@@ -149,7 +163,8 @@ concludedTerm o r =
 unfoldable pub conclusion : Part
 conclusion r =
     let o : ℕ = outputOf (text r) (r .block) in
-    judged (aName r ((isOutput (text r) (r .block), 5) ∷ (ltb (length (conclusions (r .block))) conclusionLimit, 6) ∷ []))
+    judged
+    (aName r ((isOutput (text r) (r .block), 5) ∷ (ltb (length (conclusions (r .block))) conclusionLimit, 6) ∷ []))
     r (advance r ▸ expect IS ▸ concludedTerm o)
 
 unfoldable pub weight : Part

@@ -1,5 +1,5 @@
 -- The machine on forms and depths accepts exactly the words of a condition that can be written.
-use mathlib.Core.Path.{_≡_, refl, sym, ap, _∙_}
+use mathlib.Core.Path.{_≡_, refl, ap, _∙_}
 use mathlib.Core.List.{List, [], _∷_}
 use mathlib.Core.Bool.{Bool, true, false, _&&_}
 use mathlib.Core.Option.{Option, none, some}
@@ -10,17 +10,17 @@ use lib.Dec.{leb}
 use Rattle.model.specs.Basic.{same}
 use Rattle.model.specs.Bounds.{depthLimit}
 use Rattle.model.specs.Block.{Condition, term, neg, two}
-use Rattle.model.specs.Parentheses.{form, besideNot, leftOf, rightOf, depth}
+use Rattle.model.specs.Parentheses.{form, bareBehindNot, bareLeft, bareRight, depth}
 use Rattle.model.specs.WellFormed.{termsBelow}
 use Rattle.model.specs.Image.{postfix, treeOf}
 use Rattle.laws.proofs.Tests.{both, and-i, iff}
 use Rattle.laws.proofs.Places.{same-eq, same-refl}
-use Rattle.stored_conditions.specs.Machine.{fold, pass}
-use Rattle.stored_conditions.specs.Shapes.{shape, negatedShape, joinedShape, shapes, isOne, accepts}
+use Rattle.stored_conditions.specs.declared.Shape.{Shape}
+use Rattle.stored_conditions.specs.Shapes.{shape, negatedShape, joinedShape, shapes}
 use Rattle.stored_conditions.specs.Stored.{isCondition}
 use Rattle.stored_conditions.proofs.Trees.{tree-postfix}
 use Rattle.stored_conditions.proofs.Room.{opened-ge}
-use Rattle.stored_conditions.proofs.Passes.{Allowed, allowed-fine, pass-postfix, pass-one}
+use Rattle.stored_conditions.proofs.Passes.{fold, pass, Allowed, allowed-fine, pass-postfix, pass-one}
 
 fold-shape : (m : ℕ) (c : Condition) → fold (shapes m) c ≡ shape (form c) (depth c)
 unfolding fold negatedShape joinedShape form depth
@@ -34,12 +34,12 @@ fine-shape m c d = rw (fold-shape m c) (le-leb (depth c) 8 d)
 allowed : (m : ℕ) (c : Condition) → termsBelow m c ≡ true → depth c ≤ 8 → Allowed (shapes m) c
 unfolding Allowed termsBelow depth
 allowed m (term t) k d = (k, refl)
-allowed m (neg c) k d = (allowed m c k (omega (arith, opened-ge besideNot (form c) (depth c))), fine-shape m (neg c) d)
+allowed m (neg c) k d = (allowed m c k (omega (arith, opened-ge bareBehindNot (form c) (depth c))), fine-shape m (neg c) d)
 allowed m (two o a b) k d =
     let q = both (termsBelow m a) (termsBelow m b) k in (
       (
-        allowed m a (q .0) (omega (arith, opened-ge (leftOf o) (form a) (depth a))),
-        allowed m b (q .1) (omega (arith, opened-ge (rightOf o) (form b) (depth b))),
+        allowed m a (q .0) (omega (arith, opened-ge (bareLeft o) (form a) (depth a))),
+        allowed m b (q .1) (omega (arith, opened-ge (bareRight o) (form b) (depth b))),
       ),
       fine-shape m (two o a b) d,
     )
@@ -54,7 +54,8 @@ allowed-depth : (m : ℕ) (c : Condition) → Allowed (shapes m) c → leb (dept
 allowed-depth m c k = rw (fold-shape m c) at (allowed-fine (shapes m) c k)
 
 -- what isCondition says
-pub condition-in : (m : ℕ) (ws : List ℕ) → isCondition m ws ≡ true → (ws ≡ postfix (treeOf ws)) × (termsBelow m (treeOf ws) ≡ true) × (depth (treeOf ws) ≤ 8)
+pub condition-in : (m : ℕ) (ws : List ℕ) → isCondition m ws ≡ true
+    → (ws ≡ postfix (treeOf ws)) × (termsBelow m (treeOf ws) ≡ true) × (depth (treeOf ws) ≤ 8)
 condition-in m ws e =
     let p = both (same ws (postfix (treeOf ws))) _ e in
     let q = both (termsBelow m (treeOf ws)) _ (p .1) in
@@ -62,6 +63,16 @@ condition-in m ws e =
 
 pub condition-postfix : (m : ℕ) (c : Condition) → isCondition m (postfix c) ≡ termsBelow m c && leb (depth c) depthLimit
 condition-postfix m c = rw (tree-postfix c) (simp (same-refl (postfix c)))
+
+-- one subtree is left
+abbrev pub isOne : {A : Type 0} → Option (List A) → Bool
+isOne none = false
+isOne (some []) = false
+isOne (some (x ∷ [])) = true
+isOne (some (x ∷ y ∷ st)) = false
+
+unfoldable pub accepts : ℕ → List ℕ → Bool
+accepts m ws = isOne (pass (shapes m) ws (some []))
 
 one-in : {A : Type 0} (s : Option (List A)) → isOne s ≡ true → (x : A) × (s ≡ some (x ∷ []))
 one-in none e = absurd (let z : _≡_ {A = ℕ} 0 1 = cc in omega arith)
@@ -76,12 +87,18 @@ accepts-in m ws e =
     let r = pass-one (shapes m) ws (o .0) (o .1) in
     ap (isCondition m) (r .1) ∙ condition-postfix m (r .0) ∙ and-i _ _ (allowed-terms m (r .0) (r .2)) (allowed-depth m (r .0) (r .2))
 
-accepts-out : (m : ℕ) (ws : List ℕ) → isCondition m ws ≡ true → accepts m ws ≡ true
-unfolding accepts
-accepts-out m ws e =
+-- what is left of a condition's words
+pub condition-left : (m : ℕ) (ws : List ℕ) → isCondition m ws ≡ true
+    → pass (shapes m) ws (some []) ≡ some (shape (form (treeOf ws)) (depth (treeOf ws)) ∷ [])
+condition-left m ws e =
     let r = condition-in m ws e in
     let c = treeOf ws in
-    ap (λ (l : List ℕ). isOne (pass (shapes m) l (some []))) (r .0) ∙ ap isOne (pass-postfix (shapes m) c (allowed m c (r .1) (r .2)) (r .2))
+    ap (λ (l : List ℕ). pass (shapes m) l (some [])) (r .0) ∙ pass-postfix (shapes m) c (allowed m c (r .1) (r .2)) (r .2)
+    ∙ ap (λ (x : Shape). some (x ∷ [])) (fold-shape m c)
+
+accepts-out : (m : ℕ) (ws : List ℕ) → isCondition m ws ≡ true → accepts m ws ≡ true
+unfolding accepts
+accepts-out m ws e = ap isOne (condition-left m ws e)
 
 -- THE THEOREM
 pub accepts-is : (m : ℕ) (ws : List ℕ) → accepts m ws ≡ isCondition m ws

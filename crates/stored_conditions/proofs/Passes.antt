@@ -11,8 +11,19 @@ use lib.ListN.{length}
 use Rattle.model.specs.Block.{Op, and, or, Condition, term, neg, two}
 use Rattle.model.specs.Parentheses.{depth}
 use Rattle.model.specs.Image.{postfix, opWord, tab}
-use Rattle.stored_conditions.specs.Machine.{Meaning, fold, room, added, unary, binary, step, turn, pass}
+use Rattle.stored_conditions.specs.Machine.{Meaning, room, added, unary, binary, step, turn}
 use Rattle.stored_conditions.proofs.Room.{Fits, fits, fits-left, fits-right, fits-neg, fits-one}
+
+-- what a condition means
+unfoldable pub fold : {A : Type 0} → Meaning A → Condition → A
+fold g (term t) = g .leaf t
+fold g (neg c) = g .no (fold g c)
+fold g (two o a b) = g .join o (fold g a) (fold g b)
+
+-- all words, one after the other
+unfoldable pub pass : {A : Type 0} → Meaning A → List ℕ → Option (List A) → Option (List A)
+pass g [] s = s
+pass g (w ∷ ws) s = pass g ws (turn g w s)
 
 module _ {A : Type 0} (g : Meaning A) where
   -- every term is known, and every subtree may stand on the stack
@@ -45,7 +56,8 @@ module _ {A : Type 0} (g : Meaning A) where
   unfolding step
   step-neg st = refl
 
-  pass-on : (c : Condition) (rest : List ℕ) (st : List A) → Allowed c → Fits c (length st) → pass g (postfix c ++ rest) (some st) ≡ pass g rest (some (fold g c ∷ st))
+  pass-on : (c : Condition) (rest : List ℕ) (st : List A) → Allowed c → Fits c (length st)
+      → pass g (postfix c ++ rest) (some st) ≡ pass g rest (some (fold g c ∷ st))
   unfolding pass turn postfix fold Allowed unary binary
   pass-on (term t) rest st (k, f) h = ap (pass g rest) (step-term t st k ∙ added-ok (g .leaf t) st f (fits-one (term t) _ h))
   pass-on (neg c) rest st (k, f) h =

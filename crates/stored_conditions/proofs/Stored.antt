@@ -1,8 +1,7 @@
 -- Conditions where they stand in an image.
-use mathlib.Core.Path.{_≡_, refl, sym, ap, _∙_}
+use mathlib.Core.Path.{_≡_, sym, ap, _∙_}
 use mathlib.Core.Bool.{true, _&&_}
-use Prim.Native.Nat.{ℕ, zero, suc, _+_, _≤_}
-use native.Mathlib.Omega.{arith}
+use Prim.Native.Nat.{ℕ, _≤_}
 use lib.Dec.{leb}
 use lib.ListN.{length}
 use Rattle.model.specs.Bounds.{depthLimit}
@@ -16,17 +15,10 @@ use Rattle.stored_conditions.specs.Stored.{isCondition, conditionStored}
 use Rattle.stored_conditions.proofs.Trees.{tree-postfix}
 use Rattle.stored_conditions.proofs.Accepted.{condition-in, condition-postfix}
 
--- places counted from o on
-pub tab-from : {A : Type 0} (w : ℕ → A) (o n i : ℕ) → tab (λ k. w (o + k)) n i ≡ tab w n (o + i)
-unfolding tab
-tab-from w o zero i = refl
-tab-from w o (suc n) i =
-    let q : o + suc i ≡ suc (o + i) = omega arith in
-    rw (tab-from w o n (suc i), q) refl
-
 module _ (w : ℕ → ℕ) (d : ℕ) where
   pub stored-in : (n m : ℕ) → conditionStored w d n m ≡ true
-      → (tab w n d ≡ postfix (treeOf (tab w n d))) × (size (treeOf (tab w n d)) ≡ n) × (termsBelow m (treeOf (tab w n d)) ≡ true) × (depth (treeOf (tab w n d)) ≤ depthLimit)
+      → let c = treeOf (tab w n d) in
+      (tab w n d ≡ postfix c) × (size c ≡ n) × (termsBelow m c ≡ true) × (depth c ≤ depthLimit)
   unfolding conditionStored
   stored-in n m e =
       let r = condition-in m (tab w n d) e in

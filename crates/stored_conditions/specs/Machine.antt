@@ -1,4 +1,5 @@
--- One pass over postfix words with a stack, for any meaning of a term, NOT and the operators.
+-- A helper: one word of a pass over postfix words with a stack, for any meaning of a term, NOT and the operators.
+-- `pass-postfix` and `pass-one` of proofs/Passes tie the whole pass to model's `postfix`.
 use mathlib.Core.List.{List, [], _∷_}
 use mathlib.Core.Bool.{Bool}
 use mathlib.Core.Option.{Option, none, some}
@@ -6,7 +7,7 @@ use Prim.Native.Nat.{ℕ, zero, suc, _-_}
 use lib.Dec.{leb, ltb, eqb}
 use lib.ListN.{length, getD}
 use Rattle.model.specs.Basic.{if_then_else_}
-use Rattle.model.specs.Block.{Op, and, or, Condition, term, neg, two}
+use Rattle.model.specs.Block.{Op, and, or}
 
 -- known: which terms there are; fine: what may stand on the stack
 pub record Meaning (A : Type 0) : Type 0 where
@@ -15,11 +16,6 @@ pub record Meaning (A : Type 0) : Type 0 where
   pub join : Op → A → A → A
   pub fine : A → Bool
   pub known : ℕ → Bool
-
-unfoldable pub fold : {A : Type 0} → Meaning A → Condition → A
-fold g (term t) = g .leaf t
-fold g (neg c) = g .no (fold g c)
-fold g (two o a b) = g .join o (fold g a) (fold g b)
 
 -- places on the stack: no condition of eight parentheses needs more
 abbrev pub room : ℕ
@@ -47,10 +43,6 @@ step g w st =
 unfoldable pub turn : {A : Type 0} → Meaning A → ℕ → Option (List A) → Option (List A)
 turn g w none = none
 turn g w (some st) = step g w st
-
-unfoldable pub pass : {A : Type 0} → Meaning A → List ℕ → Option (List A) → Option (List A)
-pass g [] s = s
-pass g (w ∷ ws) s = pass g ws (turn g w s)
 
 -- the first n of an array as a stack, the last on top
 unfoldable pub stackOf : {A : Type 0} → A → List A → ℕ → List A

@@ -1,14 +1,14 @@
--- The machine that keeps of each subtree its form and depth: which words it accepts.
-use mathlib.Core.List.{List, [], _∷_}
-use mathlib.Core.Bool.{Bool, true, false}
+-- A helper: the machine that keeps of each subtree its form and depth, and the code's stack as that machine's. The law
+-- `accepts-is` of proofs/Accepted ties what it accepts to model's `treeOf`, `termsBelow` and `depth`.
+use mathlib.Core.List.{List}
 use mathlib.Core.Option.{Option, none, some}
 use Prim.Native.Nat.{ℕ, max}
 use lib.Dec.{leb, ltb}
 use Rattle.model.specs.Basic.{if_then_else_}
 use Rattle.model.specs.Bounds.{depthLimit}
 use Rattle.model.specs.Block.{Op}
-use Rattle.model.specs.Parentheses.{rank, negatedForm, besideNot, leftOf, rightOf, opened}
-use Rattle.stored_conditions.specs.Machine.{Meaning, pass, stackOf}
+use Rattle.model.specs.Parentheses.{rank, negatedForm, bareBehindNot, bareLeft, bareRight, opened}
+use Rattle.stored_conditions.specs.Machine.{Meaning, stackOf}
 use Rattle.stored_conditions.specs.declared.Shape.{Shape}
 use Rattle.stored_conditions.specs.declared.Stack.{Stack}
 
@@ -16,10 +16,11 @@ abbrev pub shape : ℕ → ℕ → Shape
 shape k d = record { form = k; depth = d }
 
 unfoldable pub negatedShape : Shape → Shape
-negatedShape a = shape (negatedForm (a .form)) (opened besideNot (a .form) (a .depth))
+negatedShape a = shape (negatedForm (a .form)) (opened bareBehindNot (a .form) (a .depth))
 
 unfoldable pub joinedShape : Op → Shape → Shape → Shape
-joinedShape o a b = shape (rank o) (max (opened (leftOf o) (a .form) (a .depth)) (opened (rightOf o) (b .form) (b .depth)))
+joinedShape o a b =
+    shape (rank o) (max (opened (bareLeft o) (a .form) (a .depth)) (opened (bareRight o) (b .form) (b .depth)))
 
 abbrev pub shapes : ℕ → Meaning Shape
 shapes m = record {
@@ -29,15 +30,6 @@ shapes m = record {
   fine = λ a. leb (a .depth) depthLimit;
   known = λ t. ltb t m;
 }
-
-abbrev pub isOne : {A : Type 0} → Option (List A) → Bool
-isOne none = false
-isOne (some []) = false
-isOne (some (x ∷ [])) = true
-isOne (some (x ∷ y ∷ st)) = false
-
-unfoldable pub accepts : ℕ → List ℕ → Bool
-accepts m ws = isOne (pass (shapes m) ws (some []))
 
 abbrev pub shapeStack : List Shape → ℕ → List Shape
 shapeStack = stackOf (shape 0 0)

@@ -1,4 +1,5 @@
--- Which words of an image are a condition.
+-- A helper: which words of an image are a condition, in model's own definitions. What that means of the tree is said by
+-- `stored-in` and `stored-at` of proofs/Stored.
 use mathlib.Core.Bool.{Bool, _&&_}
 use mathlib.Core.List.{List}
 use Prim.Native.Nat.{ℕ}

@@ -186,7 +186,7 @@ pub fn same_name(img: &[u8], o: usize, q: usize) -> bool
 
 // The name at o is none of those of the entries from i on, below n, of the table at q.
 pub fn absent_ok(img: &[u8], o: usize, q: usize, s: usize, i: usize, n: usize) -> bool
-    requires { ⌜ (o ≤ 900000000000) × ((q ≤ 100000000000) × ((s ≤ 11) × (n ≤ 4294967295))) ⌝ }
+    requires { ⌜ (o ≤ 900000000000) × ((q ≤ 200000000000) × ((s ≤ 11) × (n ≤ 4294967295))) ⌝ }
     ensures { λ r. ⌜ r ≡ absent same (tab (wordAt (now (img .entry))) 4 o) (tab (wordsIn (wordAt (now (img .entry))) q s) (n - i) i) ⌝ }
 {
     let mut j = i;
@@ -201,7 +201,7 @@ pub fn absent_ok(img: &[u8], o: usize, q: usize, s: usize, i: usize, n: usize) -
 
 // The names of a table of n entries of s words are distinct.
 pub fn distinct_ok(img: &[u8], o: usize, s: usize, n: usize) -> bool
-    requires { ⌜ (o ≤ 100000000000) × ((s ≤ 11) × (n ≤ 4294967295)) ⌝ }
+    requires { ⌜ (o ≤ 200000000000) × ((s ≤ 11) × (n ≤ 4294967295)) ⌝ }
     ensures { λ r. ⌜ r ≡ distinct same (tab (wordsIn (wordAt (now (img .entry))) o s) n 0) ⌝ }
 {
     let mut i: usize = 0;
@@ -216,7 +216,7 @@ pub fn distinct_ok(img: &[u8], o: usize, s: usize, n: usize) -> bool
 
 // No name of the first table stands in the second.
 pub fn apart_ok(img: &[u8], o: usize, s: usize, n: usize, q: usize, t: usize, m: usize) -> bool
-    requires { ⌜ (o ≤ 100000000000) × ((s ≤ 11) × ((n ≤ 4294967295) × ((q ≤ 100000000000) × ((t ≤ 11) × (m ≤ 4294967295))))) ⌝ }
+    requires { ⌜ (o ≤ 200000000000) × ((s ≤ 11) × ((n ≤ 4294967295) × ((q ≤ 200000000000) × ((t ≤ 11) × (m ≤ 4294967295))))) ⌝ }
     ensures { λ r. ⌜ r ≡ apart same (tab (wordsIn (wordAt (now (img .entry))) o s) n 0) (tab (wordsIn (wordAt (now (img .entry))) q t) m 0) ⌝ }
 {
     let mut i: usize = 0;

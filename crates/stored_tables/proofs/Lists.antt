@@ -1,25 +1,16 @@
--- Lists of tests, and what a comparison of a number that was read says of the word that it is.
-use mathlib.Core.Path.{_≡_, refl, sym, _∙_}
+-- The tests of the header, and what a comparison of a number that was read says of the word that it is.
+use mathlib.Core.Path.{_≡_, refl, sym, ap, _∙_}
 use mathlib.Core.List.{List, [], _∷_, _++_}
 use mathlib.Core.Bool.{Bool, true, false, _&&_}
-use Prim.Native.Nat.{ℕ, zero, suc, _*_, _≤_, _<_}
+use Prim.Native.Nat.{ℕ, _+_, _*_, _≤_, _<_}
 use native.Mathlib.Omega.{arith}
 use lib.Dec.{leb, eqb}
-use lib.ListN.{getD}
 use borrow.Author.Tests.{eq-eqb, ne-eqb, le-leb, lt-leb}
 use Rattle.model.specs.Basic.{every}
+use Rattle.header.specs.declared.Header.{Header}
+use Rattle.header.specs.Header.{Heads}
 use Rattle.layout.specs.Tables.{headerOk}
 use Rattle.stored_tables.specs.Tests.{offsetTests, codeTests}
-
-pub clash : {X : Type 0} → false ≡ true → X
-clash h = let z : _≡_ {A = ℕ} 0 1 = cc in absurd (omega arith)
-
-pub fails : (bs : List Bool) (k : ℕ) → getD bs k true ≡ false → every bs ≡ false
-unfolding every
-fails [] k h = h
-fails (b ∷ bs) zero h = rw h
-fails (true ∷ bs) (suc k) h = fails bs k h
-fails (false ∷ bs) (suc k) h = refl
 
 every-append : (xs ys : List Bool) → every (xs ++ ys) ≡ every xs && every ys
 unfolding every
@@ -27,11 +18,23 @@ every-append [] ys = refl
 every-append (true ∷ xs) ys = every-append xs ys
 every-append (false ∷ xs) ys = refl
 
-pub header-spelt : (w : ℕ → ℕ) → every (offsetTests w) && every (codeTests w) ≡ headerOk w
+pub header-spelt : (w : ℕ → ℕ) (h : Header) → Heads w h → every (offsetTests w h) && every (codeTests w) ≡ headerOk w
 unfolding headerOk
-header-spelt w =
-    let e : w 7 * 1 ≡ w 7 = omega arith in
-    sym (every-append (offsetTests w) (codeTests w)) ∙ rw e
+header-spelt w h e =
+    let one : w 7 * 1 ≡ w 7 = omega arith in
+    let ends = e .conclusion-table in
+    sym (every-append (offsetTests w h) (codeTests w))
+    ∙ (λ j. every (
+    eqb (w 0) 1
+    ∷ eqb (e .input-table j) 28
+    ∷ eqb (e .output-table j) (e .input-table j + e .inputs j * 7)
+    ∷ eqb (e .term-table j) (e .output-table j + e .outputs j * 11)
+    ∷ eqb (e .point-table j) (e .term-table j + e .terms j * 6)
+    ∷ eqb (e .rule-table j) (e .point-table j + e .points j * 2)
+    ∷ eqb (e .word-table j) (e .rule-table j + e .rules j * 6)
+    ∷ eqb (ends j) (e .word-table j + (ap (λ (k : ℕ). k * 1) (e .words) ∙ one) j)
+    ∷ eqb (w 1) (ends j + e .conclusions j * 2)
+    ∷ codeTests w))
 
 module _ (r x m : ℕ) (e : r ≡ x) where
   pub equal : r ≡ m → eqb x m ≡ true

@@ -9,12 +9,11 @@ use lib.ListN.{length, take, getD}
 use borrow.Author.Tests.{eq-eqb, eqb-true}
 use Rattle.model.specs.Basic.{run, gather}
 use Rattle.model.specs.Image.{wordAt, wordBytes, bytesOf, nameWords, nameAt, tab}
-use Rattle.laws.proofs.Tests.{iff}
+use Rattle.laws.proofs.Tests.{iff, clash}
 use Rattle.words.proofs.Bytes.{words-at}
 use Rattle.layout.specs.Tables.{nameExact}
 use Rattle.layout.proofs.RowLaws.{stands, stood}
 use Rattle.stored_tables.specs.Tests.{padStep, padRun}
-use Rattle.stored_tables.proofs.Lists.{clash}
 
 abbrev trim : List ℕ → List ℕ
 trim l = take (run (λ c. not (eqb c 0)) l) l
@@ -58,7 +57,8 @@ unfolding padRun padStep run
 padded [] h k = refl
 padded (c ∷ l) h k = go (λ g. padded l g) (eqb c 0) refl k
   where
-    go : (leb (padRun 0 l) 1 ≡ true → (j : ℕ) → getD (trim l) j 0 ≡ getD l j 0) → (b : Bool) → eqb c 0 ≡ b → (k : ℕ) → getD (trim (c ∷ l)) k 0 ≡ getD (c ∷ l) k 0
+    go : (leb (padRun 0 l) 1 ≡ true → (j : ℕ) → getD (trim l) j 0 ≡ getD l j 0) → (b : Bool) → eqb c 0 ≡ b
+        → (k : ℕ) → getD (trim (c ∷ l)) k 0 ≡ getD (c ∷ l) k 0
     go ih true e zero = ap (λ (t : List ℕ). getD t 0 0) (trim-zero c l e) ∙ sym (eqb-true c 0 e)
     go ih true e (suc k) = ap (λ (t : List ℕ). getD t (suc k) 0) (trim-zero c l e) ∙ zeros l (simp e at h) k
     go ih false e zero = ap (λ (t : List ℕ). getD t 0 0) (trim-more c l e)
@@ -110,9 +110,15 @@ module _ (w : ℕ → ℕ) (o : ℕ) where
       agrees k g =
           let a = stands w o 4 (nameWords (trim bytes)) h in
           let b = words-at (tab w 4 o) in
-          let words : (i : ℕ) → i < 4 → wordAt (trim bytes) i ≡ wordAt bytes i = go (trim bytes) bytes (a .0) (a .1 .0) (a .1 .1 .0) (a .1 .1 .1 .0) (b .0) (b .1 .0) (b .1 .1 .0) (b .1 .1 .1 .0) in
+          let a2 = a .1 .1 in
+          let b2 = b .1 .1 in
+          let words : (i : ℕ) → i < 4 → wordAt (trim bytes) i ≡ wordAt bytes i =
+          go (trim bytes) bytes (a .0) (a .1 .0) (a2 .0) (a2 .1 .0) (b .0) (b .1 .0) (b2 .0) (b2 .1 .0) in
           let e : k / 4 * 4 + k % 4 ≡ k = omega arith in
-          ap (λ (j : ℕ). getD (trim bytes) j 0) (sym e) ∙ byte-agree (trim bytes) bytes (below bytes) (k / 4) (k % 4) (omega arith) (words (k / 4) (omega arith)) ∙ ap (λ (j : ℕ). getD bytes j 0) e
+          let there = words (k / 4) (omega arith) in
+          ap (λ (j : ℕ). getD (trim bytes) j 0) (sym e)
+          ∙ byte-agree (trim bytes) bytes (below bytes) (k / 4) (k % 4) (omega arith) there
+          ∙ ap (λ (j : ℕ). getD bytes j 0) e
         where
           go : {x y z u : ℕ} (s l : List ℕ) → x ≡ wordAt s 0 → y ≡ wordAt s 1 → z ≡ wordAt s 2 → u ≡ wordAt s 3
               → wordAt l 0 ≡ x → wordAt l 1 ≡ y → wordAt l 2 ≡ z → wordAt l 3 ≡ u → (i : ℕ) → i < 4 → wordAt s i ≡ wordAt l i

@@ -18,7 +18,7 @@ use Rattle.laws.proofs.Tests.{and-i, and-assoc}
 use Rattle.laws.proofs.Places.{length-tab}
 use Rattle.layout.specs.Tables.{inputRow, inputNext, outputRow, outputNext, termRow, termNext, outputTermAt, outputPointAt, inputCount, outputCount, termCount, nameExact}
 use Rattle.layout.proofs.Whole.{word-crisp}
-use Rattle.stored_tables.specs.Tests.{rangeTest, defaultTest, inputTest, outputTest, termTest, outputTermTest}
+use Rattle.stored_tables.specs.Tests.{rangeTest, defaultTest, inputTest, outputTest, termTest, singletonTest}
 
 same-append : (xs ys us bs : List ℕ) → length xs ≡ length ys → same (xs ++ us) (ys ++ bs) ≡ same xs ys && same us bs
 same-append [] [] us bs e = refl
@@ -26,6 +26,11 @@ same-append [] (y ∷ ys) us bs e = absurd (omega arith)
 same-append (x ∷ xs) [] us bs e = absurd (omega arith)
 same-append (x ∷ xs) (y ∷ ys) us bs e =
     ap (λ (b : Bool). eqb x y && b) (same-append xs ys us bs (omega arith)) ∙ sym (and-assoc (eqb x y) (same xs ys) (same us bs))
+
+last-out : (a b c : Bool) → a && (b && (c && true)) ≡ (a && (b && true)) && c
+last-out true true c = and-true c
+last-out true false c = refl
+last-out false b c = refl
 
 type-code : (x : ℕ) → eqb x (typeWord (if eqb x 0 then Real else Int)) ≡ leb x 1
 type-code zero = refl
@@ -94,29 +99,33 @@ module _ (w : ℕ → ℕ) where
       let last = counted (pointAt w) (suc (o + 4)) (o + 5) (w (o + 4)) e5 in
       row-name 2 o (p ∷ length (termAt w i .points) ∷ []) ∙ (λ j. nameExact w o && (eqb (w (o + 4)) p && last j))
 
-  pub output-term-row : (i p : ℕ) → same (tab w 6 (w 11 + i * 6)) (termRow p (outputTermAt w i)) ≡ outputTermTest w (w 11 + i * 6) p
-  unfolding outputTermTest singletonAt every tab
+  pub output-term-row : (i p : ℕ) → same (tab w 6 (w 11 + i * 6)) (termRow p (outputTermAt w i)) ≡ singletonTest w (w 11 + i * 6) p
+  unfolding singletonTest termTest singletonAt every tab
   output-term-row i p =
       let o = w 11 + i * 6 in
       let e5 : suc (o + 4) ≡ o + 5 = omega arith in
-      row-name 2 o (p ∷ 1 ∷ []) ∙ (λ j. nameExact w o && (eqb (w (o + 4)) p && (eqb (w (e5 j)) 1 && true)))
+      row-name 2 o (p ∷ 1 ∷ [])
+      ∙ (λ j. nameExact w o && (eqb (w (o + 4)) p && (eqb (w (e5 j)) 1 && true)))
+      ∙ last-out (nameExact w o) (eqb (w (o + 4)) p) (eqb (w (o + 5)) 1)
 
   module _ (fits : (k : ℕ) → w k ≤ 4294967295) where
-    range-row : (o a b : ℕ) → a ≡ o + 1 → b ≡ o + 2
-        → same (tab w 3 o) (rangeWords (if eqb (w o) 0 then none else some (record { least = crispOf (w a); most = crispOf (w b) }))) ≡ rangeTest w o
+    range-row : (o : ℕ)
+        → same (tab w 3 (o + 6)) (rangeWords (if eqb (w (o + 6)) 0 then none else some (record { least = crispOf (w (o + 7)); most = crispOf (w (o + 8)) })))
+        ≡ rangeTest w o
     unfolding rangeTest tab
-    range-row o a b ea eb =
-        let e1 : suc o ≡ o + 1 = omega arith in
-        let e2 : suc (suc o) ≡ o + 2 = omega arith in
-        (λ j. same (w o ∷ w (e1 j) ∷ w (e2 j) ∷ []) (rangeWords (if eqb (w o) 0 then none else some (record { least = crispOf (w (ea j)); most = crispOf (w (eb j)) }))))
-        ∙ range-case (w o) (w (o + 1)) (w (o + 2)) (fits (o + 1)) (fits (o + 2))
+    range-row o =
+        let e1 : suc (o + 6) ≡ o + 7 = omega arith in
+        let e2 : suc (suc (o + 6)) ≡ o + 8 = omega arith in
+        let g : Option Range = if eqb (w (o + 6)) 0 then none else some (record { least = crispOf (w (o + 7)); most = crispOf (w (o + 8)) }) in
+        (λ j. same (w (o + 6) ∷ w (e1 j) ∷ w (e2 j) ∷ []) (rangeWords g))
+        ∙ range-case (w (o + 6)) (w (o + 7)) (w (o + 8)) (fits (o + 7)) (fits (o + 8))
 
-    default-row : (o a : ℕ) → a ≡ o + 1 → same (tab w 2 o) (defaultWords (if eqb (w o) 0 then none else some (crispOf (w a)))) ≡ defaultTest w o
+    default-row : (o : ℕ) → same (tab w 2 (o + 9)) (defaultWords (if eqb (w (o + 9)) 0 then none else some (crispOf (w (o + 10))))) ≡ defaultTest w o
     unfolding defaultTest tab
-    default-row o a ea =
-        let e1 : suc o ≡ o + 1 = omega arith in
-        (λ j. same (w o ∷ w (e1 j) ∷ []) (defaultWords (if eqb (w o) 0 then none else some (crispOf (w (ea j))))))
-        ∙ default-case (w o) (w (o + 1)) (fits (o + 1))
+    default-row o =
+        let e1 : suc (o + 9) ≡ o + 10 = omega arith in
+        (λ j. same (w (o + 9) ∷ w (e1 j) ∷ []) (defaultWords (if eqb (w (o + 9)) 0 then none else some (crispOf (w (o + 10))))))
+        ∙ default-case (w (o + 9)) (w (o + 10)) (fits (o + 10))
 
     pub output-row : (i p : ℕ) → same (tab w 11 (w 10 + i * 11)) (outputRow p (outputAt w i)) ≡ outputTest w (w 10 + i * 11) p
     unfolding outputTest outputAt every tab
@@ -127,11 +136,12 @@ module _ (w : ℕ → ℕ) where
         let e5 : suc (o + 4) ≡ o + 5 = omega arith in
         let e6 : suc (suc (o + 4)) ≡ o + 6 = omega arith in
         let e9 : o + 6 + 3 ≡ o + 9 = omega arith in
-        let count : eqb (w (suc (o + 4))) (length (outputAt w i .terms)) ≡ true = eq-eqb _ _ (ap w e5 ∙ sym (length-tab (singletonAt w) (w (o + 5)) (w (o + 4)))) in
-        let range : same (tab w 3 (o + 6)) R ≡ rangeTest w (o + 6) = range-row (o + 6) (o + 7) (o + 8) (omega arith) (omega arith) in
-        let default : same (tab w 2 (o + 6 + 3)) D ≡ defaultTest w (o + 9) && true =
-        ap (λ (k : ℕ). same (tab w 2 k) D) e9 ∙ default-row (o + 9) (o + 10) (omega arith) ∙ sym (and-true (defaultTest w (o + 9))) in
-        let tail : same (tab w 5 (suc (suc (o + 4)))) (R ++ D) ≡ rangeTest w (o + 6) && (defaultTest w (o + 9) && true) =
+        let long = length-tab (singletonAt w) (w (o + 5)) (w (o + 4)) in
+        let count : eqb (w (suc (o + 4))) (length (outputAt w i .terms)) ≡ true = eq-eqb _ _ (ap w e5 ∙ sym long) in
+        let range : same (tab w 3 (o + 6)) R ≡ rangeTest w o = range-row o in
+        let default : same (tab w 2 (o + 6 + 3)) D ≡ defaultTest w o && true =
+        ap (λ (k : ℕ). same (tab w 2 k) D) e9 ∙ default-row o ∙ sym (and-true (defaultTest w o)) in
+        let tail : same (tab w 5 (suc (suc (o + 4)))) (R ++ D) ≡ rangeTest w o && (defaultTest w o && true) =
         ap (λ (k : ℕ). same (tab w 5 k) (R ++ D)) e6
         ∙ ap (λ (l : List ℕ). same l (R ++ D)) (tab-append w 3 2 (o + 6))
         ∙ same-append (tab w 3 (o + 6)) R (tab w 2 (o + 6 + 3)) D (sym (range-long (outputAt w i .range)))

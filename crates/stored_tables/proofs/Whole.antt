@@ -1,4 +1,4 @@
--- The tests of terms and points, after those of the header and the variables, are all that is left of the frame.
+-- The tests of terms and points, after those of the header and the variables, are all that is left of `tablesOk`.
 use mathlib.Core.Path.{_≡_, sym, _∙_}
 use mathlib.Core.Bool.{Bool, true, false}
 use Prim.Native.Nat.{ℕ, _+_, _-_, _<_}
@@ -6,11 +6,10 @@ use native.Mathlib.Omega.{arith}
 use lib.Dec.{eqb}
 use borrow.Author.Tests.{eq-eqb, ne-eqb}
 use Rattle.model.specs.Basic.{every}
-use Rattle.laws.proofs.Tests.{passed, pass, iff}
+use Rattle.laws.proofs.Tests.{passed, pass, iff, clash}
 use Rattle.layout.specs.Tables.{inputTermsIn, outputTermsIn, headerOk, inputRows, outputRows, inputTermRows, outputTermRows, outputPointRows}
 use Rattle.layout.specs.Groups.{tablesOk}
 use Rattle.stored_tables.specs.Tests.{termTests}
-use Rattle.stored_tables.proofs.Lists.{clash}
 
 pub refuses : {X : Type 0} (ok b : Bool) → ok ≡ false → b ≡ false → (ok ≡ b) × (ok ≡ true → X)
 refuses ok b e f = (e ∙ sym f, λ q. clash (sym e ∙ q))
@@ -30,11 +29,11 @@ module _ (t x k a b : ℕ) (et : t ≡ x) (ek : k ≡ a) where
     pub rest-are : s ≡ t → t - k ≡ b
     rest-are h = omega arith
 
-pub frame-left : (w : ℕ → ℕ) (k n : ℕ) → k ≡ inputTermsIn w → n ≡ outputTermsIn w
+pub tables-left : (w : ℕ → ℕ) (k n : ℕ) → k ≡ inputTermsIn w → n ≡ outputTermsIn w
     → headerOk w ≡ true → inputRows w ≡ true → outputRows w ≡ true → eqb (w 4) (inputTermsIn w + outputTermsIn w) ≡ true
     → every (termTests w k n) ≡ tablesOk w
 unfolding tablesOk inputTermRows outputTermRows outputPointRows
-frame-left w k n ek en a b c d =
+tables-left w k n ek en a b c d =
     (λ j. every (termTests w (ek j) (en j))) ∙ iff (every (termTests w (inputTermsIn w) (outputTermsIn w))) (tablesOk w) to from
   where
     to : every (termTests w (inputTermsIn w) (outputTermsIn w)) ≡ true → tablesOk w ≡ true

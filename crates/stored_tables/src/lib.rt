@@ -1,4 +1,4 @@
-// The header and the tables of inputs, outputs, terms and points of a stored image: whether they are laid out as a block's.
+// Header and tables of inputs, outputs, terms and points of a stored image: whether they are laid out as a block's.
 ghost use mathlib.Core.Path.{_≡_};
 ghost use mathlib.Core.Bool.{true, false};
 ghost use Prim.Native.Nat.{_+_, _*_, _≤_};
@@ -7,11 +7,13 @@ ghost use Rattle.model.specs.Basic.{every};
 ghost use Rattle.model.specs.Image.{wordAt, wordBytes};
 ghost use Rattle.layout.specs.Tables.{sums, termCount, inputTermsIn, outputTermsIn, inputRows, nameExact, headerOk};
 ghost use Rattle.layout.specs.Groups.{tablesOk};
-ghost use Rattle.stored_tables.specs.Tests.{padStep, padRun, rangeTest, defaultTest, inputTest, outputTest, termTest, outputTermTest, offsetTests, codeTests, outputRowsFrom, termRowsTo, outputTermRowsFrom, outputPointsFrom, termTests};
+ghost use Rattle.header.specs.Header.{Heads};
+ghost use Rattle.stored_tables.specs.Tests.{padStep, padRun, rangeTest, defaultTest, inputTest, outputTest, termTest, singletonTest, offsetTests, codeTests, outputRowsFrom, termRowsTo, outputTermRowsFrom, outputPointsFrom, termTests};
+use header::Header;
 use words::word;
 
 // The terms of inputs stand before those of outputs.
-pub struct Tables {
+pub struct Laid {
     pub ok: bool,
     pub input_terms: usize,
 }
@@ -57,242 +59,247 @@ fn name_exact(img: &[u8], o: usize) -> bool
     pad_word(c, word(img, o + 3)) <= 1
 }
 
-// The table whose offset is word o and whose count of rows is word n ends where word e says.
-fn follows(img: &[u8], e: usize, o: usize, n: usize, s: usize) -> bool
-    requires { ⌜ (e ≤ 15) × ((o ≤ 15) × ((n ≤ 15) × (s ≤ 11))) ⌝ }
-    ensures { λ r. ⌜ r ≡ eqb (wordAt (now (img .entry)) e) (wordAt (now (img .entry)) o + wordAt (now (img .entry)) n * s) ⌝ }
+// A table that starts at a, of n rows of s words, ends at e.
+fn follows(e: usize, a: usize, n: usize, s: usize) -> bool
+    requires { ⌜ (a ≤ 4294967295) × ((n ≤ 4294967295) × (s ≤ 11)) ⌝ }
+    ensures { λ r. ⌜ r ≡ eqb e (a + n * s) ⌝ }
 {
-    let x = word(img, e);
-    let a = word(img, o);
-    let k = word(img, n);
-    x == a + k * s
+    e == a + n * s
 }
 
-fn offsets_ok(img: &[u8]) -> bool
-    ensures { λ r. ⌜ r ≡ every (offsetTests (wordAt (now (img .entry)))) ⌝ }
+fn offsets_ok(img: &[u8], h: Header) -> bool
+    requires { ⌜ Heads (wordAt (now img)) h ⌝ }
+    ensures { λ r. ⌜ r ≡ every (offsetTests (wordAt (now (img .entry))) h) ⌝ }
 {
-    if word(img, 0) != 1 {
+    if word(img, header::LAYOUT) != header::layout_word() {
         return false;
     }
-    if word(img, 9) != 28 {
+    if h.input_table != header::SIZE {
         return false;
     }
-    if !follows(img, 10, 9, 2, 7) {
+    if !follows(h.output_table, h.input_table, h.inputs, header::INPUT_WIDTH) {
         return false;
     }
-    if !follows(img, 11, 10, 3, 11) {
+    if !follows(
+        h.term_table,
+        h.output_table,
+        h.outputs,
+        header::OUTPUT_WIDTH,
+    ) {
         return false;
     }
-    if !follows(img, 12, 11, 4, 6) {
+    if !follows(h.point_table, h.term_table, h.terms, header::TERM_WIDTH) {
         return false;
     }
-    if !follows(img, 13, 12, 5, 2) {
+    if !follows(h.rule_table, h.point_table, h.points, header::POINT_WIDTH) {
         return false;
     }
-    if !follows(img, 14, 13, 6, 6) {
+    if !follows(h.word_table, h.rule_table, h.rules, header::RULE_WIDTH) {
         return false;
     }
-    if !follows(img, 15, 14, 7, 1) {
+    if !follows(
+        h.conclusion_table,
+        h.word_table,
+        h.words,
+        header::WORD_WIDTH,
+    ) {
         return false;
     }
-    if !follows(img, 1, 15, 8, 2) {
-        return false;
-    }
-    true
+    let total = word(img, header::TOTAL);
+    follows(
+        total,
+        h.conclusion_table,
+        h.conclusions,
+        header::CONCLUSION_WIDTH,
+    )
 }
 
 fn codes_ok(img: &[u8]) -> bool
     ensures { λ r. ⌜ r ≡ every (codeTests (wordAt (now (img .entry)))) ⌝ }
 {
-    if 2 < word(img, 16) {
+    if header::LAST_PAIR < word(img, header::PAIR) {
         return false;
     }
-    if 1 < word(img, 17) {
+    if header::LAST_ACCU < word(img, header::ACCU) {
         return false;
     }
-    if 1 < word(img, 18) {
+    if header::LAST_ACT < word(img, header::ACT) {
         return false;
     }
-    if word(img, 19) != 0 {
+    if word(img, header::SPARE) != 0 {
         return false;
     }
-    if !name_exact(img, 20) {
+    if !name_exact(img, header::BLOCK_NAME) {
         return false;
     }
-    if !name_exact(img, 24) {
+    if !name_exact(img, header::RULE_BLOCK_NAME) {
         return false;
     }
     true
 }
 
-fn header_ok(img: &[u8]) -> bool
+fn header_ok(img: &[u8], h: Header) -> bool
+    requires { ⌜ Heads (wordAt (now img)) h ⌝ }
     ensures { λ r. ⌜ r ≡ headerOk (wordAt (now (img .entry))) ⌝ }
 {
-    if !offsets_ok(img) {
+    if !offsets_ok(img, h) {
         return false;
     }
     codes_ok(img)
 }
 
-// RANGE is there, or its words are 0.
+// RANGE of the output whose row starts at o is given, or its words are 0.
 fn range_ok(img: &[u8], o: usize) -> bool
     requires { ⌜ o ≤ 900000000000 ⌝ }
     ensures { λ r. ⌜ r ≡ rangeTest (wordAt (now (img .entry))) o ⌝ }
 {
-    let flag = word(img, o);
+    let flag = word(img, o + header::OUTPUT_RANGE);
     if flag == 0 {
-        if word(img, o + 1) != 0 {
+        if word(img, o + header::OUTPUT_LEAST) != 0 {
             return false;
         }
-        return word(img, o + 2) == 0;
+        return word(img, o + header::OUTPUT_MOST) == 0;
     }
-    flag == 1
+    flag == header::GIVEN
 }
 
-// The default is a value, or its word is 0.
+// DEFAULT of that output is a value, or its word is 0.
 fn default_ok(img: &[u8], o: usize) -> bool
     requires { ⌜ o ≤ 900000000000 ⌝ }
     ensures { λ r. ⌜ r ≡ defaultTest (wordAt (now (img .entry))) o ⌝ }
 {
-    let kind = word(img, o);
+    let kind = word(img, o + header::OUTPUT_DEFAULT_KIND);
     if kind == 0 {
-        return word(img, o + 1) == 0;
+        return word(img, o + header::OUTPUT_DEFAULT) == 0;
     }
-    kind == 1
+    kind == header::GIVEN
 }
 
-fn input_row(img: &[u8], o: usize, p: usize) -> bool
+fn input_ok(img: &[u8], o: usize, p: usize) -> bool
     requires { ⌜ o ≤ 800000000000 ⌝ }
     ensures { λ r. ⌜ r ≡ inputTest (wordAt (now (img .entry))) o p ⌝ }
 {
     if !name_exact(img, o) {
         return false;
     }
-    if 1 < word(img, o + 4) {
+    if header::LAST_TYPE < word(img, o + header::INPUT_TYPE) {
         return false;
     }
-    if word(img, o + 5) != p {
+    if word(img, o + header::INPUT_FIRST) != p {
         return false;
     }
     true
 }
 
-fn output_row(img: &[u8], o: usize, p: usize) -> bool
+fn output_ok(img: &[u8], o: usize, p: usize) -> bool
     requires { ⌜ o ≤ 800000000000 ⌝ }
     ensures { λ r. ⌜ r ≡ outputTest (wordAt (now (img .entry))) o p ⌝ }
 {
     if !name_exact(img, o) {
         return false;
     }
-    if word(img, o + 4) != p {
+    if word(img, o + header::OUTPUT_FIRST) != p {
         return false;
     }
-    if !range_ok(img, o + 6) {
+    if !range_ok(img, o) {
         return false;
     }
-    if !default_ok(img, o + 9) {
+    if !default_ok(img, o) {
         return false;
     }
     true
 }
 
-fn term_row(img: &[u8], o: usize, p: usize) -> bool
+fn term_ok(img: &[u8], o: usize, p: usize) -> bool
     requires { ⌜ o ≤ 800000000000 ⌝ }
     ensures { λ r. ⌜ r ≡ termTest (wordAt (now (img .entry))) o p ⌝ }
 {
     if !name_exact(img, o) {
         return false;
     }
-    if word(img, o + 4) != p {
+    if word(img, o + header::TERM_FIRST) != p {
         return false;
     }
     true
 }
 
-fn output_term_row(img: &[u8], o: usize, p: usize) -> bool
+// A term of an output has one point.
+fn singleton_ok(img: &[u8], o: usize, p: usize) -> bool
     requires { ⌜ o ≤ 800000000000 ⌝ }
-    ensures { λ r. ⌜ r ≡ outputTermTest (wordAt (now (img .entry))) o p ⌝ }
+    ensures { λ r. ⌜ r ≡ singletonTest (wordAt (now (img .entry))) o p ⌝ }
 {
-    if !name_exact(img, o) {
+    if !term_ok(img, o, p) {
         return false;
     }
-    if word(img, o + 4) != p {
-        return false;
-    }
-    if word(img, o + 5) != 1 {
-        return false;
-    }
-    true
+    word(img, o + header::TERM_POINTS) == 1
 }
 
-fn input_rows(img: &[u8]) -> Rows
-    ensures { λ r. ⌜ (r .ok ≡ inputRows (wordAt (now (img .entry)))) × (r .ok ≡ true → r .next ≡ inputTermsIn (wordAt (now (img .entry)))) ⌝ }
+fn input_rows(img: &[u8], h: Header) -> Rows
+    requires { ⌜ Heads (wordAt (now img)) h ⌝ }
+    ensures { λ r. ⌜ (r .ok ≡ inputRows (wordAt (now (img .entry))))
+        × (r .ok ≡ true → r .next ≡ inputTermsIn (wordAt (now (img .entry)))) ⌝ }
 {
-    let n = word(img, 2);
-    let start = word(img, 9);
     let mut p: usize = 0;
     let mut i: usize = 0;
-    while i < n {
-        let o = start + i * 7;
-        if !input_row(img, o, p) {
+    while i < h.inputs {
+        let o = header::input_row(h, i);
+        if !input_ok(img, o, p) {
             return Rows { ok: false, next: p };
         }
-        p += word(img, o + 6);
+        p += word(img, o + header::INPUT_TERMS);
         i += 1;
     }
     Rows { ok: true, next: p }
 }
 
-fn output_rows(img: &[u8], first: usize) -> Rows
-    requires { ⌜ first ≤ 4294967295 ⌝ }
-    ensures { λ r. ⌜ (r .ok ≡ outputRowsFrom (wordAt (now (img .entry))) first) × (r .ok ≡ true → r .next ≡ first + outputTermsIn (wordAt (now (img .entry)))) ⌝ }
+fn output_rows(img: &[u8], h: Header, first: usize) -> Rows
+    requires { ⌜ Heads (wordAt (now img)) h × (first ≤ 4294967295) ⌝ }
+    ensures { λ r. ⌜ (r .ok ≡ outputRowsFrom (wordAt (now (img .entry))) first)
+        × (r .ok ≡ true → r .next ≡ first + outputTermsIn (wordAt (now (img .entry)))) ⌝ }
 {
-    let n = word(img, 3);
-    let start = word(img, 10);
     let mut p = first;
     let mut i: usize = 0;
-    while i < n {
-        let o = start + i * 11;
-        if !output_row(img, o, p) {
+    while i < h.outputs {
+        let o = header::output_row(h, i);
+        if !output_ok(img, o, p) {
             return Rows { ok: false, next: p };
         }
-        p += word(img, o + 5);
+        p += word(img, o + header::OUTPUT_TERMS);
         i += 1;
     }
     Rows { ok: true, next: p }
 }
 
 // The first n terms, which are those of the inputs.
-fn term_rows(img: &[u8], n: usize) -> Rows
-    requires { ⌜ n ≤ 4294967295 ⌝ }
-    ensures { λ r. ⌜ (r .ok ≡ termRowsTo (wordAt (now (img .entry))) n) × (r .ok ≡ true → r .next ≡ sums (termCount (wordAt (now (img .entry)))) n 0) ⌝ }
+fn term_rows(img: &[u8], h: Header, n: usize) -> Rows
+    requires { ⌜ Heads (wordAt (now img)) h × (n ≤ 4294967295) ⌝ }
+    ensures { λ r. ⌜ (r .ok ≡ termRowsTo (wordAt (now (img .entry))) n)
+        × (r .ok ≡ true → r .next ≡ sums (termCount (wordAt (now (img .entry)))) n 0) ⌝ }
     ensures small { λ r. ⌜ r .next ≤ 18446744065119617025 ⌝ }
 {
-    let start = word(img, 11);
     let mut p: usize = 0;
     let mut i: usize = 0;
     while i < n {
-        let o = start + i * 6;
-        if !term_row(img, o, p) {
+        let o = header::term_row(h, i);
+        if !term_ok(img, o, p) {
             return Rows { ok: false, next: p };
         }
-        p += word(img, o + 5);
+        p += word(img, o + header::TERM_POINTS);
         i += 1;
     }
     Rows { ok: true, next: p }
 }
 
 // n terms from s on, of one point each, the first of which is point q.
-fn output_term_rows(img: &[u8], s: usize, n: usize, q: usize) -> bool
-    requires { ⌜ (s ≤ 4294967295) × ((n ≤ 4294967295) × (q ≤ 4294967295)) ⌝ }
+fn singleton_rows(img: &[u8], h: Header, s: usize, n: usize, q: usize) -> bool
+    requires { ⌜ Heads (wordAt (now img)) h × ((s ≤ 4294967295) × ((n ≤ 4294967295) × (q ≤ 4294967295))) ⌝ }
     ensures { λ r. ⌜ r ≡ outputTermRowsFrom (wordAt (now (img .entry))) n s q ⌝ }
 {
-    let start = word(img, 11);
     let e = s + n;
     let mut p = q;
     let mut i = s;
     while i < e {
-        if !output_term_row(img, start + i * 6, p) {
+        if !singleton_ok(img, header::term_row(h, i), p) {
             return false;
         }
         p += 1;
@@ -301,15 +308,15 @@ fn output_term_rows(img: &[u8], s: usize, n: usize, q: usize) -> bool
     true
 }
 
-fn output_points(img: &[u8], s: usize, n: usize) -> bool
-    requires { ⌜ (s ≤ 4294967295) × (n ≤ 4294967295) ⌝ }
+// The n points from s on are of degree 1.
+fn singleton_points(img: &[u8], h: Header, s: usize, n: usize) -> bool
+    requires { ⌜ Heads (wordAt (now img)) h × ((s ≤ 4294967295) × (n ≤ 4294967295)) ⌝ }
     ensures { λ r. ⌜ r ≡ outputPointsFrom (wordAt (now (img .entry))) n s ⌝ }
 {
-    let start = word(img, 12);
     let e = s + n;
     let mut i = s;
     while i < e {
-        if word(img, start + i * 2 + 1) != 1000000 {
+        if word(img, header::point_row(h, i) + header::POINT_DEGREE) != bounds::M {
             return false;
         }
         i += 1;
@@ -318,64 +325,65 @@ fn output_points(img: &[u8], s: usize, n: usize) -> bool
 }
 
 // The terms and points of k input terms and n output terms.
-fn terms_ok(img: &[u8], k: usize, n: usize) -> bool
-    requires { ⌜ (k ≤ 4294967295) × (n ≤ 4294967295) ⌝ }
+fn terms_ok(img: &[u8], h: Header, k: usize, n: usize) -> bool
+    requires { ⌜ Heads (wordAt (now img)) h × ((k ≤ 4294967295) × (n ≤ 4294967295)) ⌝ }
     ensures { λ r. ⌜ r ≡ every (termTests (wordAt (now (img .entry))) k n) ⌝ }
 {
-    let t = term_rows(img, k);
+    let t = term_rows(img, h, k);
     if !t.ok {
         return false;
     }
     let q = t.next;
-    if word(img, 5) != q + n {
+    if h.points != q + n {
         return false;
     }
-    if !output_term_rows(img, k, n, q) {
+    if !singleton_rows(img, h, k, n, q) {
         return false;
     }
-    if !output_points(img, q, n) {
+    if !singleton_points(img, h, q, n) {
         return false;
     }
     true
 }
 
-fn refused() -> Tables
+fn refused() -> Laid
     ensures { λ r. ⌜ (r .ok ≡ false) × (r .«input_terms» ≡ 0) ⌝ }
 {
-    Tables {
+    Laid {
         ok: false,
         input_terms: 0,
     }
 }
 
-pub fn frame(img: &[u8]) -> Tables
-    ensures { λ r. ⌜ (r .ok ≡ tablesOk (wordAt (now (img .entry)))) × (r .ok ≡ true → r .«input_terms» ≡ inputTermsIn (wordAt (now (img .entry)))) ⌝ }
+pub fn tables_ok(img: &[u8], h: Header) -> Laid
+    requires { ⌜ Heads (wordAt (now img)) h ⌝ }
+    ensures { λ r. ⌜ (r .ok ≡ tablesOk (wordAt (now (img .entry))))
+        × (r .ok ≡ true → r .«input_terms» ≡ inputTermsIn (wordAt (now (img .entry)))) ⌝ }
     ensures small { λ r. ⌜ (r .«input_terms» ≤ 4294967295) × (r .ok ≡ false → r .«input_terms» ≡ 0) ⌝ }
 {
-    if !header_ok(img) {
+    if !header_ok(img, h) {
         return refused();
     }
-    let a = input_rows(img);
+    let a = input_rows(img, h);
     if !a.ok {
         return refused();
     }
     let k = a.next;
-    let terms = word(img, 4);
     // so that the totals of the outputs fit in 64 bits
-    if terms < k {
+    if h.terms < k {
         return refused();
     }
-    let b = output_rows(img, k);
+    let b = output_rows(img, h, k);
     if !b.ok {
         return refused();
     }
-    if b.next != terms {
+    if b.next != h.terms {
         return refused();
     }
-    if !terms_ok(img, k, terms - k) {
+    if !terms_ok(img, h, k, h.terms - k) {
         return refused();
     }
-    Tables {
+    Laid {
         ok: true,
         input_terms: k,
     }

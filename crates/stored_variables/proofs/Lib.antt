@@ -1,4 +1,4 @@
-pub mod Crisp
 pub mod Rising
 pub mod Exact
+pub mod Spelt
 pub mod Wellformed

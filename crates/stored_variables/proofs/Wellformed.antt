@@ -16,9 +16,21 @@ use Rattle.stored_names.specs.Stored.{nameStored}
 use Rattle.stored_names.proofs.Tables.{Stored, nameIn, distinct-names, joined-names}
 use Rattle.layout.specs.Tables.{inputCount, outputCount, nameExact}
 use Rattle.layout.specs.Groups.{tablesOk, variablesOk}
-use Rattle.layout.proofs.Parts.{inputFirst, outputFirst}
-use Rattle.stored_variables.specs.Stored.{termStored, termsApart, inputStored, rangeAt, defaultAt, singletonStored, outputStored, variablesApart, variablesStored}
+use Rattle.layout.proofs.Parts.{inputFirst}
+use Rattle.stored_variables.specs.Stored.{termStored, termsApart, inputStored, rangeAt, defaultAt, singletonStored, outputStored, variablesApart}
 use Rattle.stored_variables.proofs.Exact.{Span, no-span, span, Exact, frame-names}
+
+-- all tests, of n inputs and m outputs
+abbrev pub variableTests : (ℕ → ℕ) → ℕ → ℕ → List Bool
+variableTests w n m =
+    nameStored w 20
+    ∷ nameStored w 24
+    ∷ between 1 inputLimit n
+    ∷ between 1 outputLimit m
+    ∷ all (inputStored w) (tab (λ i. i) n 0)
+    ∷ all (outputStored w) (tab (λ i. i) m 0)
+    ∷ variablesApart w
+    ∷ []
 
 -- a test may be changed where the tests before it pass
 under : (a b c d : Bool) → (a ≡ true → b ≡ c) → a && (b && d) ≡ a && (c && d)
@@ -68,9 +80,11 @@ module _ (w : ℕ → ℕ) where
   unfolding termsApart
   apart-same g f s k h =
       let e : (j : ℕ) → w 11 + (s + j) * 6 ≡ w 11 + s * 6 + j * 6 = λ j. omega arith in
-      let p : Stored w (w 11 + s * 6) 6 k 0 = λ j a b. subst (λ (o : ℕ). nameStored w o ≡ true) (e j) (f (s + j) (each-of g k s h (s + j) (omega arith) (omega arith))) in
-      distinct-names w (w 11 + s * 6) 6 k 0 p
-      ∙ ap (λ (l : List (List ℕ)). distinct sameName l) (tab-moved (nameIn w (w 11 + s * 6) 6) (λ t. nameAt w (w 11 + t * 6)) s (λ j. ap (nameAt w) (sym (e j))) k 0 s (omega arith))
+      let q = w 11 + s * 6 in
+      let p : Stored w q 6 k 0 = λ j a b.
+      subst (λ (o : ℕ). nameStored w o ≡ true) (e j) (f (s + j) (each-of g k s h (s + j) (omega arith) (omega arith))) in
+      let moved = tab-moved (nameIn w q 6) (λ t. nameAt w (w 11 + t * 6)) s (λ j. ap (nameAt w) (sym (e j))) k 0 s (omega arith) in
+      distinct-names w q 6 k 0 p ∙ ap (λ (l : List (List ℕ)). distinct sameName l) moved
 
   term-named : (t : ℕ) → termStored w t ≡ true → nameStored w (w 11 + t * 6) ≡ true
   unfolding termStored every
@@ -85,7 +99,9 @@ module _ (w : ℕ → ℕ) where
       let ts = tab (termAt w) k s in
       let a = all (termStored w) (tab (λ t. t) k s) in
       let d : a ≡ true → termsApart w s k ≡ distinct sameName (map (λ t. t .name) ts) =
-      λ h. apart-same (termStored w) term-named s k h ∙ ap (λ (l : List (List ℕ)). distinct sameName l) (sym (unfold termAt in (map-tab (λ t. t .name) (termAt w) k s))) in
+      λ h.
+      apart-same (termStored w) term-named s k h
+      ∙ ap (λ (l : List (List ℕ)). distinct sameName l) (sym (unfold termAt in (map-tab (λ t. t .name) (termAt w) k s))) in
       ap (λ (b : Bool). nameStored w o && (between 1 termLimit k && b)) (under a (termsApart w s k) (distinct sameName (map (λ t. t .name) ts)) true d)
       ∙ (λ j.
       named o e j
@@ -101,7 +117,7 @@ module _ (w : ℕ → ℕ) where
   unfolding singletonStored
   singleton-named o t h = both (nameStored w (w 11 + t * 6)) _ h .0
 
-  output-same : (i : ℕ) → nameExact w (w 10 + i * 11) ≡ true → Exact w (w 11) 6 (outputCount w i) (outputFirst w i) → outputStored w i ≡ outputOk (outputAt w i)
+  output-same : (i : ℕ) → nameExact w (w 10 + i * 11) ≡ true → Exact w (w 11) 6 (outputCount w i) (outputFirstAt w i) → outputStored w i ≡ outputOk (outputAt w i)
   unfolding outputStored outputOk outputAt every rangeAt defaultAt
   output-same i e x =
       let o = w 10 + i * 11 in
@@ -112,8 +128,11 @@ module _ (w : ℕ → ℕ) where
       let a = all (singletonStored w g) (tab (λ t. t) k s) in
       let z = defaultOk g (defaultAt w o) && true in
       let d : a ≡ true → termsApart w s k ≡ distinct sameName (map (λ t. t .name) ts) =
-      λ h. apart-same (singletonStored w g) (singleton-named o) s k h ∙ ap (λ (l : List (List ℕ)). distinct sameName l) (sym (unfold singletonAt in (map-tab (λ t. t .name) (singletonAt w) k s))) in
-      ap (λ (b : Bool). nameStored w o && (between 1 termLimit k && (rangeOk g && b))) (under a (termsApart w s k) (distinct sameName (map (λ t. t .name) ts)) z d)
+      λ h.
+      apart-same (singletonStored w g) (singleton-named o) s k h
+      ∙ ap (λ (l : List (List ℕ)). distinct sameName l) (sym (unfold singletonAt in (map-tab (λ t. t .name) (singletonAt w) k s))) in
+      ap (λ (b : Bool). nameStored w o && (between 1 termLimit k && (rangeOk g && b)))
+      (under a (termsApart w s k) (distinct sameName (map (λ t. t .name) ts)) z d)
       ∙ (λ j.
       named o e j
       && (between 1 termLimit (sym (length-tab (singletonAt w) k s) j)
@@ -136,7 +155,7 @@ module _ (w : ℕ → ℕ) where
   outputNames = map (λ v. v .name) (tab (outputAt w) (w 3) 0)
 
   variables-apart : all (inputStored w) (tab (λ i. i) (w 2) 0) ≡ true → all (outputStored w) (tab (λ i. i) (w 3) 0) ≡ true
-      → variablesApart w (w 2) (w 3) ≡ distinct sameName (inputNames ++ outputNames)
+      → variablesApart w ≡ distinct sameName (inputNames ++ outputNames)
   unfolding variablesApart inputAt outputAt
   variables-apart a b =
       let p : Stored w (w 9) 7 (w 2) 0 = λ k l m. input-named k (each-of (inputStored w) (w 2) 0 a k l m) in
@@ -144,14 +163,15 @@ module _ (w : ℕ → ℕ) where
       sym (joined-names w (w 9) 7 (w 2) (w 10) 11 (w 3) p q)
       ∙ (λ j. distinct sameName (sym (map-tab (λ v. v .name) (inputAt w) (w 2) 0) j ++ sym (map-tab (λ v. v .name) (outputAt w) (w 3) 0) j))
 
-  pub variables-same : tablesOk w ≡ true → variablesStored w ≡ variablesOk w
-  unfolding variablesStored variablesOk decode every
+  variables-same : tablesOk w ≡ true → every (variableTests w (w 2) (w 3)) ≡ variablesOk w
+  unfolding variablesOk decode every
   variables-same h =
       let f = frame-names w h in
       let a = all (inputStored w) (tab (λ i. i) (w 2) 0) in
       let b = all (outputStored w) (tab (λ i. i) (w 3) 0) in
       let d = distinct sameName (inputNames ++ outputNames) in
-      ap (λ (x : Bool). nameStored w 20 && (nameStored w 24 && (between 1 inputLimit (w 2) && (between 1 outputLimit (w 3) && x)))) (under-two a b (variablesApart w (w 2) (w 3)) d variables-apart)
+      ap (λ (x : Bool). nameStored w 20 && (nameStored w 24 && (between 1 inputLimit (w 2) && (between 1 outputLimit (w 3) && x))))
+      (under-two a b (variablesApart w) d variables-apart)
       ∙ (λ j.
       named 20 (f .block) j
       && (named 24 (f .ruleBlock) j
@@ -160,3 +180,6 @@ module _ (w : ℕ → ℕ) where
       && (all-same (inputStored w) inputOk (inputAt w) (w 2) 0 (λ i l m. input-same i (f .inputs i l m) (f .inputTerms i (omega arith))) j
       && (all-same (outputStored w) outputOk (outputAt w) (w 3) 0 (λ i l m. output-same i (f .outputs i l m) (f .outputTerms i (omega arith))) j
       && (d && true)))))))
+
+  pub variables-spelt : tablesOk w ≡ true → (n m : ℕ) → n ≡ w 2 → m ≡ w 3 → every (variableTests w n m) ≡ variablesOk w
+  variables-spelt h n m en em = rw (en, em) (variables-same h)

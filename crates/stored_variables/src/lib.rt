@@ -3,67 +3,40 @@ ghost use mathlib.Core.Path.{_≡_};
 ghost use mathlib.Core.Bool.{true};
 ghost use mathlib.Core.List.{[], map};
 ghost use Prim.Native.Nat.{_≤_};
-ghost use lib.Signed.{ltZ, leZ};
 ghost use Rattle.model.specs.Basic.{all};
-ghost use Rattle.model.specs.Tokens.{inCrisp};
 ghost use Rattle.model.specs.WellFormed.{pointOk, rising, rangeOk, figureOk, defaultOk};
-ghost use Rattle.model.specs.Image.{wordAt, tab, crispOf, pointAt};
+ghost use Rattle.model.specs.Image.{wordAt, tab, pointAt};
+ghost use Rattle.header.specs.Header.{Heads};
 ghost use Rattle.layout.specs.Groups.{tablesOk, variablesOk};
-ghost use Rattle.stored_variables.specs.Stored.{bias, termStored, termsApart, inputStored, rangeAt, defaultAt, singletonStored, outputStored, variablesApart};
+ghost use Rattle.stored_variables.specs.Stored.{termStored, termsApart, inputStored, rangeAt, defaultAt, singletonStored, outputStored, variablesApart};
+use bounds::within;
+use header::Header;
+use model::Crisp;
+use stored_names::distinct_ok;
+use stored_names::name_ok;
+use words::crisp_at;
+use words::word;
 
-// The word of a position, moved so that words are ordered as positions are.
-fn bias_of(x: usize) -> usize
-    requires { ⌜ x ≤ 4294967295 ⌝ }
-    ensures { λ r. ⌜ r ≡ bias x ⌝ }
-{
-    (x + 2147483648) % 4294967296
-}
-
-fn crisp_ok(x: usize) -> bool
-    requires { ⌜ x ≤ 4294967295 ⌝ }
-    ensures { λ r. ⌜ r ≡ inCrisp (crispOf x) ⌝ }
-{
-    stored_names::within(1147483648, 3147483648, bias_of(x))
-}
-
-fn below(x: usize, y: usize) -> bool
-    requires { ⌜ (x ≤ 4294967295) × (y ≤ 4294967295) ⌝ }
-    ensures { λ r. ⌜ r ≡ ltZ (crispOf x) (crispOf y) ⌝ }
-{
-    bias_of(x) < bias_of(y)
-}
-
-fn at_most(x: usize, y: usize) -> bool
-    requires { ⌜ (x ≤ 4294967295) × (y ≤ 4294967295) ⌝ }
-    ensures { λ r. ⌜ r ≡ leZ (crispOf x) (crispOf y) ⌝ }
-{
-    !below(y, x)
-}
-
-fn point_ok(img: &[u8], i: usize) -> bool
-    requires { ⌜ i ≤ 10000000000 ⌝ }
+fn point_ok(img: &[u8], h: Header, i: usize) -> bool
+    requires { ⌜ Heads (wordAt (now img)) h × (i ≤ 10000000000) ⌝ }
     ensures { λ r. ⌜ r ≡ pointOk (pointAt (wordAt (now (img .entry))) i) ⌝ }
 {
-    let o = words::word(img, 12) + i * 2;
-    if !crisp_ok(words::word(img, o)) {
+    let o = header::point_row(h, i);
+    if !crisp::in_bounds(crisp_at(img, o)) {
         return false;
     }
-    let d = words::word(img, o + 1);
-    if 1000000 < d {
-        return false;
-    }
-    d % 1000 == 0
+    degrees::is_unit(word(img, o + header::POINT_DEGREE) as u32)
 }
 
 // The k points from s on.
-fn points_ok(img: &[u8], s: usize, k: usize) -> bool
-    requires { ⌜ (s ≤ 4294967295) × (k ≤ 4294967295) ⌝ }
+fn points_ok(img: &[u8], h: Header, s: usize, k: usize) -> bool
+    requires { ⌜ Heads (wordAt (now img)) h × ((s ≤ 4294967295) × (k ≤ 4294967295)) ⌝ }
     ensures { λ r. ⌜ r ≡ all pointOk (tab (pointAt (wordAt (now (img .entry)))) k s) ⌝ }
 {
     let e = s + k;
     let mut i = s;
     while i < e {
-        if !point_ok(img, i) {
+        if !point_ok(img, h, i) {
             return false;
         }
         i += 1;
@@ -72,51 +45,50 @@ fn points_ok(img: &[u8], s: usize, k: usize) -> bool
 }
 
 // The positions of the k points from s on rise.
-fn rising_ok(img: &[u8], s: usize, k: usize) -> bool
-    requires { ⌜ (s ≤ 4294967295) × (k ≤ 4294967295) ⌝ }
+fn rising_ok(img: &[u8], h: Header, s: usize, k: usize) -> bool
+    requires { ⌜ Heads (wordAt (now img)) h × ((s ≤ 4294967295) × (k ≤ 4294967295)) ⌝ }
     ensures { λ r. ⌜ r ≡ rising [] (map (λ p. p .at) (tab (pointAt (wordAt (now (img .entry)))) k s)) ⌝ }
 {
-    let po = words::word(img, 12);
     let e = s + k;
     let mut i = s;
     while i + 1 < e {
-        let x = words::word(img, po + i * 2);
+        let x = crisp_at(img, header::point_row(h, i));
         i += 1;
-        if !below(x, words::word(img, po + i * 2)) {
+        if !crisp::less(x, crisp_at(img, header::point_row(h, i))) {
             return false;
         }
     }
     true
 }
 
-fn term_ok(img: &[u8], t: usize) -> bool
-    requires { ⌜ t ≤ 10000000000 ⌝ }
+fn term_ok(img: &[u8], h: Header, t: usize) -> bool
+    requires { ⌜ Heads (wordAt (now img)) h × (t ≤ 10000000000) ⌝ }
     ensures { λ r. ⌜ r ≡ termStored (wordAt (now (img .entry))) t ⌝ }
 {
-    let o = words::word(img, 11) + t * 6;
-    if !stored_names::name_ok(img, o) {
+    let o = header::term_row(h, t);
+    if !name_ok(img, o) {
         return false;
     }
-    let k = words::word(img, o + 5);
-    if !stored_names::within(2, 4, k) {
+    let k = word(img, o + header::TERM_POINTS);
+    if !within(bounds::LEAST_POINTS, bounds::POINTS, k) {
         return false;
     }
-    let s = words::word(img, o + 4);
-    if !points_ok(img, s, k) {
+    let s = word(img, o + header::TERM_FIRST);
+    if !points_ok(img, h, s, k) {
         return false;
     }
-    rising_ok(img, s, k)
+    rising_ok(img, h, s, k)
 }
 
 // The k terms from s on.
-fn terms_ok(img: &[u8], s: usize, k: usize) -> bool
-    requires { ⌜ (s ≤ 4294967295) × (k ≤ 4294967295) ⌝ }
+fn terms_ok(img: &[u8], h: Header, s: usize, k: usize) -> bool
+    requires { ⌜ Heads (wordAt (now img)) h × ((s ≤ 4294967295) × (k ≤ 4294967295)) ⌝ }
     ensures { λ r. ⌜ r ≡ all (termStored (wordAt (now (img .entry)))) (tab (λ t. t) k s) ⌝ }
 {
     let e = s + k;
     let mut i = s;
     while i < e {
-        if !term_ok(img, i) {
+        if !term_ok(img, h, i) {
             return false;
         }
         i += 1;
@@ -125,39 +97,39 @@ fn terms_ok(img: &[u8], s: usize, k: usize) -> bool
 }
 
 // The names of the k terms from s on are distinct.
-fn terms_apart(img: &[u8], s: usize, k: usize) -> bool
-    requires { ⌜ (s ≤ 4294967295) × (k ≤ 4294967295) ⌝ }
+fn terms_apart(img: &[u8], h: Header, s: usize, k: usize) -> bool
+    requires { ⌜ Heads (wordAt (now img)) h × ((s ≤ 4294967295) × (k ≤ 4294967295)) ⌝ }
     ensures { λ r. ⌜ r ≡ termsApart (wordAt (now (img .entry))) s k ⌝ }
 {
-    stored_names::distinct_ok(img, words::word(img, 11) + s * 6, 6, k)
+    distinct_ok(img, header::term_row(h, s), header::TERM_WIDTH, k)
 }
 
-fn input_ok(img: &[u8], i: usize) -> bool
-    requires { ⌜ i ≤ 4294967295 ⌝ }
+fn input_ok(img: &[u8], h: Header, i: usize) -> bool
+    requires { ⌜ Heads (wordAt (now img)) h × (i ≤ 4294967295) ⌝ }
     ensures { λ r. ⌜ r ≡ inputStored (wordAt (now (img .entry))) i ⌝ }
 {
-    let o = words::word(img, 9) + i * 7;
-    if !stored_names::name_ok(img, o) {
+    let o = header::input_row(h, i);
+    if !name_ok(img, o) {
         return false;
     }
-    let k = words::word(img, o + 6);
-    if !stored_names::within(1, 7, k) {
+    let k = word(img, o + header::INPUT_TERMS);
+    if !within(1, bounds::TERMS, k) {
         return false;
     }
-    let s = words::word(img, o + 5);
-    if !terms_ok(img, s, k) {
+    let s = word(img, o + header::INPUT_FIRST);
+    if !terms_ok(img, h, s, k) {
         return false;
     }
-    terms_apart(img, s, k)
+    terms_apart(img, h, s, k)
 }
 
-fn inputs_ok(img: &[u8], n: usize) -> bool
-    requires { ⌜ n ≤ 4294967295 ⌝ }
-    ensures { λ r. ⌜ r ≡ all (inputStored (wordAt (now (img .entry)))) (tab (λ i. i) n 0) ⌝ }
+fn inputs_ok(img: &[u8], h: Header) -> bool
+    requires { ⌜ Heads (wordAt (now img)) h ⌝ }
+    ensures { λ r. ⌜ r ≡ all (inputStored (wordAt (now (img .entry)))) (tab (λ i. i) (h .inputs) 0) ⌝ }
 {
     let mut i: usize = 0;
-    while i < n {
-        if !input_ok(img, i) {
+    while i < h.inputs {
+        if !input_ok(img, h, i) {
             return false;
         }
         i += 1;
@@ -170,70 +142,69 @@ fn range_ok(img: &[u8], o: usize) -> bool
     requires { ⌜ o ≤ 900000000000 ⌝ }
     ensures { λ r. ⌜ r ≡ rangeOk (rangeAt (wordAt (now (img .entry))) o) ⌝ }
 {
-    if words::word(img, o + 6) == 0 {
+    if word(img, o + header::OUTPUT_RANGE) == 0 {
         return true;
     }
-    let a = words::word(img, o + 7);
-    let b = words::word(img, o + 8);
-    if !crisp_ok(a) {
+    let least = crisp_at(img, o + header::OUTPUT_LEAST);
+    let most = crisp_at(img, o + header::OUTPUT_MOST);
+    if !crisp::in_bounds(least) {
         return false;
     }
-    if !crisp_ok(b) {
+    if !crisp::in_bounds(most) {
         return false;
     }
-    below(a, b)
+    crisp::less(least, most)
 }
 
-// x is the word of a crisp value within that RANGE.
-fn figure_ok(img: &[u8], o: usize, x: usize) -> bool
-    requires { ⌜ (o ≤ 900000000000) × (x ≤ 4294967295) ⌝ }
-    ensures { λ r. ⌜ r ≡ figureOk (rangeAt (wordAt (now (img .entry))) o) (crispOf x) ⌝ }
+// x is a crisp value within that RANGE.
+fn figure_ok(img: &[u8], o: usize, x: Crisp) -> bool
+    requires { ⌜ o ≤ 900000000000 ⌝ }
+    ensures { λ r. ⌜ r ≡ figureOk (rangeAt (wordAt (now (img .entry))) o) (x .0) ⌝ }
 {
-    if !crisp_ok(x) {
+    if !crisp::in_bounds(x) {
         return false;
     }
-    if words::word(img, o + 6) == 0 {
-        return true;
-    }
-    if !at_most(words::word(img, o + 7), x) {
-        return false;
-    }
-    at_most(x, words::word(img, o + 8))
+    let ranged = word(img, o + header::OUTPUT_RANGE) != 0;
+    let least = crisp_at(img, o + header::OUTPUT_LEAST);
+    let most = crisp_at(img, o + header::OUTPUT_MOST);
+    crisp::in_range(ranged, least, most, x)
 }
 
 // DEFAULT of that output.
 fn default_ok(img: &[u8], o: usize) -> bool
     requires { ⌜ o ≤ 900000000000 ⌝ }
-    ensures { λ r. ⌜ r ≡ defaultOk (rangeAt (wordAt (now (img .entry))) o) (defaultAt (wordAt (now (img .entry))) o) ⌝ }
+    ensures { λ r. ⌜ r ≡ defaultOk (rangeAt (wordAt (now (img .entry))) o)
+        (defaultAt (wordAt (now (img .entry))) o) ⌝ }
 {
-    if words::word(img, o + 9) == 0 {
+    if word(img, o + header::OUTPUT_DEFAULT_KIND) == 0 {
         return true;
     }
-    figure_ok(img, o, words::word(img, o + 10))
+    figure_ok(img, o, crisp_at(img, o + header::OUTPUT_DEFAULT))
 }
 
-fn singleton_ok(img: &[u8], o: usize, t: usize) -> bool
-    requires { ⌜ (o ≤ 900000000000) × (t ≤ 10000000000) ⌝ }
+// Term t of the output whose row starts at o.
+fn singleton_ok(img: &[u8], h: Header, o: usize, t: usize) -> bool
+    requires { ⌜ Heads (wordAt (now img)) h × ((o ≤ 900000000000) × (t ≤ 10000000000)) ⌝ }
     ensures { λ r. ⌜ r ≡ singletonStored (wordAt (now (img .entry))) (rangeAt (wordAt (now (img .entry))) o) t ⌝ }
 {
-    let q = words::word(img, 11) + t * 6;
-    if !stored_names::name_ok(img, q) {
+    let q = header::term_row(h, t);
+    if !name_ok(img, q) {
         return false;
     }
-    let p = words::word(img, q + 4);
-    let x = words::word(img, words::word(img, 12) + p * 2);
-    figure_ok(img, o, x)
+    let p = word(img, q + header::TERM_FIRST);
+    figure_ok(img, o, crisp_at(img, header::point_row(h, p)))
 }
 
-// The k terms from s on, of the output whose row starts at o.
-fn singletons_ok(img: &[u8], o: usize, s: usize, k: usize) -> bool
-    requires { ⌜ (o ≤ 900000000000) × ((s ≤ 4294967295) × (k ≤ 4294967295)) ⌝ }
-    ensures { λ r. ⌜ r ≡ all (singletonStored (wordAt (now (img .entry))) (rangeAt (wordAt (now (img .entry))) o)) (tab (λ t. t) k s) ⌝ }
+// The k terms from s on of that output.
+fn singletons_ok(img: &[u8], h: Header, o: usize, s: usize, k: usize) -> bool
+    requires { ⌜ Heads (wordAt (now img)) h × ((o ≤ 900000000000) × ((s ≤ 4294967295) × (k ≤ 4294967295))) ⌝ }
+    ensures { λ r. ⌜ r ≡ all (singletonStored (wordAt (now (img .entry))) (rangeAt (wordAt (now (img .entry))) o))
+        (tab (λ t. t) k s) ⌝ }
 {
     let e = s + k;
     let mut i = s;
     while i < e {
-        if !singleton_ok(img, o, i) {
+        if !singleton_ok(img, h, o, i) {
             return false;
         }
         i += 1;
@@ -241,38 +212,38 @@ fn singletons_ok(img: &[u8], o: usize, s: usize, k: usize) -> bool
     true
 }
 
-fn output_ok(img: &[u8], i: usize) -> bool
-    requires { ⌜ i ≤ 4294967295 ⌝ }
+fn output_ok(img: &[u8], h: Header, i: usize) -> bool
+    requires { ⌜ Heads (wordAt (now img)) h × (i ≤ 4294967295) ⌝ }
     ensures { λ r. ⌜ r ≡ outputStored (wordAt (now (img .entry))) i ⌝ }
 {
-    let o = words::word(img, 10) + i * 11;
-    if !stored_names::name_ok(img, o) {
+    let o = header::output_row(h, i);
+    if !name_ok(img, o) {
         return false;
     }
-    let k = words::word(img, o + 5);
-    if !stored_names::within(1, 7, k) {
+    let k = word(img, o + header::OUTPUT_TERMS);
+    if !within(1, bounds::TERMS, k) {
         return false;
     }
     if !range_ok(img, o) {
         return false;
     }
-    let s = words::word(img, o + 4);
-    if !singletons_ok(img, o, s, k) {
+    let s = word(img, o + header::OUTPUT_FIRST);
+    if !singletons_ok(img, h, o, s, k) {
         return false;
     }
-    if !terms_apart(img, s, k) {
+    if !terms_apart(img, h, s, k) {
         return false;
     }
     default_ok(img, o)
 }
 
-fn outputs_ok(img: &[u8], n: usize) -> bool
-    requires { ⌜ n ≤ 4294967295 ⌝ }
-    ensures { λ r. ⌜ r ≡ all (outputStored (wordAt (now (img .entry)))) (tab (λ i. i) n 0) ⌝ }
+fn outputs_ok(img: &[u8], h: Header) -> bool
+    requires { ⌜ Heads (wordAt (now img)) h ⌝ }
+    ensures { λ r. ⌜ r ≡ all (outputStored (wordAt (now (img .entry)))) (tab (λ i. i) (h .outputs) 0) ⌝ }
 {
     let mut i: usize = 0;
-    while i < n {
-        if !output_ok(img, i) {
+    while i < h.outputs {
+        if !output_ok(img, h, i) {
             return false;
         }
         i += 1;
@@ -280,46 +251,50 @@ fn outputs_ok(img: &[u8], n: usize) -> bool
     true
 }
 
-// The names of n inputs and m outputs are distinct.
-fn variables_apart(img: &[u8], n: usize, m: usize) -> bool
-    requires { ⌜ (n ≤ 4294967295) × (m ≤ 4294967295) ⌝ }
-    ensures { λ r. ⌜ r ≡ variablesApart (wordAt (now (img .entry))) n m ⌝ }
+// The names of the inputs and outputs are distinct.
+fn variables_apart(img: &[u8], h: Header) -> bool
+    requires { ⌜ Heads (wordAt (now img)) h ⌝ }
+    ensures { λ r. ⌜ r ≡ variablesApart (wordAt (now (img .entry))) ⌝ }
 {
-    let a = words::word(img, 9);
-    let b = words::word(img, 10);
-    if !stored_names::distinct_ok(img, a, 7, n) {
+    if !distinct_ok(img, h.input_table, header::INPUT_WIDTH, h.inputs) {
         return false;
     }
-    if !stored_names::apart_ok(img, a, 7, n, b, 11, m) {
+    if !stored_names::apart_ok(
+        img,
+        h.input_table,
+        header::INPUT_WIDTH,
+        h.inputs,
+        h.output_table,
+        header::OUTPUT_WIDTH,
+        h.outputs,
+    ) {
         return false;
     }
-    stored_names::distinct_ok(img, b, 11, m)
+    distinct_ok(img, h.output_table, header::OUTPUT_WIDTH, h.outputs)
 }
 
 // Names, counts, terms and points are those of the variables of a block.
-pub fn variables_ok(img: &[u8]) -> bool
-    requires { ⌜ tablesOk (wordAt (now img)) ≡ true ⌝ }
+pub fn variables_ok(img: &[u8], h: Header) -> bool
+    requires { ⌜ (tablesOk (wordAt (now img)) ≡ true) × Heads (wordAt (now img)) h ⌝ }
     ensures { λ r. ⌜ r ≡ variablesOk (wordAt (now (img .entry))) ⌝ }
 {
-    if !stored_names::name_ok(img, 20) {
+    if !name_ok(img, header::BLOCK_NAME) {
         return false;
     }
-    if !stored_names::name_ok(img, 24) {
+    if !name_ok(img, header::RULE_BLOCK_NAME) {
         return false;
     }
-    let n = words::word(img, 2);
-    if !stored_names::within(1, 8, n) {
+    if !within(1, bounds::INPUTS, h.inputs) {
         return false;
     }
-    let m = words::word(img, 3);
-    if !stored_names::within(1, 6, m) {
+    if !within(1, bounds::OUTPUTS, h.outputs) {
         return false;
     }
-    if !inputs_ok(img, n) {
+    if !inputs_ok(img, h) {
         return false;
     }
-    if !outputs_ok(img, m) {
+    if !outputs_ok(img, h) {
         return false;
     }
-    variables_apart(img, n, m)
+    variables_apart(img, h)
 }

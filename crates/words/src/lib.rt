@@ -1,11 +1,11 @@
-// The words of a stored image, read where they stand. A byte past the end counts as 0, so no word needs a bound on its place.
+// The words of a stored image, read where they stand. A byte past the end counts as 0, so no place needs a bound.
 ghost use mathlib.Core.Path.{_≡_};
-ghost use Prim.Native.Nat.{_≤_};
+ghost use Prim.Native.Nat.{_+_, _*_, _≤_};
 ghost use lib.ListN.{getD};
 ghost use Rattle.model.specs.Image.{wordAt, crispOf};
 use model::Crisp;
 
-fn wide(b: u8) -> u32
+pub fn wide(b: u8) -> u32
     ensures { λ r. ⌜ (r ≡ b) × (r ≤ 255) ⌝ }
 {
     b as u32
@@ -20,16 +20,34 @@ fn byte(img: &[u8], k: usize) -> u32
     0
 }
 
-// The word at place i.
+// Four bytes as a word, the lowest first.
+fn joined(a: u32, b: u32, c: u32, d: u32) -> usize
+    requires { ⌜ (a ≤ 255) × ((b ≤ 255) × ((c ≤ 255) × (d ≤ 255))) ⌝ }
+    ensures { λ r. ⌜ r ≡ a + b * 256 + c * 65536 + d * 16777216 ⌝ }
+{
+    (a + b * 256 + c * 65536 + d * 16777216) as usize
+}
+
+// The word at place i: one load where all its bytes are there.
 pub fn word(img: &[u8], i: usize) -> usize
     requires { ⌜ i ≤ 1000000000000 ⌝ }
     ensures { λ r. ⌜ (r ≡ wordAt (now (img .entry)) i) × (r ≤ 4294967295) ⌝ }
 {
     let k = i * 4;
-    (byte(img, k)
-        + byte(img, k + 1) * 256
-        + byte(img, k + 2) * 65536
-        + byte(img, k + 3) * 16777216) as usize
+    if k + 3 < img.len() {
+        return joined(
+            wide(img[k]),
+            wide(img[k + 1]),
+            wide(img[k + 2]),
+            wide(img[k + 3]),
+        );
+    }
+    joined(
+        byte(img, k),
+        byte(img, k + 1),
+        byte(img, k + 2),
+        byte(img, k + 3),
+    )
 }
 
 // The word at place i as a crisp value, in two's complement.

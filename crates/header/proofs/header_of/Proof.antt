@@ -3,9 +3,6 @@ use Rattle.words.proofs.Bytes.{word-fits}
 use borrow.Author.Needs.{needs}
 use Rattle.header.proofs.header_of.Statement.{statement}
 use Rattle.header.proofs.header_of.Tie as tie
-use Rattle.header.proofs.header_of.Reads as reads
-use Rattle.header.proofs.header_of.Lts as lts
-use Rattle.words.proofs.word.Reads as word-reads
 
 word-requires : tie.Need-word-requires
 word-requires c κs = search needs

@@ -4,17 +4,12 @@ use borrow.Author.Needs.{needs}
 use Rattle.stored_conditions.proofs.Steps as laws
 use Rattle.stored_conditions.proofs.join.Statement.{statement}
 use Rattle.stored_conditions.proofs.join.Tie as tie
-use Rattle.stored_conditions.proofs.join.Reads as reads
-use Rattle.stored_conditions.proofs.join.Lts as lts
-use Rattle.stored_conditions.proofs.fail.Reads as fail-reads
-use Rattle.stored_conditions.proofs.opening.Reads as opening-reads
-use Rattle.stored_conditions.proofs.push.Reads as push-reads
 
 fail-requires : tie.Need-fail-requires
 fail-requires c κs = search needs
 
 returns : tie.Need-returns
-returns c = ((λ m o e. c .fail .ensures .0 ∙ laws.few-is m o _ _ (c .before .if1 .taken)), search needs)
+returns c = ((λ m o e f. c .fail .ensures .0 ∙ laws.few-is m o _ _ (c .before .if1 .taken)), search needs)
 
 sub-b : tie.Need-sub-b
 sub-b c = search needs
@@ -34,9 +29,6 @@ element-copy-out-a c = search needs
 opening-requires : tie.Need-opening-requires
 opening-requires c κs = search needs
 
-sub-opening : tie.Need-sub-opening
-sub-opening c = search needs
-
 opening-requires-2 : tie.Need-opening-requires-2
 opening-requires-2 c κs = search needs
 
@@ -47,7 +39,7 @@ returns-2 : tie.Need-returns-2
 returns-2 c =
     let p = c .before .before .before .opening .ensures in
     let q = c .before .before .opening2 .ensures in
-    ((λ m o e. c .push .ensures .0 m ∙ laws.join-is m o _ _ _ _ (omega arith) e (omega arith)), search needs)
+    ((λ m o e f. c .push .ensures .0 m ∙ laws.join-is m o _ _ _ _ _ (omega arith) e f (omega arith)), search needs)
 
 push-requires-2 : tie.Need-push-requires-2
 push-requires-2 c κs = search needs
@@ -56,7 +48,7 @@ returns-3 : tie.Need-returns-3
 returns-3 c =
     let p = c .before .before .before .opening .ensures in
     let q = c .before .before .opening2 .ensures in
-    ((λ m o e. c .push2 .ensures .0 m ∙ laws.join-is m o _ _ _ _ (omega arith) e (omega arith)), search needs)
+    ((λ m o e f. c .push2 .ensures .0 m ∙ laws.join-is m o _ _ _ _ _ (omega arith) e f (omega arith)), search needs)
 
 pub join-spec : {M : Type 1} → statement M
 join-spec =
@@ -70,7 +62,6 @@ join-spec =
     mul-a
     element-copy-out-a
     opening-requires
-    sub-opening
     opening-requires-2
     push-requires
     returns-2

@@ -6,12 +6,6 @@ use Rattle.stored_conditions.specs.Machine.{unary, stackOf}
 use Rattle.stored_conditions.proofs.Steps as laws
 use Rattle.stored_conditions.proofs.negate.Statement.{statement}
 use Rattle.stored_conditions.proofs.negate.Tie as tie
-use Rattle.stored_conditions.proofs.negate.Reads as reads
-use Rattle.stored_conditions.proofs.negate.Lts as lts
-use Rattle.stored_conditions.proofs.fail.Reads as fail-reads
-use Rattle.stored_conditions.proofs.negated_form.Reads as negated-form-reads
-use Rattle.stored_conditions.proofs.opening.Reads as opening-reads
-use Rattle.stored_conditions.proofs.push.Reads as push-reads
 
 fail-requires : tie.Need-fail-requires
 fail-requires c κs = search needs
@@ -44,7 +38,9 @@ push-requires c κs = search needs
 returns-2 : tie.Need-returns-2
 returns-2 c =
     let h : 0 < c .before .before .before .before .before .args .t1 .height = omega arith in
-    ((λ m. c .push .ensures .0 m ∙ laws.negate-is m _ _ _ _ h (c .before .negated-form .ensures) (c .before .before .opening .ensures)), search needs)
+    let f = c .before .negated-form .ensures in
+    let d = c .before .before .opening .ensures in
+    ((λ m. c .push .ensures .0 m ∙ laws.negate-is m _ _ _ _ h f d), search needs)
 
 pub negate-spec : {M : Type 1} → statement M
 negate-spec =

@@ -8,9 +8,6 @@ use Rattle.stored_conditions.specs.Shapes.{shape, view}
 use Rattle.stored_conditions.proofs.Stacks.{length-stack, stack-push}
 use Rattle.stored_conditions.proofs.push.Statement.{statement}
 use Rattle.stored_conditions.proofs.push.Tie as tie
-use Rattle.stored_conditions.proofs.push.Reads as reads
-use Rattle.stored_conditions.proofs.push.Lts as lts
-use Rattle.stored_conditions.proofs.fail.Reads as fail-reads
 
 cast-t8 : tie.Need-cast-t8
 cast-t8 c = search needs
@@ -28,7 +25,8 @@ returns : tie.Need-returns
 unfolding view added
 returns c =
     let a = c .before .before .args in
-    let h : a .n < length (a .st .shapes) = omega (arith, simp length-map at (c .before .before .good .0 .1 .1 .1 .1 .0 .1 .0 .1)) in (
+    let l = c .before .before .good .0 .1 .1 .1 .1 .0 .1 .0 .1 in
+    let h : a .n < length (a .st .shapes) = omega (arith, simp length-map at l) in (
       (λ m. simp (
         c .before .before .pre .1,
         le-leb _ _ (c .before .if1 .taken),
@@ -44,7 +42,9 @@ fail-requires c κs = search needs
 
 returns-2 : tie.Need-returns-2
 unfolding view added
-returns-2 c = ((λ m. simp (le-leb _ _ (c .before .before .if1 .taken), length-stack, le-ltb _ _ (c .before .if2 .left)) (c .fail .ensures .0)), search needs)
+returns-2 c =
+    let d = le-leb _ _ (c .before .before .if1 .taken) in
+    ((λ m. simp (d, length-stack, le-ltb _ _ (c .before .if2 .left)) (c .fail .ensures .0)), search needs)
 
 fail-requires-2 : tie.Need-fail-requires-2
 fail-requires-2 c κs = search needs

@@ -6,54 +6,84 @@ use Rattle.stored_conditions.specs.Machine.{step, turn}
 use Rattle.stored_conditions.specs.Shapes.{view}
 use Rattle.stored_conditions.proofs.step.Statement.{statement}
 use Rattle.stored_conditions.proofs.step.Tie as tie
-use Rattle.stored_conditions.proofs.step.Reads as reads
-use Rattle.stored_conditions.proofs.step.Lts as lts
-use Rattle.stored_conditions.proofs.fail.Reads as fail-reads
-use Rattle.stored_conditions.proofs.join.Reads as join-reads
-use Rattle.stored_conditions.proofs.negate.Reads as negate-reads
-use Rattle.stored_conditions.proofs.push.Reads as push-reads
 
 push-requires : tie.Need-push-requires
 push-requires c κs = search needs
 
 returns : tie.Need-returns
 unfolding view turn step
-returns c = (simp (c .before .before .before .pre .1, le-leb _ _ (c .before .before .if1 .taken), lt-ltb _ _ (c .before .if2 .taken)) (c .push .ensures .0 _), search needs)
+returns c =
+    let p = c .before .before in
+    (simp (p .before .pre .1, le-leb _ _ (p .if1 .taken), lt-ltb _ _ (c .before .if2 .taken)) (c .push .ensures .0 _), search needs)
 
 fail-requires : tie.Need-fail-requires
 fail-requires c κs = search needs
 
 returns-2 : tie.Need-returns-2
 unfolding view turn step
-returns-2 c = (simp (c .before .before .before .pre .1, le-leb _ _ (c .before .before .if1 .taken), le-ltb _ _ (c .before .if2 .left)) (c .fail .ensures .0), search needs)
+returns-2 c =
+    let p = c .before .before in
+    (simp (p .before .pre .1, le-leb _ _ (p .if1 .taken), le-ltb _ _ (c .before .if2 .left)) (c .fail .ensures .0), search needs)
 
 negate-requires : tie.Need-negate-requires
 negate-requires c κs = search needs
 
 returns-3 : tie.Need-returns-3
 unfolding view turn step
-returns-3 c = (simp (c .before .before .before .pre .1, lt-leb _ _ (c .before .before .if1 .left), eq-eqb _ _ (c .before .if3 .taken)) (c .negate .ensures .0 _), search needs)
+returns-3 c =
+    let p = c .before .before in
+    (simp (p .before .pre .1, lt-leb _ _ (p .if1 .left), eq-eqb _ _ (c .before .if3 .taken)) (c .negate .ensures .0 _), search needs)
 
 join-requires : tie.Need-join-requires
 join-requires c κs = search needs
 
 returns-4 : tie.Need-returns-4
 unfolding view turn step
-returns-4 c = (simp (c .before .before .before .before .pre .1, lt-leb _ _ (c .before .before .before .if1 .left), ne-eqb _ _ (c .before .before .if3 .left), eq-eqb _ _ (c .before .if4 .taken)) (c .join .ensures .0 _ and refl), search needs)
+returns-4 c =
+    let p = c .before .before in
+    let q = p .before in (
+      simp (q .before .pre .1, lt-leb _ _ (q .if1 .left), ne-eqb _ _ (p .if3 .left), eq-eqb _ _ (c .before .if4 .taken))
+          (c .join .ensures .0 _ and refl refl),
+      search needs,
+    )
 
 join-requires-2 : tie.Need-join-requires-2
 join-requires-2 c κs = search needs
 
 returns-5 : tie.Need-returns-5
 unfolding view turn step
-returns-5 c = (simp (c .before .before .before .before .before .pre .1, lt-leb _ _ (c .before .before .before .before .if1 .left), ne-eqb _ _ (c .before .before .before .if3 .left), ne-eqb _ _ (c .before .before .if4 .left), eq-eqb _ _ (c .before .if5 .taken)) (c .join2 .ensures .0 _ or refl), search needs)
+returns-5 c =
+    let p = c .before .before in
+    let q = p .before in
+    let s = q .before in (
+      simp (
+        s .before .pre .1,
+        lt-leb _ _ (s .if1 .left),
+        ne-eqb _ _ (q .if3 .left),
+        ne-eqb _ _ (p .if4 .left),
+        eq-eqb _ _ (c .before .if5 .taken),
+      ) (c .join2 .ensures .0 _ or refl refl),
+      search needs,
+    )
 
 fail-requires-2 : tie.Need-fail-requires-2
 fail-requires-2 c κs = search needs
 
 returns-6 : tie.Need-returns-6
 unfolding view turn step
-returns-6 c = (simp (c .before .before .before .before .before .pre .1, lt-leb _ _ (c .before .before .before .before .if1 .left), ne-eqb _ _ (c .before .before .before .if3 .left), ne-eqb _ _ (c .before .before .if4 .left), ne-eqb _ _ (c .before .if5 .left)) (c .fail2 .ensures .0), search needs)
+returns-6 c =
+    let p = c .before .before in
+    let q = p .before in
+    let s = q .before in (
+      simp (
+        s .before .pre .1,
+        lt-leb _ _ (s .if1 .left),
+        ne-eqb _ _ (q .if3 .left),
+        ne-eqb _ _ (p .if4 .left),
+        ne-eqb _ _ (c .before .if5 .left),
+      ) (c .fail2 .ensures .0),
+      search needs,
+    )
 
 pub step-spec : {M : Type 1} → statement M
 step-spec =

@@ -1,17 +1,20 @@
 use mathlib.Core.Path.{ap}
 use Prim.Native.Nat.{ℕ}
 use lib.Dec.{eqb}
+use borrow.Author.Needs.{needs}
 use Rattle.stored_tables.specs.Tests.{defaultTest}
 use Rattle.stored_tables.proofs.Lists.{equal, differs}
-use borrow.Author.Needs.{needs}
 use Rattle.stored_tables.proofs.default_ok.Statement.{statement}
 use Rattle.stored_tables.proofs.default_ok.Tie as tie
+
+add-word : tie.Need-add-word
+add-word c = search needs
 
 word-requires : tie.Need-word-requires
 word-requires c κs = search needs
 
-add-word : tie.Need-add-word
-add-word c = search needs
+add-word-2 : tie.Need-add-word-2
+add-word-2 c = search needs
 
 word-requires-2 : tie.Need-word-requires-2
 word-requires-2 c κs = search needs
@@ -25,4 +28,5 @@ unfolding defaultTest
 returns-2 c = simp (differs _ _ _ (c .before .word .ensures .0) (c .if1 .left)) (ap (λ (k : ℕ). eqb k 1) (c .before .word .ensures .0))
 
 pub default-ok-spec : {M : Type 1} → statement M
-default-ok-spec = tie.close (tie.spec word-requires add-word word-requires-2 returns returns-2)
+default-ok-spec =
+    tie.close (tie.spec add-word word-requires add-word-2 word-requires-2 returns returns-2)

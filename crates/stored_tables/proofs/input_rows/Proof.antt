@@ -1,64 +1,62 @@
-use borrow.Author.Needs.{needs}
-use borrow.Author.Tests.{not-true, not-false}
 use mathlib.Core.Path.{sym, ap, _∙_}
 use Prim.Native.Nat.{ℕ, _+_, _*_, _-_, _≤_}
 use native.Mathlib.Nat.{zero-add}
+use borrow.Author.Needs.{needs}
+use borrow.Author.Tests.{not-true, not-false}
 use Rattle.model.specs.Image.{wordAt, inputAt}
+use Rattle.header.proofs.Laws.{small}
 use Rattle.layout.specs.Tables.{inputCount, inputNext, inputRow, inputRows, inputTermsIn}
+use Rattle.laws.proofs.Tests.{clash}
 use Rattle.stored_tables.specs.Tests.{inputTest}
-use Rattle.stored_tables.proofs.Lists.{clash}
 use Rattle.stored_tables.proofs.RowTests.{input-row, input-next}
 use Rattle.stored_tables.proofs.Loops.{Rest, Count, rows-start, rows-more, rows-stop, rows-end, count-start, count-more, count-end, seen}
 use Rattle.stored_tables.proofs.input_rows.Statement.{statement}
 use Rattle.stored_tables.proofs.input_rows.Tie as tie
 
 abbrev Inv-loop : tie.InvT-loop
-Inv-loop img n start p₀ i₀ p i =
-    (i ≤ n)
+Inv-loop img h p₀ i₀ p i =
+    (i ≤ (h .inputs))
     × ((p ≤ i * 4294967295)
-    × (Rest inputRow inputNext (inputAt (wordAt img)) (wordAt img) ((wordAt img) 9) 7 n i p (inputRows (wordAt img))
-    × Count (inputCount (wordAt img)) n i p (0 + inputTermsIn (wordAt img))))
+    × (Rest inputRow inputNext (inputAt (wordAt img)) (wordAt img) (wordAt img 9) 7 (h .inputs) i p (inputRows (wordAt img))
+    × Count (inputCount (wordAt img)) (h .inputs) i p (0 + inputTermsIn (wordAt img))))
 
 abbrev μ-loop : tie.MeasureT-loop
-μ-loop img n start p₀ i₀ p i = n - i
-
-word-requires : tie.Need-word-requires Inv-loop μ-loop
-word-requires c κs = search needs
-
-word-requires-2 : tie.Need-word-requires-2 Inv-loop μ-loop
-word-requires-2 c κs = search needs
+μ-loop img h p₀ i₀ p i = h .inputs - i
 
 loop-holds : tie.Need-loop-holds Inv-loop μ-loop
 unfolding inputRows
 loop-holds c =
-    let w = wordAt (c .before .before .before .args .img .now) in
-    (search needs, (search needs, (rows-start inputRow inputNext (inputAt w) w (w 9) 7 0 _ _ (c .before .word .ensures .0), count-start (inputCount w) 0 _ _ (c .before .word .ensures .0))))
-
-mul-o : tie.Need-mul-o Inv-loop μ-loop
-mul-o c = search needs
-
-add-o : tie.Need-add-o Inv-loop μ-loop
-add-o c = search needs
+    let start = c .before in
+    let w = wordAt (start .args .img .now) in
+    let e = start .pre .inputs in
+    (search needs, (search needs, (rows-start inputRow inputNext (inputAt w) w (w 9) 7 0 _ _ e, count-start (inputCount w) 0 _ _ e)))
 
 input-row-requires : tie.Need-input-row-requires Inv-loop μ-loop
-input-row-requires c κs = search needs
+input-row-requires c κs = let s = small (c .before .before .before .before .pre) in search needs
+
+input-ok-requires : tie.Need-input-ok-requires Inv-loop μ-loop
+input-ok-requires c κs = search needs
 
 returns : tie.Need-returns Inv-loop μ-loop
 returns c =
-    let w = wordAt (c .before .before .before .before .before .before .before .args .img .now) in
-    let l = c .before .before .before .loop in
-    let es = c .before .before .before .before .word2 .ensures .0 in
-    let t = seen (λ (k : ℕ). inputTest w (k + l .i * 7) (l .p)) _ _ _ _ _ es (c .before .input-row .ensures) (not-true _ (c .if1 .taken)) (input-row w (l .i) (l .p)) in
-    (rows-stop inputRow inputNext (inputAt w) w (w 9) 7 _ (l .i) (l .p) _ (c .before .before .loop-test .taken) t (l .inv .1 .1 .0), (λ q. clash q))
+    let turn = c .before .before in
+    let l = turn .before .before .before .loop in
+    let start = turn .before .before .before .before .before in
+    let w = wordAt (start .args .img .now) in
+    let o = turn .input-row .ensures .0 w (start .pre) in
+    let h = turn .before .if1 .taken in
+    let r = input-row w (l .i) (l .p) in
+    let t = seen (λ (k : ℕ). inputTest w k (l .p)) _ _ _ _ _ o (c .before .input-ok .ensures) (not-true _ (c .if2 .taken)) r in
+    (rows-stop inputRow inputNext (inputAt w) w (w 9) 7 _ (l .i) (l .p) _ h t (l .inv .1 .1 .0), (λ q. clash q))
 
 add-word : tie.Need-add-word Inv-loop μ-loop
 add-word c = search needs
 
-word-requires-3 : tie.Need-word-requires-3 Inv-loop μ-loop
-word-requires-3 c κs = search needs
+word-requires : tie.Need-word-requires Inv-loop μ-loop
+word-requires c κs = search needs
 
 add-p : tie.Need-add-p Inv-loop μ-loop
-add-p c = search needs
+add-p c = let s = small (c .before .before .before .before .before .before .before .before .pre) in search needs
 
 add-i : tie.Need-add-i Inv-loop μ-loop
 add-i c = search needs
@@ -68,20 +66,26 @@ loop-less c = search needs
 
 loop-again : tie.Need-loop-again Inv-loop μ-loop
 loop-again c =
-    let w = wordAt (c .before .before .before .before .before .before .before .before .args .img .now) in
-    let l = c .before .before .before .before .loop in
-    let es = c .before .before .before .before .before .word2 .ensures .0 in
-    let x = c .word3 .ensures .0 ∙ ap (λ (k : ℕ). w (k + l .i * 7 + 6)) es in
-    let h = c .before .before .before .loop-test .taken in
-    let t = seen (λ (k : ℕ). inputTest w (k + l .i * 7) (l .p)) _ _ _ _ _ es (c .before .before .input-row .ensures) (not-false _ (c .before .if1 .left)) (input-row w (l .i) (l .p)) in
+    let turn = c .before .before .before in
+    let l = turn .before .before .before .loop in
+    let start = turn .before .before .before .before .before in
+    let w = wordAt (start .args .img .now) in
+    let o = turn .input-row .ensures .0 w (start .pre) in
+    let h = turn .before .if1 .taken in
+    let x = c .word .ensures .0 ∙ ap (λ (k : ℕ). w (k + 6)) o in
+    let r = input-row w (l .i) (l .p) in
+    let t = seen (λ (k : ℕ). inputTest w k (l .p)) _ _ _ _ _ o (c .before .before .input-ok .ensures) (not-false _ (c .before .if2 .left)) r in
     let n = input-next w (l .i) (l .p) ∙ ap (λ (k : ℕ). l .p + k) (sym x) in
-    (search needs, (search needs, (rows-more inputRow inputNext (inputAt w) w (w 9) 7 _ (l .i) (l .p) _ _ h t n (l .inv .1 .1 .0), count-more (inputCount w) _ (l .i) (l .p) _ _ h x (l .inv .1 .1 .1))))
+    let more = rows-more inputRow inputNext (inputAt w) w (w 9) 7 _ (l .i) (l .p) _ _ h t n (l .inv .1 .1 .0) in
+    (search needs, (search needs, (more, count-more (inputCount w) _ (l .i) (l .p) _ _ h x (l .inv .1 .1 .1))))
 
 returns-2 : tie.Need-returns-2 Inv-loop μ-loop
 returns-2 c =
-    let w = wordAt (c .before .before .before .before .before .args .img .now) in
-    let l = c .before .loop in
-    (rows-end inputRow inputNext (inputAt w) w (w 9) 7 _ (l .i) (l .p) _ (c .loop-test .left) (l .inv .1 .1 .0), (λ q. count-end (inputCount w) _ (l .i) (l .p) _ (c .loop-test .left) (l .inv .1 .1 .1) ∙ zero-add _))
+    let l = c .before .before .loop in
+    let w = wordAt (c .before .before .before .before .args .img .now) in
+    let h = c .if1 .left in
+    let count = count-end (inputCount w) _ (l .i) (l .p) _ h (l .inv .1 .1 .1) in
+    (rows-end inputRow inputNext (inputAt w) w (w 9) 7 _ (l .i) (l .p) _ h (l .inv .1 .1 .0), (λ q. count ∙ zero-add _))
 
 pub input-rows-spec : {M : Type 1} → statement M
 input-rows-spec =
@@ -89,15 +93,12 @@ input-rows-spec =
     (tie.spec
     Inv-loop
     μ-loop
-    word-requires
-    word-requires-2
     loop-holds
-    mul-o
-    add-o
     input-row-requires
+    input-ok-requires
     returns
     add-word
-    word-requires-3
+    word-requires
     add-p
     add-i
     loop-less

@@ -1,65 +1,61 @@
-use borrow.Author.Needs.{needs}
-use borrow.Author.Tests.{not-true, not-false}
 use mathlib.Core.Path.{sym, ap, _∙_}
 use Prim.Native.Nat.{ℕ, _+_, _*_, _-_, _≤_}
-use native.Mathlib.Omega.{arith}
+use borrow.Author.Needs.{needs}
+use borrow.Author.Tests.{not-true, not-false}
 use Rattle.model.specs.Image.{wordAt, outputAt}
+use Rattle.header.proofs.Laws.{small}
 use Rattle.layout.specs.Tables.{outputCount, outputNext, outputRow, outputTermsIn}
-use Rattle.words.proofs.Bytes.{word-fits}
+use Rattle.laws.proofs.Tests.{clash}
 use Rattle.stored_tables.specs.Tests.{outputTest, outputRowsFrom}
-use Rattle.stored_tables.proofs.Lists.{clash}
 use Rattle.stored_tables.proofs.RowTests.{output-row, output-next}
 use Rattle.stored_tables.proofs.Loops.{Rest, Count, rows-start, rows-more, rows-stop, rows-end, count-start, count-more, count-end, seen}
 use Rattle.stored_tables.proofs.output_rows.Statement.{statement}
 use Rattle.stored_tables.proofs.output_rows.Tie as tie
 
 abbrev Inv-loop : tie.InvT-loop
-Inv-loop img first n start p₀ i₀ p i =
-    (i ≤ n)
+Inv-loop img h first p₀ i₀ p i =
+    (i ≤ (h .outputs))
     × ((p ≤ first + i * 4294967295)
-    × (Rest outputRow outputNext (outputAt (wordAt img)) (wordAt img) ((wordAt img) 10) 11 n i p (outputRowsFrom (wordAt img) first)
-    × Count (outputCount (wordAt img)) n i p (first + outputTermsIn (wordAt img))))
+    × (Rest outputRow outputNext (outputAt (wordAt img)) (wordAt img) (wordAt img 10) 11 (h .outputs) i p (outputRowsFrom (wordAt img) first)
+    × Count (outputCount (wordAt img)) (h .outputs) i p (first + outputTermsIn (wordAt img))))
 
 abbrev μ-loop : tie.MeasureT-loop
-μ-loop img first n start p₀ i₀ p i = n - i
-
-word-requires : tie.Need-word-requires Inv-loop μ-loop
-word-requires c κs = search needs
-
-word-requires-2 : tie.Need-word-requires-2 Inv-loop μ-loop
-word-requires-2 c κs = search needs
+μ-loop img h first p₀ i₀ p i = h .outputs - i
 
 loop-holds : tie.Need-loop-holds Inv-loop μ-loop
 loop-holds c =
-    let w = wordAt (c .before .before .before .args .img .now) in
-    (search needs, (search needs, (rows-start outputRow outputNext (outputAt w) w (w 10) 11 (c .before .before .before .args .first) _ _ (c .before .word .ensures .0), count-start (outputCount w) (c .before .before .before .args .first) _ _ (c .before .word .ensures .0))))
-
-mul-o : tie.Need-mul-o Inv-loop μ-loop
-mul-o c = search needs
-
-add-o : tie.Need-add-o Inv-loop μ-loop
-add-o c = search needs
+    let start = c .before in
+    let w = wordAt (start .args .img .now) in
+    let e = start .pre .0 .outputs in
+    let p = start .args .first in
+    (search needs, (search needs, (rows-start outputRow outputNext (outputAt w) w (w 10) 11 p _ _ e, count-start (outputCount w) p _ _ e)))
 
 output-row-requires : tie.Need-output-row-requires Inv-loop μ-loop
-output-row-requires c κs = search needs
+output-row-requires c κs = let s = small (c .before .before .before .before .pre .0) in search needs
+
+output-ok-requires : tie.Need-output-ok-requires Inv-loop μ-loop
+output-ok-requires c κs = search needs
 
 returns : tie.Need-returns Inv-loop μ-loop
 returns c =
-    let w = wordAt (c .before .before .before .before .before .before .before .args .img .now) in
-    let fits = word-fits (c .before .before .before .before .before .before .before .args .img .now) (λ k. omega (arith, c .before .before .before .before .before .before .shared-slice-known .given k)) in
-    let l = c .before .before .before .loop in
-    let es = c .before .before .before .before .word2 .ensures .0 in
-    let t = seen (λ (k : ℕ). outputTest w (k + l .i * 11) (l .p)) _ _ _ _ _ es (c .before .output-row .ensures) (not-true _ (c .if1 .taken)) (output-row w fits (l .i) (l .p)) in
-    (rows-stop outputRow outputNext (outputAt w) w (w 10) 11 _ (l .i) (l .p) _ (c .before .before .loop-test .taken) t (l .inv .1 .1 .0), (λ q. clash q))
+    let turn = c .before .before in
+    let l = turn .before .before .before .loop in
+    let start = turn .before .before .before .before .before in
+    let w = wordAt (start .args .img .now) in
+    let o = turn .output-row .ensures .0 w (start .pre .0) in
+    let h = turn .before .if1 .taken in
+    let r = output-row w (start .pre .0 .fits) (l .i) (l .p) in
+    let t = seen (λ (k : ℕ). outputTest w k (l .p)) _ _ _ _ _ o (c .before .output-ok .ensures) (not-true _ (c .if2 .taken)) r in
+    (rows-stop outputRow outputNext (outputAt w) w (w 10) 11 _ (l .i) (l .p) _ h t (l .inv .1 .1 .0), (λ q. clash q))
 
 add-word : tie.Need-add-word Inv-loop μ-loop
 add-word c = search needs
 
-word-requires-3 : tie.Need-word-requires-3 Inv-loop μ-loop
-word-requires-3 c κs = search needs
+word-requires : tie.Need-word-requires Inv-loop μ-loop
+word-requires c κs = search needs
 
 add-p : tie.Need-add-p Inv-loop μ-loop
-add-p c = search needs
+add-p c = let s = small (c .before .before .before .before .before .before .before .before .pre .0) in search needs
 
 add-i : tie.Need-add-i Inv-loop μ-loop
 add-i c = search needs
@@ -69,21 +65,26 @@ loop-less c = search needs
 
 loop-again : tie.Need-loop-again Inv-loop μ-loop
 loop-again c =
-    let w = wordAt (c .before .before .before .before .before .before .before .before .args .img .now) in
-    let fits = word-fits (c .before .before .before .before .before .before .before .before .args .img .now) (λ k. omega (arith, c .before .before .before .before .before .before .before .shared-slice-known .given k)) in
-    let l = c .before .before .before .before .loop in
-    let es = c .before .before .before .before .before .word2 .ensures .0 in
-    let x = c .word3 .ensures .0 ∙ ap (λ (k : ℕ). w (k + l .i * 11 + 5)) es in
-    let h = c .before .before .before .loop-test .taken in
-    let t = seen (λ (k : ℕ). outputTest w (k + l .i * 11) (l .p)) _ _ _ _ _ es (c .before .before .output-row .ensures) (not-false _ (c .before .if1 .left)) (output-row w fits (l .i) (l .p)) in
+    let turn = c .before .before .before in
+    let l = turn .before .before .before .loop in
+    let start = turn .before .before .before .before .before in
+    let w = wordAt (start .args .img .now) in
+    let o = turn .output-row .ensures .0 w (start .pre .0) in
+    let h = turn .before .if1 .taken in
+    let x = c .word .ensures .0 ∙ ap (λ (k : ℕ). w (k + 5)) o in
+    let r = output-row w (start .pre .0 .fits) (l .i) (l .p) in
+    let t = seen (λ (k : ℕ). outputTest w k (l .p)) _ _ _ _ _ o (c .before .before .output-ok .ensures) (not-false _ (c .before .if2 .left)) r in
     let n = output-next w (l .i) (l .p) ∙ ap (λ (k : ℕ). l .p + k) (sym x) in
-    (search needs, (search needs, (rows-more outputRow outputNext (outputAt w) w (w 10) 11 _ (l .i) (l .p) _ _ h t n (l .inv .1 .1 .0), count-more (outputCount w) _ (l .i) (l .p) _ _ h x (l .inv .1 .1 .1))))
+    let more = rows-more outputRow outputNext (outputAt w) w (w 10) 11 _ (l .i) (l .p) _ _ h t n (l .inv .1 .1 .0) in
+    (search needs, (search needs, (more, count-more (outputCount w) _ (l .i) (l .p) _ _ h x (l .inv .1 .1 .1))))
 
 returns-2 : tie.Need-returns-2 Inv-loop μ-loop
 returns-2 c =
-    let w = wordAt (c .before .before .before .before .before .args .img .now) in
-    let l = c .before .loop in
-    (rows-end outputRow outputNext (outputAt w) w (w 10) 11 _ (l .i) (l .p) _ (c .loop-test .left) (l .inv .1 .1 .0), (λ q. count-end (outputCount w) _ (l .i) (l .p) _ (c .loop-test .left) (l .inv .1 .1 .1)))
+    let l = c .before .before .loop in
+    let w = wordAt (c .before .before .before .before .args .img .now) in
+    let h = c .if1 .left in
+    let count = count-end (outputCount w) _ (l .i) (l .p) _ h (l .inv .1 .1 .1) in
+    (rows-end outputRow outputNext (outputAt w) w (w 10) 11 _ (l .i) (l .p) _ h (l .inv .1 .1 .0), (λ q. count))
 
 pub output-rows-spec : {M : Type 1} → statement M
 output-rows-spec =
@@ -91,15 +92,12 @@ output-rows-spec =
     (tie.spec
     Inv-loop
     μ-loop
-    word-requires
-    word-requires-2
     loop-holds
-    mul-o
-    add-o
     output-row-requires
+    output-ok-requires
     returns
     add-word
-    word-requires-3
+    word-requires
     add-p
     add-i
     loop-less

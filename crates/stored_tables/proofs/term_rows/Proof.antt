@@ -1,57 +1,57 @@
-use borrow.Author.Needs.{needs}
-use borrow.Author.Tests.{not-true, not-false}
 use mathlib.Core.Path.{refl, sym, ap, _∙_}
 use Prim.Native.Nat.{ℕ, _+_, _*_, _-_, _≤_}
 use native.Mathlib.Nat.{zero-add}
+use borrow.Author.Needs.{needs}
+use borrow.Author.Tests.{not-true, not-false}
 use Rattle.model.specs.Image.{wordAt, termAt}
+use Rattle.header.proofs.Laws.{small}
 use Rattle.layout.specs.Tables.{sums, termCount, termNext, termRow}
+use Rattle.laws.proofs.Tests.{clash}
 use Rattle.stored_tables.specs.Tests.{termTest, termRowsTo}
-use Rattle.stored_tables.proofs.Lists.{clash}
 use Rattle.stored_tables.proofs.RowTests.{term-row, term-next}
 use Rattle.stored_tables.proofs.Loops.{Rest, Count, rows-start, rows-more, rows-stop, rows-end, count-start, count-more, count-end, seen}
 use Rattle.stored_tables.proofs.term_rows.Statement.{statement}
 use Rattle.stored_tables.proofs.term_rows.Tie as tie
 
 abbrev Inv-loop : tie.InvT-loop
-Inv-loop img n start p₀ i₀ p i =
+Inv-loop img h n p₀ i₀ p i =
     (i ≤ n)
     × ((p ≤ i * 4294967295)
-    × (Rest termRow termNext (termAt (wordAt img)) (wordAt img) ((wordAt img) 11) 6 n i p (termRowsTo (wordAt img) n)
+    × (Rest termRow termNext (termAt (wordAt img)) (wordAt img) (wordAt img 11) 6 n i p (termRowsTo (wordAt img) n)
     × Count (termCount (wordAt img)) n i p (0 + sums (termCount (wordAt img)) n 0)))
 
 abbrev μ-loop : tie.MeasureT-loop
-μ-loop img n start p₀ i₀ p i = n - i
-
-word-requires : tie.Need-word-requires Inv-loop μ-loop
-word-requires c κs = search needs
+μ-loop img h n p₀ i₀ p i = n - i
 
 loop-holds : tie.Need-loop-holds Inv-loop μ-loop
 loop-holds c =
-    let w = wordAt (c .before .before .args .img .now) in
-    (search needs, (search needs, (rows-start termRow termNext (termAt w) w (w 11) 6 0 _ _ (refl), count-start (termCount w) 0 _ _ (refl))))
-
-mul-o : tie.Need-mul-o Inv-loop μ-loop
-mul-o c = search needs
-
-add-o : tie.Need-add-o Inv-loop μ-loop
-add-o c = search needs
+    let start = c .before in
+    let w = wordAt (start .args .img .now) in
+    (search needs, (search needs, (rows-start termRow termNext (termAt w) w (w 11) 6 0 _ _ refl, count-start (termCount w) 0 _ _ refl)))
 
 term-row-requires : tie.Need-term-row-requires Inv-loop μ-loop
-term-row-requires c κs = search needs
+term-row-requires c κs = let s = small (c .before .before .before .pre .0) in search needs
+
+term-ok-requires : tie.Need-term-ok-requires Inv-loop μ-loop
+term-ok-requires c κs = search needs
 
 returns : tie.Need-returns Inv-loop μ-loop
 returns c =
-    let w = wordAt (c .before .before .before .before .before .before .args .img .now) in
-    let l = c .before .before .before .loop in
-    let es = c .before .before .before .before .word .ensures .0 in
-    let t = seen (λ (k : ℕ). termTest w (k + l .i * 6) (l .p)) _ _ _ _ _ es (c .before .term-row .ensures) (not-true _ (c .if1 .taken)) (term-row w (l .i) (l .p)) in
-    ((rows-stop termRow termNext (termAt w) w (w 11) 6 _ (l .i) (l .p) _ (c .before .before .loop-test .taken) t (l .inv .1 .1 .0), (λ q. clash q)), search needs)
+    let turn = c .before .before in
+    let l = turn .before .before .loop in
+    let start = turn .before .before .before .before in
+    let w = wordAt (start .args .img .now) in
+    let o = turn .term-row .ensures .0 w (start .pre .0) in
+    let h = turn .before .loop-test .taken in
+    let r = term-row w (l .i) (l .p) in
+    let t = seen (λ (k : ℕ). termTest w k (l .p)) _ _ _ _ _ o (c .before .term-ok .ensures) (not-true _ (c .if1 .taken)) r in
+    ((rows-stop termRow termNext (termAt w) w (w 11) 6 _ (l .i) (l .p) _ h t (l .inv .1 .1 .0), (λ q. clash q)), search needs)
 
 add-word : tie.Need-add-word Inv-loop μ-loop
 add-word c = search needs
 
-word-requires-2 : tie.Need-word-requires-2 Inv-loop μ-loop
-word-requires-2 c κs = search needs
+word-requires : tie.Need-word-requires Inv-loop μ-loop
+word-requires c κs = search needs
 
 add-p : tie.Need-add-p Inv-loop μ-loop
 add-p c = search needs
@@ -64,20 +64,26 @@ loop-less c = search needs
 
 loop-again : tie.Need-loop-again Inv-loop μ-loop
 loop-again c =
-    let w = wordAt (c .before .before .before .before .before .before .before .args .img .now) in
-    let l = c .before .before .before .before .loop in
-    let es = c .before .before .before .before .before .word .ensures .0 in
-    let x = c .word2 .ensures .0 ∙ ap (λ (k : ℕ). w (k + l .i * 6 + 5)) es in
-    let h = c .before .before .before .loop-test .taken in
-    let t = seen (λ (k : ℕ). termTest w (k + l .i * 6) (l .p)) _ _ _ _ _ es (c .before .before .term-row .ensures) (not-false _ (c .before .if1 .left)) (term-row w (l .i) (l .p)) in
+    let turn = c .before .before .before in
+    let l = turn .before .before .loop in
+    let start = turn .before .before .before .before in
+    let w = wordAt (start .args .img .now) in
+    let o = turn .term-row .ensures .0 w (start .pre .0) in
+    let h = turn .before .loop-test .taken in
+    let x = c .word .ensures .0 ∙ ap (λ (k : ℕ). w (k + 5)) o in
+    let r = term-row w (l .i) (l .p) in
+    let t = seen (λ (k : ℕ). termTest w k (l .p)) _ _ _ _ _ o (c .before .before .term-ok .ensures) (not-false _ (c .before .if1 .left)) r in
     let n = term-next w (l .i) (l .p) ∙ ap (λ (k : ℕ). l .p + k) (sym x) in
-    (search needs, (search needs, (rows-more termRow termNext (termAt w) w (w 11) 6 _ (l .i) (l .p) _ _ h t n (l .inv .1 .1 .0), count-more (termCount w) _ (l .i) (l .p) _ _ h x (l .inv .1 .1 .1))))
+    let more = rows-more termRow termNext (termAt w) w (w 11) 6 _ (l .i) (l .p) _ _ h t n (l .inv .1 .1 .0) in
+    (search needs, (search needs, (more, count-more (termCount w) _ (l .i) (l .p) _ _ h x (l .inv .1 .1 .1))))
 
 returns-2 : tie.Need-returns-2 Inv-loop μ-loop
 returns-2 c =
-    let w = wordAt (c .before .before .before .before .args .img .now) in
     let l = c .before .loop in
-    ((rows-end termRow termNext (termAt w) w (w 11) 6 _ (l .i) (l .p) _ (c .loop-test .left) (l .inv .1 .1 .0), (λ q. count-end (termCount w) _ (l .i) (l .p) _ (c .loop-test .left) (l .inv .1 .1 .1) ∙ zero-add _)), search needs)
+    let w = wordAt (c .before .before .before .args .img .now) in
+    let h = c .loop-test .left in
+    let count = count-end (termCount w) _ (l .i) (l .p) _ h (l .inv .1 .1 .1) in
+    ((rows-end termRow termNext (termAt w) w (w 11) 6 _ (l .i) (l .p) _ h (l .inv .1 .1 .0), (λ q. count ∙ zero-add _)), search needs)
 
 pub term-rows-spec : {M : Type 1} → statement M
 term-rows-spec =
@@ -85,14 +91,12 @@ term-rows-spec =
     (tie.spec
     Inv-loop
     μ-loop
-    word-requires
     loop-holds
-    mul-o
-    add-o
     term-row-requires
+    term-ok-requires
     returns
     add-word
-    word-requires-2
+    word-requires
     add-p
     add-i
     loop-less

@@ -1,60 +1,62 @@
+use mathlib.Core.Path.{refl, sym, _∙_}
 use borrow.Author.Needs.{needs}
-use mathlib.Core.Path.{sym, _∙_}
 use borrow.Author.Tests.{not-true, not-false}
-use borrow.Author.Tests.{le-leb, lt-leb}
-use Rattle.model.specs.WellFormed.{pointOk, unitOk}
-use Rattle.model.specs.Image.{pointAt}
+use Rattle.model.specs.Image.{wordAt}
+use Rattle.header.proofs.Laws.{small}
+use Rattle.stored_variables.proofs.Spelt.{point-spelt}
 use Rattle.stored_variables.proofs.point_ok.Statement.{statement}
 use Rattle.stored_variables.proofs.point_ok.Tie as tie
-use Rattle.stored_variables.proofs.point_ok.Reads as reads
-use Rattle.stored_variables.proofs.point_ok.Lts as lts
-use Rattle.stored_variables.proofs.crisp_ok.Reads as crisp-ok-reads
-use Rattle.words.proofs.word.Reads as word-reads
 
-word-requires : tie.Need-word-requires
-word-requires c κs = search needs
+point-row-requires : tie.Need-point-row-requires
+point-row-requires c κs = let s = small (c .before .pre .0) in search needs
 
-mul-o : tie.Need-mul-o
-mul-o c = search needs
+crisp-at-requires : tie.Need-crisp-at-requires
+crisp-at-requires c κs = search needs
 
-add-o : tie.Need-add-o
-add-o c = search needs
-
-word-requires-2 : tie.Need-word-requires-2
-word-requires-2 c κs = search needs
-
-crisp-ok-requires : tie.Need-crisp-ok-requires
-crisp-ok-requires c κs = search needs
+in-bounds-requires : tie.Need-in-bounds-requires
+in-bounds-requires c κs = search needs
 
 returns : tie.Need-returns
-unfolding pointOk unitOk pointAt
-returns c = simp (sym (c .before .before .before .word .ensures .0), sym (c .before .before .word2 .ensures .0), sym (c .before .crisp-ok .ensures) ∙ not-true _ (c .if1 .taken))
+returns c =
+    let row = c .before .before .before in
+    let start = row .before .before in
+    let w = wordAt (start .args .img .now) in
+    let o = row .point-row .ensures .0 w (start .pre .0) in
+    let s = point-spelt w (start .args .i) _ _ _ o (c .before .before .crisp-at .ensures) refl in
+    sym (sym s ∙ simp (sym (c .before .in-bounds .ensures) ∙ not-true _ (c .if1 .taken)))
 
 add-word : tie.Need-add-word
 add-word c = search needs
 
-word-requires-3 : tie.Need-word-requires-3
-word-requires-3 c κs = search needs
+word-requires : tie.Need-word-requires
+word-requires c κs = search needs
+
+cast-is-unit : tie.Need-cast-is-unit
+cast-is-unit c = search needs
+
+is-unit-requires : tie.Need-is-unit-requires
+is-unit-requires c κs = search needs
 
 returns-2 : tie.Need-returns-2
-unfolding pointOk unitOk pointAt
-returns-2 c = simp (sym (c .before .before .before .before .before .word .ensures .0), sym (c .before .before .before .before .word2 .ensures .0), sym (c .before .before .before .crisp-ok .ensures) ∙ not-false _ (c .before .before .if1 .left), sym (c .before .word3 .ensures .0), lt-leb _ _ (c .if2 .taken))
-
-returns-3 : tie.Need-returns-3
-unfolding pointOk unitOk pointAt
-returns-3 c = simp (sym (c .before .before .before .before .before .word .ensures .0), sym (c .before .before .before .before .word2 .ensures .0), sym (c .before .before .before .crisp-ok .ensures) ∙ not-false _ (c .before .before .if1 .left), sym (c .before .word3 .ensures .0), le-leb _ _ (c .if2 .left))
+returns-2 c =
+    let at = c .before .before in
+    let row = at .before .before .before in
+    let start = row .before .before in
+    let w = wordAt (start .args .img .now) in
+    let o = row .point-row .ensures .0 w (start .pre .0) in
+    let s = point-spelt w (start .args .i) _ _ _ o (at .before .before .crisp-at .ensures) (c .before .word .ensures .0) in
+    c .is-unit .ensures ∙ sym (sym s ∙ simp (sym (at .before .in-bounds .ensures) ∙ not-false _ (at .if1 .left)))
 
 pub point-ok-spec : {M : Type 1} → statement M
 point-ok-spec =
     tie.close
     (tie.spec
-    word-requires
-    mul-o
-    add-o
-    word-requires-2
-    crisp-ok-requires
+    point-row-requires
+    crisp-at-requires
+    in-bounds-requires
     returns
     add-word
-    word-requires-3
-    returns-2
-    returns-3)
+    word-requires
+    cast-is-unit
+    is-unit-requires
+    returns-2)

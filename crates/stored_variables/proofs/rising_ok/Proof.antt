@@ -1,27 +1,27 @@
-use borrow.Author.Needs.{needs}
 use mathlib.Core.Path.{_≡_, sym, _∙_}
+use mathlib.Core.List.{[], map}
 use Prim.Native.Nat.{_+_, _-_, _≤_}
 use native.Mathlib.Omega.{arith}
+use lib.Signed.{ltZ}
+use borrow.Author.Needs.{needs}
 use borrow.Author.Tests.{not-true, not-false}
-use mathlib.Core.List.{[], map}
 use Rattle.model.specs.WellFormed.{rising}
 use Rattle.model.specs.Image.{wordAt, tab, pointAt}
+use Rattle.header.proofs.Laws.{small}
 use Rattle.stored_variables.proofs.Rising.{rising-more, rising-stop, rising-end, rising-start}
+use Rattle.stored_variables.proofs.Spelt.{position}
 use Rattle.stored_variables.proofs.rising_ok.Statement.{statement}
 use Rattle.stored_variables.proofs.rising_ok.Tie as tie
-use Rattle.stored_variables.proofs.rising_ok.Reads as reads
-use Rattle.stored_variables.proofs.rising_ok.Lts as lts
-use Rattle.stored_variables.proofs.below.Reads as below-reads
-use Rattle.words.proofs.word.Reads as word-reads
 
 abbrev Inv-loop : tie.InvT-loop
-Inv-loop img s k po e i₀ i = (s ≤ i) × ((i ≤ s + k) × (rising [] (map (λ p. p .at) (tab (pointAt (wordAt img)) (s + k - i) i)) ≡ rising [] (map (λ p. p .at) (tab (pointAt (wordAt img)) (k) s))))
+Inv-loop img h s k e i₀ i =
+    let f = pointAt (wordAt img) in
+    (s ≤ i)
+    × ((i ≤ s + k)
+    × (rising [] (map (λ p. p .at) (tab f (s + k - i) i)) ≡ rising [] (map (λ p. p .at) (tab f k s))))
 
 abbrev μ-loop : tie.MeasureT-loop
-μ-loop img s k po e i₀ i = s + k - i
-
-word-requires : tie.Need-word-requires Inv-loop μ-loop
-word-requires c κs = search needs
+μ-loop img h s k e i₀ i = s + k - i
 
 add-e : tie.Need-add-e Inv-loop μ-loop
 add-e c = search needs
@@ -32,41 +32,60 @@ loop-holds c = (search needs, (search needs, rising-start _ _ _))
 add-loop : tie.Need-add-loop Inv-loop μ-loop
 add-loop c = search needs
 
-mul-word : tie.Need-mul-word Inv-loop μ-loop
-mul-word c = search needs
+point-row-requires : tie.Need-point-row-requires Inv-loop μ-loop
+point-row-requires c κs = let s = small (c .before .before .before .pre .0) in search needs
 
-add-word : tie.Need-add-word Inv-loop μ-loop
-add-word c = search needs
-
-word-requires-2 : tie.Need-word-requires-2 Inv-loop μ-loop
-word-requires-2 c κs = search needs
+crisp-at-requires : tie.Need-crisp-at-requires Inv-loop μ-loop
+crisp-at-requires c κs = search needs
 
 add-i : tie.Need-add-i Inv-loop μ-loop
 add-i c = search needs
 
-mul-word-2 : tie.Need-mul-word-2 Inv-loop μ-loop
-mul-word-2 c = search needs
+point-row-requires-2 : tie.Need-point-row-requires-2 Inv-loop μ-loop
+point-row-requires-2 c κs = let s = small (c .before .before .before .before .before .pre .0) in search needs
 
-add-word-2 : tie.Need-add-word-2 Inv-loop μ-loop
-add-word-2 c = search needs
+crisp-at-requires-2 : tie.Need-crisp-at-requires-2 Inv-loop μ-loop
+crisp-at-requires-2 c κs = search needs
 
-word-requires-3 : tie.Need-word-requires-3 Inv-loop μ-loop
-word-requires-3 c κs = search needs
-
-below-requires : tie.Need-below-requires Inv-loop μ-loop
-below-requires c κs = search needs
+less-requires : tie.Need-less-requires Inv-loop μ-loop
+less-requires c κs = search needs
 
 returns : tie.Need-returns Inv-loop μ-loop
-returns c = sym (rising-stop (pointAt (wordAt (c .before .before .before .before .before .before .before .before .args .img .now))) (c .before .before .before .before .before .before .before .before .args .s + c .before .before .before .before .before .before .before .before .args .k) (c .before .before .before .before .before .loop .i) (omega arith) (unfold pointAt in (simp (sym (c .before .before .before .before .before .before .word .ensures .0), sym (c .before .before .before .word2 .ensures .0), sym (c .before .before .word3 .ensures .0), sym (c .before .below .ensures) ∙ not-true _ (c .if1 .taken))))) ∙ c .before .before .before .before .before .loop .inv .1 .1
+returns c =
+    let next = c .before .before in
+    let this = next .before .before in
+    let l = this .before .before .before .loop in
+    let start = this .before .before .before .before .before in
+    let a = start .args in
+    let w = wordAt (a .img .now) in
+    let p = position w (l .i) _ _ (this .before .point-row .ensures .0 w (start .pre .0)) (this .crisp-at .ensures) in
+    let q = position w (l .i + 1) _ _ (next .before .point-row2 .ensures .0 w (start .pre .0)) (next .crisp-at2 .ensures) in
+    let t = (λ j. ltZ (sym p j) (sym q j)) ∙ sym (c .before .less .ensures) ∙ not-true _ (c .if1 .taken) in
+    let e = rising-stop (pointAt w) (a .s + a .k) (l .i) (omega arith) t in
+    sym e ∙ l .inv .1 .1
 
 loop-less : tie.Need-loop-less Inv-loop μ-loop
 loop-less c = search needs
 
 loop-again : tie.Need-loop-again Inv-loop μ-loop
-loop-again c = (search needs, (search needs, sym (rising-more (pointAt (wordAt (c .before .before .before .before .before .before .before .before .args .img .now))) (c .before .before .before .before .before .before .before .before .args .s + c .before .before .before .before .before .before .before .before .args .k) (c .before .before .before .before .before .loop .i) (omega arith) (unfold pointAt in (simp (sym (c .before .before .before .before .before .before .word .ensures .0), sym (c .before .before .before .word2 .ensures .0), sym (c .before .before .word3 .ensures .0), sym (c .before .below .ensures) ∙ not-false _ (c .if1 .left))))) ∙ c .before .before .before .before .before .loop .inv .1 .1))
+loop-again c =
+    let next = c .before .before in
+    let this = next .before .before in
+    let l = this .before .before .before .loop in
+    let start = this .before .before .before .before .before in
+    let a = start .args in
+    let w = wordAt (a .img .now) in
+    let p = position w (l .i) _ _ (this .before .point-row .ensures .0 w (start .pre .0)) (this .crisp-at .ensures) in
+    let q = position w (l .i + 1) _ _ (next .before .point-row2 .ensures .0 w (start .pre .0)) (next .crisp-at2 .ensures) in
+    let t = (λ j. ltZ (sym p j) (sym q j)) ∙ sym (c .before .less .ensures) ∙ not-false _ (c .if1 .left) in
+    let e = rising-more (pointAt w) (a .s + a .k) (l .i) (omega arith) t in
+    (search needs, (search needs, sym e ∙ l .inv .1 .1))
 
 returns-2 : tie.Need-returns-2 Inv-loop μ-loop
-returns-2 c = sym (rising-end (pointAt (wordAt (c .before .before .before .before .args .img .now))) (c .before .before .before .before .args .s + c .before .before .before .before .args .k) (c .before .loop .i) (c .loop-test .left)) ∙ c .before .loop .inv .1 .1
+returns-2 c =
+    let l = c .before .loop in
+    let a = c .before .before .before .args in
+    sym (rising-end (pointAt (wordAt (a .img .now))) (a .s + a .k) (l .i) (c .loop-test .left)) ∙ l .inv .1 .1
 
 pub rising-ok-spec : {M : Type 1} → statement M
 rising-ok-spec =
@@ -74,18 +93,15 @@ rising-ok-spec =
     (tie.spec
     Inv-loop
     μ-loop
-    word-requires
     add-e
     loop-holds
     add-loop
-    mul-word
-    add-word
-    word-requires-2
+    point-row-requires
+    crisp-at-requires
     add-i
-    mul-word-2
-    add-word-2
-    word-requires-3
-    below-requires
+    point-row-requires-2
+    crisp-at-requires-2
+    less-requires
     returns
     loop-less
     loop-again

@@ -1,48 +1,52 @@
-use borrow.Author.Needs.{needs}
 use mathlib.Core.Path.{sym, _∙_}
+use borrow.Author.Needs.{needs}
 use borrow.Author.Tests.{not-true, not-false}
-use Rattle.stored_variables.specs.Stored.{variablesApart}
+use Rattle.model.specs.Image.{wordAt}
+use Rattle.header.proofs.Laws.{small}
+use Rattle.stored_variables.proofs.Spelt.{apart-spelt}
 use Rattle.stored_variables.proofs.variables_apart.Statement.{statement}
 use Rattle.stored_variables.proofs.variables_apart.Tie as tie
-use Rattle.stored_variables.proofs.variables_apart.Reads as reads
-use Rattle.stored_variables.proofs.variables_apart.Lts as lts
-use Rattle.stored_names.proofs.apart_ok.Reads as apart-ok-reads
-use Rattle.stored_names.proofs.distinct_ok.Reads as distinct-ok-reads
-use Rattle.words.proofs.word.Reads as word-reads
-
-word-requires : tie.Need-word-requires
-word-requires c κs = search needs
-
-word-requires-2 : tie.Need-word-requires-2
-word-requires-2 c κs = search needs
 
 distinct-ok-requires : tie.Need-distinct-ok-requires
-distinct-ok-requires c κs = search needs
+distinct-ok-requires c κs = let s = small (c .before .pre) in search needs
 
 returns : tie.Need-returns
-unfolding variablesApart
-returns c = simp (sym (c .before .before .before .word .ensures .0), sym (c .before .before .word2 .ensures .0), sym (c .before .distinct-ok .ensures) ∙ not-true _ (c .if1 .taken))
+returns c =
+    let start = c .before .before .before in
+    let h = start .pre in
+    let s = apart-spelt (wordAt (start .args .img .now)) _ _ _ _ (h .input-table) (h .output-table) (h .inputs) (h .outputs) in
+    sym (sym s ∙ simp (sym (c .before .distinct-ok .ensures) ∙ not-true _ (c .if1 .taken)))
 
 apart-ok-requires : tie.Need-apart-ok-requires
-apart-ok-requires c κs = search needs
+apart-ok-requires c κs = let s = small (c .before .before .before .pre) in search needs
 
 returns-2 : tie.Need-returns-2
-unfolding variablesApart
-returns-2 c = simp (sym (c .before .before .before .before .before .word .ensures .0), sym (c .before .before .before .before .word2 .ensures .0), sym (c .before .before .before .distinct-ok .ensures) ∙ not-false _ (c .before .before .if1 .left), sym (c .before .apart-ok .ensures) ∙ not-true _ (c .if2 .taken))
+returns-2 c =
+    let start = c .before .before .before .before .before in
+    let h = start .pre in
+    let s = apart-spelt (wordAt (start .args .img .now)) _ _ _ _ (h .input-table) (h .output-table) (h .inputs) (h .outputs) in
+    let first = c .before .before in
+    let d = sym (first .before .distinct-ok .ensures) ∙ not-false _ (first .if1 .left) in
+    sym (sym s ∙ simp (d, sym (c .before .apart-ok .ensures) ∙ not-true _ (c .if2 .taken)))
 
 distinct-ok-requires-2 : tie.Need-distinct-ok-requires-2
-distinct-ok-requires-2 c κs = search needs
+distinct-ok-requires-2 c κs = let s = small (c .before .before .before .before .before .pre) in search needs
 
 returns-3 : tie.Need-returns-3
-unfolding variablesApart
-returns-3 c = simp (sym (c .before .before .before .before .before .before .word .ensures .0), sym (c .before .before .before .before .before .word2 .ensures .0), sym (c .before .before .before .before .distinct-ok .ensures) ∙ not-false _ (c .before .before .before .if1 .left), sym (c .before .before .apart-ok .ensures) ∙ not-false _ (c .before .if2 .left), sym (c .distinct-ok2 .ensures))
+returns-3 c =
+    let start = c .before .before .before .before .before .before in
+    let h = start .pre in
+    let s = apart-spelt (wordAt (start .args .img .now)) _ _ _ _ (h .input-table) (h .output-table) (h .inputs) (h .outputs) in
+    let second = c .before in
+    let first = second .before .before in
+    let d = sym (first .before .distinct-ok .ensures) ∙ not-false _ (first .if1 .left) in
+    let a = sym (second .before .apart-ok .ensures) ∙ not-false _ (second .if2 .left) in
+    c .distinct-ok2 .ensures ∙ sym (sym s ∙ simp (d, a))
 
 pub variables-apart-spec : {M : Type 1} → statement M
 variables-apart-spec =
     tie.close
     (tie.spec
-    word-requires
-    word-requires-2
     distinct-ok-requires
     returns
     apart-ok-requires

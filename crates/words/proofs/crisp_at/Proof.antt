@@ -8,9 +8,6 @@ use Rattle.model.specs.Image.{crispOf}
 use Rattle.words.proofs.Signed.{crisp-low, crisp-high, high-fits-64, high-fits-32}
 use Rattle.words.proofs.crisp_at.Statement.{statement}
 use Rattle.words.proofs.crisp_at.Tie as tie
-use Rattle.words.proofs.crisp_at.Reads as reads
-use Rattle.words.proofs.crisp_at.Lts as lts
-use Rattle.words.proofs.word.Reads as word-reads
 
 word-requires : tie.Need-word-requires
 word-requires c κs = search needs
@@ -42,8 +39,10 @@ returns-2 : tie.Need-returns-2
 returns-2 c =
     let x = c .before .word .result in
     let k = c .before .word .ensures .1 in
-    rw (toZ-pos w64 x (omega arith), toZ-ofZ w64 (subℕ x 4294967296) (high-fits-64 x (c .if1 .left) k), toZ-ofZ w32 (subℕ x 4294967296) (high-fits-32 x (c .if1 .left) k))
-    (crisp-high x (c .if1 .left) k ∙ ap crispOf (c .before .word .ensures .0))
+    let h = c .if1 .left in
+    let z = subℕ x 4294967296 in
+    rw (toZ-pos w64 x (omega arith), toZ-ofZ w64 z (high-fits-64 x h k), toZ-ofZ w32 z (high-fits-32 x h k))
+    (crisp-high x h k ∙ ap crispOf (c .before .word .ensures .0))
 
 pub crisp-at-spec : {M : Type 1} → statement M
 crisp-at-spec = tie.close (tie.spec word-requires cast-t5 returns cast-t6 sub-t7 cast-t8 returns-2)

@@ -1,0 +1,63 @@
+use mathlib.Core.Path.{sym, _∙_}
+use borrow.Author.Needs.{needs}
+use borrow.Author.Tests.{not-true, not-false}
+use Rattle.laws.proofs.Tests.{pass, one-fails}
+use Rattle.stored_tables.specs.Tests.{inputTest}
+use Rattle.stored_tables.proofs.Lists.{equal, differs, within, over}
+use Rattle.stored_tables.proofs.input_ok.Statement.{statement}
+use Rattle.stored_tables.proofs.input_ok.Tie as tie
+
+name-exact-requires : tie.Need-name-exact-requires
+name-exact-requires c κs = search needs
+
+returns : tie.Need-returns
+unfolding inputTest
+returns c = sym (one-fails _ 0 (sym (c .before .name-exact .ensures) ∙ not-true _ (c .if1 .taken)))
+
+add-word : tie.Need-add-word
+add-word c = search needs
+
+word-requires : tie.Need-word-requires
+word-requires c κs = search needs
+
+returns-2 : tie.Need-returns-2
+unfolding inputTest
+returns-2 c = sym (one-fails _ 1 (over _ _ _ (c .before .word .ensures .0) (c .if2 .taken)))
+
+add-word-2 : tie.Need-add-word-2
+add-word-2 c = search needs
+
+word-requires-2 : tie.Need-word-requires-2
+word-requires-2 c κs = search needs
+
+returns-3 : tie.Need-returns-3
+unfolding inputTest
+returns-3 c = sym (one-fails _ 2 (differs _ _ _ (c .before .word2 .ensures .0) (c .if3 .taken)))
+
+returns-4 : tie.Need-returns-4
+unfolding inputTest
+returns-4 c =
+    let type = c .before .before in
+    let name = type .before .before in
+    sym
+    (pass _ (
+      sym (name .before .name-exact .ensures) ∙ not-false _ (name .if1 .left),
+      (
+        within _ _ _ (type .before .word .ensures .0) (type .if2 .left),
+        (equal _ _ _ (c .before .word2 .ensures .0) (c .if3 .left), tt),
+      ),
+    ))
+
+pub input-ok-spec : {M : Type 1} → statement M
+input-ok-spec =
+    tie.close
+    (tie.spec
+    name-exact-requires
+    returns
+    add-word
+    word-requires
+    returns-2
+    add-word-2
+    word-requires-2
+    returns-3
+    returns-4)

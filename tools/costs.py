@@ -1,0 +1,109 @@
+#!/usr/bin/env python3
+"""costs.py: what reading and the load check cost, as docs/READER.md has it. Needs `rt check` before it, and valgrind and objdump.
+
+Growth is counted in instructions (valgrind), less those of the same program on an empty file, as multiples of the smallest size;
+stack is the largest frame of each function, and the peak that valgrind sees over all cases of the vectors."""
+import os
+import re
+import subprocess
+import sys
+import tempfile
+
+top = os.path.join(os.path.dirname(os.path.abspath(__file__)), "..")
+
+
+def binary(name):
+    return os.path.join(top, "target", "bin", name)
+
+
+def valgrind(name, data, *options):
+    with tempfile.TemporaryDirectory() as folder:
+        with open(os.path.join(folder, name.split("_")[0] + "s"), "wb") as f:
+            f.write(data)
+        run = subprocess.run(["valgrind", *options, binary(name)], cwd=folder, capture_output=True)
+        out = os.path.join(folder, "out")
+        return run.stderr.decode(), open(out).read() if os.path.exists(out) else ""
+
+
+def instructions(name, cases):
+    data = b"".join(len(c).to_bytes(4, "little") + c for c in cases)
+    said, _ = valgrind(name, data, "--tool=callgrind", "--callgrind-out-file=/dev/null")
+    return int(re.search(r"Collected : (\d+)", said).group(1))
+
+
+def peak(name):
+    data = open(os.path.join(top, "crates", name, "data", name.split("_")[0] + "s"), "rb").read()
+    _, out = valgrind(name, data, "--tool=massif", "--stacks=yes", "--massif-out-file=out")
+    return max(int(n) for n in re.findall(r"mem_stacks_B=(\d+)", out))
+
+
+def growth(title, name, sizes, case):
+    empty = instructions(name, [])
+    costs = [instructions(name, [case(n)]) - empty for n in sizes]
+    print(f"{title}: " + ", ".join(f"{n} {c / costs[0]:.2f}" for n, c in zip(sizes, costs)))
+
+
+def frames(name, least):
+    """the bytes that each function takes from the stack; large frames are taken page by page, unrolled or up to %r11"""
+    listing = subprocess.run(["objdump", "-d", "--no-show-raw-insn", binary(name)], capture_output=True, text=True).stdout
+    taken, function = {}, None
+    for line in listing.splitlines():
+        start = re.match(r"[0-9a-f]+ <(.*)>:$", line)
+        if start:
+            function = start.group(1)
+            taken[function] = 0
+        step = re.search(r"sub +\$0x([0-9a-f]+),%r(sp|11)$", line)
+        if step:
+            taken[function] += int(step.group(1), 16) - (4096 if step.group(2) == "11" else 0)
+    for function, size in sorted(taken.items(), key=lambda x: -x[1]):
+        if size >= least:
+            print(f"  {function} {size}")
+
+
+HEAD = (
+    "FUNCTION_BLOCK f VAR_INPUT a: REAL; END_VAR VAR_OUTPUT y: REAL; END_VAR "
+    "FUZZIFY a TERM t := (0,0),(1,1); END_FUZZIFY "
+    "DEFUZZIFY y TERM k := 1; METHOD : CoGS; DEFAULT := NC; END_DEFUZZIFY RULEBLOCK r ACCU : MAX; "
+)
+TAIL = "END_RULEBLOCK END_FUNCTION_BLOCK"
+
+
+def block(rules, words):
+    condition = " AND ".join(["a IS t"] * ((words + 1) // 2))
+    return (HEAD + "".join(f"RULE {i + 1}: IF {condition} THEN y IS k; " for i in range(rules)) + TAIL).encode()
+
+
+def image(rules, words):
+    """the words of block(rules, words), by document 01"""
+    def name(s):
+        padded = s.encode().ljust(16, b"\0")
+        return [int.from_bytes(padded[i:i + 4], "little") for i in range(0, 16, 4)]
+    counts = [1, 1, 2, 3, rules, rules * words, rules]
+    offsets, end = [], 28
+    for n, width in zip(counts, [7, 11, 6, 2, 6, 1, 2]):
+        offsets.append(end)
+        end += n * width
+    condition = [16] + [16, 1] * ((words - 1) // 2)
+    ws = [1, end, *counts, *offsets, 0, 0, 0, 0, *name("f"), *name("r")]
+    ws += [*name("a"), 0, 0, 1, *name("y"), 1, 1, 0, 0, 0, 0, 0, *name("t"), 0, 2, *name("k"), 2, 1]
+    ws += [0, 0, 1000, 1000000, 1000, 1000000]
+    for i in range(rules):
+        ws += [i + 1, i * words, words, i, 1, 1000000]
+    return b"".join(w.to_bytes(4, "little") for w in ws + condition * rules + [0, 1] * rules)
+
+
+if not os.path.exists(binary("text_vectors")):
+    sys.exit("costs.py: run `rt check` first")
+sizes = [8192, 16384, 32768, 65536]
+print("reading, by bytes of text")
+growth("  a short block and blanks", "text_vectors", sizes, lambda n: block(1, 1).ljust(n))
+growth("  a short block and a comment", "text_vectors", sizes, lambda n: (block(1, 1) + b"(*").ljust(n - 2) + b"*)")
+growth("  a run of digits", "text_vectors", sizes, lambda n: b"7" * n)
+growth("  a run of letters", "text_vectors", sizes, lambda n: b"a" * n)
+print("reading, by rules of nine condition words")
+growth("  rules", "text_vectors", [8, 16, 32, 64], lambda n: block(n, 9))
+print("load check, by rules of nine condition words")
+growth("  rules", "image_vectors", [8, 16, 32, 64], lambda n: image(n, 9))
+for name in ["text_vectors", "image_vectors"]:
+    print(f"{name}: peak of the stack {peak(name)} bytes; frames of 400 bytes and more")
+    frames(name, 400)
