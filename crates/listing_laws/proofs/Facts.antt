@@ -1,19 +1,20 @@
 -- What a well-formed block has, test by test.
 use mathlib.Core.Path.{_≡_}
 use mathlib.Core.Bool.{true, _&&_, not}
-use mathlib.Core.List.{List, [], _++_, map}
+use mathlib.Core.List.{List, [], _∷_, _++_, map}
 use Prim.Native.Nat.{ℕ, _+_, _≤_, _<_}
 use borrow.Author.Tests.{leb-true, ltb-true}
-use lib.Dec.{leb, ltb, eqb}
+use lib.Dec.{leb, eqb}
 use lib.ListN.{length}
 use Rattle.model.specs.Basic.{between, isEmpty, all, total, distinct}
 use Rattle.model.specs.Bounds.{inputLimit, outputLimit, termLimit, pointLeast, pointLimit, ruleLimit, wordLimit, conclusionLimit, nameLimit, ruleNumberLeast, ruleNumberLimit, depthLimit}
-use Rattle.model.specs.Tokens.{isName, sameName, starts, startsName, isNameByte, tidy, inCrisp}
+use Rattle.model.specs.Tokens.{isName, sameName, starts, startsName, isNameByte, tidy}
 use Rattle.model.specs.Keywords.{isKeyword}
-use Rattle.model.specs.Block.{Point, Term, Singleton, Input, Output, Conclusion, Rule, Block, inputTerms, outputFirst, conclusions, size, singletonsOf, inRange}
+use Rattle.model.specs.Block.{Term, Input, Output, Conclusion, Rule, Block, inputTerms, outputFirst, conclusions, size, singletonsOf}
 use Rattle.model.specs.Parentheses.{depth}
 use Rattle.model.specs.WellFormed
 use Rattle.laws.proofs.Tests.{both, passed}
+use Rattle.listing_laws.proofs.Finding.{all-split, distinct-front, distinct-back, distinct-split, named, none-of}
 
 pub name-fits : (w : List ℕ) → isName w ≡ true → leb (length w) nameLimit ≡ true
 unfolding isName
@@ -151,3 +152,25 @@ block-facts b h =
       words = leb-true (total (λ r. size (r .condition)) (b .rules)) wordLimit (d .1 .1 .1 .1 .0);
       conclusions = leb-true (length (conclusions b)) conclusionLimit (d .1 .1 .1 .1 .1 .0);
     }
+
+-- OF ITS VARIABLES
+module _ (b : Block) (h : BlockFacts b) where
+  pub inputs-apart : distinct sameName (map (λ v. v .name) (b .inputs)) ≡ true
+  inputs-apart = distinct-front sameName (map (λ v. v .name) (b .inputs)) (map (λ v. v .name) (b .outputs)) (h .apart)
+
+  pub outputs-apart : distinct sameName (map (λ v. v .name) (b .outputs)) ≡ true
+  outputs-apart = distinct-back sameName (map (λ v. v .name) (b .inputs)) (map (λ v. v .name) (b .outputs)) (h .apart)
+
+  module _ (ds : List Input) (v : Input) (es : List Input) (e : b .inputs ≡ ds ++ (v ∷ es)) where
+    pub input-at : InputFacts v
+    input-at = input-facts v (all-split WellFormed.inputOk ds v es e (h .inputs-ok))
+
+    pub input-new : none-of (named (λ u. u .name) (v .name)) ds ≡ true
+    input-new = distinct-split (λ u. u .name) ds v es e inputs-apart
+
+  module _ (ds : List Output) (v : Output) (es : List Output) (e : b .outputs ≡ ds ++ (v ∷ es)) where
+    pub output-at : OutputFacts v
+    output-at = output-facts v (all-split WellFormed.outputOk ds v es e (h .outputs-ok))
+
+    pub output-new : none-of (named (λ u. u .name) (v .name)) ds ≡ true
+    output-new = distinct-split (λ u. u .name) ds v es e outputs-apart

@@ -5,7 +5,7 @@ use mathlib.Core.List.{List, [], _∷_, _++_, map, map-append, append-assoc}
 use Prim.Native.Nat.{ℕ, zero, suc, _+_, _<_, _≤_}
 use native.Mathlib.Omega.{arith}
 use borrow.Author.Tests.{not-true, le-ltb, lt-ltb}
-use lib.Dec.{ltb, eqb}
+use lib.Dec.{ltb}
 use lib.ListN.{length, length-append, length-map, getD, take}
 use lib.Seq.{getD-at, take-at}
 use Rattle.model.specs.Basic.{isEmpty, all, total, gather, distinct, indexOf, update, updateLast}
@@ -26,10 +26,13 @@ update-last g (x ∷ []) y = refl
 update-last {A} g (x ∷ z ∷ xs) y = ap (λ (l : List A). x ∷ l) (update-last g (z ∷ xs) y)
 
 -- the element in focus passes
-pub all-mid : {A : Type 0} (p : A → Bool) (xs : List A) (y : A) (ys : List A) → all p (xs ++ (y ∷ ys)) ≡ true → p y ≡ true
+all-mid : {A : Type 0} (p : A → Bool) (xs : List A) (y : A) (ys : List A) → all p (xs ++ (y ∷ ys)) ≡ true → p y ≡ true
 unfolding all
 all-mid p [] y ys h = both (p y) (all p ys) h .0
 all-mid p (x ∷ xs) y ys h = all-mid p xs y ys (both (p x) (all p (xs ++ (y ∷ ys))) h .1)
+
+pub all-split : {A : Type 0} (p : A → Bool) {xs : List A} (ds : List A) (y : A) (es : List A) → xs ≡ ds ++ (y ∷ es) → all p xs ≡ true → p y ≡ true
+all-split p ds y es e h = all-mid p ds y es (sym (ap (all p) e) ∙ h)
 
 pub all-map : {A B : Type 0} (p : B → Bool) (g : A → B) (xs : List A) → all p (map g xs) ≡ all (λ x. p (g x)) xs
 unfolding all
@@ -56,7 +59,7 @@ module _ {A : Type 0} (p : A → Bool) where
       let b = both (not (p x)) (none-of p xs) h in
       rw (indexOf, not-true (p x) (b .0)) (ap suc (index-at xs y ys (b .1) e))
 
-  pub index-none : (xs : List A) → none-of p xs ≡ true → indexOf p xs ≡ length xs
+  index-none : (xs : List A) → none-of p xs ≡ true → indexOf p xs ≡ length xs
   unfolding all
   index-none [] h = refl
   index-none (x ∷ xs) h =
@@ -112,13 +115,13 @@ pub distinct-fresh : (ns : List (List ℕ)) (w : List ℕ) (ms : List (List ℕ)
 distinct-fresh ns w ms h =
     all-imp (λ n. not (sameName n w)) (λ n. not (sameName w n)) (λ n. differ n w) ns (distinct-earlier sameName ns w ms h)
 
-pub distinct-before : {A : Type 0} (name : A → List ℕ) (xs : List A) (y : A) (ys : List A)
-    → distinct sameName (map name (xs ++ (y ∷ ys))) ≡ true → none-of (named name (name y)) xs ≡ true
-distinct-before name xs y ys h =
-    fresh-map name (name y) xs
-    (distinct-fresh (map name xs) (name y) (map name ys) (sym (ap (distinct sameName) (map-append name xs (y ∷ ys))) ∙ h))
+pub distinct-split : {A : Type 0} (name : A → List ℕ) {xs : List A} (ds : List A) (y : A) (es : List A) → xs ≡ ds ++ (y ∷ es)
+    → distinct sameName (map name xs) ≡ true → none-of (named name (name y)) ds ≡ true
+distinct-split name ds y es e h =
+    fresh-map name (name y) ds
+    (distinct-fresh (map name ds) (name y) (map name es) (sym (ap (distinct sameName) (ap (map name) e ∙ map-append name ds (y ∷ es))) ∙ h))
 
-pub all-front : {A : Type 0} (p : A → Bool) (xs ys : List A) → all p (xs ++ ys) ≡ true → all p xs ≡ true
+all-front : {A : Type 0} (p : A → Bool) (xs ys : List A) → all p (xs ++ ys) ≡ true → all p xs ≡ true
 all-front p xs ys h = both (all p xs) (all p ys) (sym (all-append p xs ys) ∙ h) .0
 
 pub distinct-front : {A : Type 0} (eq : A → A → Bool) (xs ys : List A) → distinct eq (xs ++ ys) ≡ true → distinct eq xs ≡ true
@@ -160,7 +163,7 @@ cut {A} (x ∷ xs) (suc n) h = more (cut xs n (omega arith))
 
 module _ {A : Type 0} {xs : List A} {n : ℕ} (c : Cut xs n) where
   pub all-cut : (p : A → Bool) → all p xs ≡ true → p (c .mid) ≡ true
-  all-cut p h = all-mid p (c .before) (c .mid) (c .after) (sym (ap (all p) (c .split)) ∙ h)
+  all-cut p h = all-split p (c .before) (c .mid) (c .after) (c .split) h
 
   pub getD-cut : {B : Type 0} (g : A → B) (d : B) → getD (map g xs) n d ≡ g (c .mid)
   getD-cut {B} g d =
@@ -173,7 +176,7 @@ module _ {A : Type 0} {xs : List A} {n : ℕ} (c : Cut xs n) where
 
   module _ (name : A → List ℕ) (apart : distinct sameName (map name xs) ≡ true) where
     unique : none-of (named name (name (c .mid))) (c .before) ≡ true
-    unique = distinct-before name (c .before) (c .mid) (c .after) (sym (ap (λ (l : List A). distinct sameName (map name l)) (c .split)) ∙ apart)
+    unique = distinct-split name (c .before) (c .mid) (c .after) (c .split) apart
 
     -- a name is found where it was declared
     pub found-at : indexOf (named name (name (c .mid))) xs ≡ n
@@ -213,7 +216,8 @@ pub gather-cut : {A B : Type 0} (h : A → List B) {xs : List A} {n m : ℕ} (c 
 unfolding gather
 gather-cut {A} {B} h {xs} {n} {m} c k d =
     ap (λ (l : List B). getD l (length front + m) d) whole
-    ∙ getD-at (front ++ k .before) (k .mid) (k .after ++ back) d (length front + m) (length-append front (k .before) ∙ ap (λ (i : ℕ). length front + i) (k .counted))
+    ∙ getD-at (front ++ k .before) (k .mid) (k .after ++ back) d (length front + m)
+      (length-append front (k .before) ∙ ap (λ (i : ℕ). length front + i) (k .counted))
   where
     front : List B
     front = gather h (c .before)

@@ -1,25 +1,25 @@
 -- The items of a condition read back to the condition, with its words counted.
 use mathlib.Core.Path.{_≡_, refl, sym, ap, _∙_}
-use mathlib.Core.Bool.{Bool, true, false, _&&_}
+use mathlib.Core.Bool.{Bool, true, false}
 use mathlib.Core.List.{List, [], _∷_, _++_, append-assoc}
-use Prim.Native.Nat.{ℕ, zero, suc, _+_, _<_, _≤_, max}
+use Prim.Native.Nat.{ℕ, zero, suc, _+_, _<_, _≤_}
 use native.Mathlib.Omega.{arith}
-use borrow.Author.Tests.{eq-eqb, lt-ltb, le-ltb, ltb-true}
+use borrow.Author.Tests.{eq-eqb, lt-ltb, ltb-true}
 use lib.Dec.{leb, ltb, eqb}
 use lib.ListN.{length, length-append}
 use Rattle.model.specs.Basic.{if_then_else_}
 use Rattle.model.specs.Bounds.{nameLimit, wordLimit, depthLimit}
-use Rattle.model.specs.Keywords.{AND, OR, NOT, IS, OPEN, CLOSE}
+use Rattle.model.specs.Keywords.{AND, OR, NOT, IS, CLOSE}
 use Rattle.model.specs.Block.{Block, Op, and, or, Condition, term, neg, two, size, inputFirst}
-use Rattle.model.specs.Parentheses.{form, depth, opened, negatedForm}
-use Rattle.model.specs.Parse.{Parse, kind, text, is, advance, judged, expect}
+use Rattle.model.specs.Parentheses.{form, depth, opened}
+use Rattle.model.specs.Parse.{Parse, kind, text, is, advance, expect}
 use Rattle.model.specs.Declarations.{inputOf, isInput, termOf, isTerm}
 use Rattle.model.specs.Rules.{ConditionRead, conditionRead, negatedRead, closed, word, conditionTerm, termOrNot, subcondition, chainOn, chain, plain, operand, conditionWith, parenthesis, condition}
 use Rattle.model.specs.WellFormed.{termsBelow}
 use Rattle.model.specs.Listing.{TermNames}
 use Rattle.laws.proofs.Tests.{both, clash}
-use Rattle.listing_laws.proofs.Items.{Item, item, name, word as keyword, opening, closing, within, operator, negatedItems, conditionItems}
-use Rattle.listing_laws.proofs.Reading.{at, headKind, kind-head, is-head, length-rest, expects, judged-pass}
+use Rattle.listing_laws.proofs.Items.{Item, item, name, word as keyword, opening, closing, within, conditionItems}
+use Rattle.listing_laws.proofs.Reading.{at, headKind, is-head, length-rest, expects, judged-pass}
 
 -- the names of input term t lead back to it
 pub record Named (b : Block) (n : TermNames) (t : ℕ) : Type 0 where
@@ -296,7 +296,7 @@ module _ (f : ℕ → ℕ) (b : Block) (g : ℕ → TermNames) where
   module _ (a e : Condition) (oa : Ok a) (oe : Ok e) where
     ok-and : Ok (two and a e)
     unfolding form depth size conditionItems
-    ok-and = record { pOk = paren-read 1 (two and a e) refl (whole (two and a e) o); nOk = paren-operand 2 (two and a e) refl (whole (two and a e) o); aOk = q; oOk = o }
+    ok-and = record { pOk = paren-read 1 (two and a e) refl c; nOk = paren-operand 2 (two and a e) refl c; aOk = q; oOk = o }
       where
         q : AOk (two and a e)
         q d w j rest x hd hw go n h =
@@ -313,6 +313,9 @@ module _ (f : ℕ → ℕ) (b : Block) (g : ℕ → TermNames) where
 
         o : OOk (two and a e)
         o = from-and (two and a e) refl refl q
+
+        c : COk (two and a e)
+        c = whole (two and a e) o
 
     ok-or : Ok (two or a e)
     unfolding form depth size conditionItems

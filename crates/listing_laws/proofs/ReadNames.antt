@@ -2,22 +2,21 @@
 use mathlib.Core.Path.{_≡_, refl, sym, ap, _∙_, subst}
 use mathlib.Core.Bool.{Bool, true, false}
 use mathlib.Core.List.{List, [], _∷_, _++_, map, map-append}
-use Prim.Native.Nat.{ℕ, zero, suc, _+_, _-_, _<_, _≤_}
+use Prim.Native.Nat.{ℕ, suc, _+_, _-_, _<_, _≤_}
 use native.Mathlib.Omega.{arith}
-use borrow.Author.Tests.{ltb-true, ltb-false, lt-ltb}
+use borrow.Author.Tests.{ltb-true, ltb-false}
 use lib.Dec.{leb, ltb}
 use lib.IntN.{pos}
-use lib.ListN.{length, length-append, length-map, getD, take, List·getD-map}
+use lib.ListN.{length, length-append, length-map, getD, List·getD-map}
 use lib.Seq.{getD-append-add}
 use Rattle.model.specs.Basic.{all, total, gather, distinct, indexOf}
 use Rattle.model.specs.Bounds.{nameLimit}
-use Rattle.model.specs.Tokens.{sameName}
 use Rattle.model.specs.Block.{Term, Singleton, Input, Output, Conclusion, Block, inputTerms, outputTerms, inputFirst, outputFirst, termsOf, singletonsOf}
 use Rattle.model.specs.Declarations.{inputOf, outputOf, isInput, isOutput, termOf, singletonOf, isTerm, isSingleton}
 use Rattle.model.specs.Image.{singletonTerm, terms}
 use Rattle.model.specs.Listing.{TermNames, inputTermNames, inputTermName}
 use Rattle.model.specs.WellFormed.{inputOk, outputOk, termOk, singletonOk, figureOk}
-use Rattle.model.specs.Tokens.{isName}
+use Rattle.model.specs.Tokens.{isName, sameName}
 use Rattle.laws.proofs.Tests.{both}
 use Rattle.listing_laws.proofs.Finding.{Cut, cut, map-cut, all-cut, getD-cut, take-cut, gather-cut, length-gather, found-at, is-found, named}
 use Rattle.listing_laws.proofs.Facts.{name-fits, InputFacts, input-facts, term-facts, OutputFacts, output-facts, ConclusionFacts}
@@ -42,8 +41,13 @@ locate (v ∷ vs) t h = go (λ u l. locate vs u l) (ltb t (length (v .terms))) r
         let c = p .at-input in
         record {
           input = suc (p .input);
-          at-input =
-            record { before = v ∷ c .before; mid = c .mid; after = c .after; split = ap (λ (us : List Input). v ∷ us) (c .split); counted = ap suc (c .counted) };
+          at-input = record {
+            before = v ∷ c .before;
+            mid = c .mid;
+            after = c .after;
+            split = ap (λ (us : List Input). v ∷ us) (c .split);
+            counted = ap suc (c .counted);
+          };
           term = p .term;
           at-term = p .at-term;
           counted = omega (arith, p .counted);
@@ -187,10 +191,10 @@ module _ (b : Block) (oks : all outputOk (b .outputs) ≡ true) (apart : distinc
   concluded-here : Concluded b k (c .mid .name) (s .mid .name)
   unfolding singletonOk
   concluded-here =
+      let ok = all-cut s (singletonOk (c .mid .range)) (output-facts-here .terms) in
       record {
         variable-fits = output-facts-here .name;
-        term-fits =
-          name-fits (s .mid .name) (both (isName (s .mid .name)) (figureOk (c .mid .range) (s .mid .at)) (all-cut s (singletonOk (c .mid .range)) (output-facts-here .terms)) .0);
+        term-fits = name-fits (s .mid .name) (both (isName (s .mid .name)) (figureOk (c .mid .range) (s .mid .at)) ok .0);
         declared = output-declared;
         has = ap (λ (i : ℕ). isSingleton i (s .mid .name) b) output-here ∙ singleton-declared;
         output = output-here;

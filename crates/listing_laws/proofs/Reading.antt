@@ -1,19 +1,20 @@
 -- The reader's rules over items: a state shows the items that are left, and each step says what it does to it.
 use mathlib.Core.Path.{_≡_, refl, sym, ap, _∙_}
-use mathlib.Core.Bool.{Bool, true, false}
+use mathlib.Core.Bool.{true, false}
 use mathlib.Core.List.{List, [], _∷_, _++_, map, append-nil, append-assoc}
 use Prim.Native.Nat.{ℕ, zero, suc, _+_, _<_, _≤_}
 use native.Mathlib.Omega.{arith}
 use borrow.Author.Tests.{eq-eqb, ne-eqb}
-use lib.Dec.{eqb}
+use lib.Dec.{leb, eqb}
 use lib.ListN.{length, length-append, length-map}
 use lib.Seq.{append-snoc}
 use Rattle.model.specs.Basic.{if_then_else_, gather}
+use Rattle.model.specs.Bounds.{nameLimit}
 use Rattle.model.specs.Keywords
 use Rattle.model.specs.Tokens.{Token, token}
 use Rattle.model.specs.Block.{Block}
-use Rattle.model.specs.Parse.{Parse, Part, Checks, kind, text, is, refuse, advance, change, judged, expect, repeatOn, repeated, listed}
-use Rattle.listing_laws.proofs.Items.{Item, item, itemOf, comma, commas}
+use Rattle.model.specs.Parse.{Parse, Part, Checks, kind, text, is, advance, change, judged, expect, repeatOn, repeated, listed, ownName}
+use Rattle.listing_laws.proofs.Items.{Item, item, itemOf, name, comma, commas}
 
 -- tokens of some items; the place of each goes by how many follow it
 abbrev pub laid : (ℕ → ℕ) → List Item → List Token
@@ -24,26 +25,17 @@ unfoldable pub at : (ℕ → ℕ) → List Item → Block → ℕ → Parse
 at f xs b w = record { rest = laid f xs; why = 0; place = 0; block = b; words = w }
 
 module _ (f : ℕ → ℕ) (x : Item) (xs : List Item) (b : Block) (w : ℕ) where
-  pub kind-at : kind (at f (x ∷ xs) b w) ≡ x .kind
+  kind-at : kind (at f (x ∷ xs) b w) ≡ x .kind
   unfolding at kind
   kind-at = refl
 
-  pub text-at : text (at f (x ∷ xs) b w) ≡ x .text
-  unfolding at text
-  text-at = refl
-
-  pub advance-at : advance (at f (x ∷ xs) b w) ≡ at f xs b w
+  advance-at : advance (at f (x ∷ xs) b w) ≡ at f xs b w
   unfolding at advance
   advance-at = refl
 
-module _ (f : ℕ → ℕ) (xs : List Item) (b : Block) (w : ℕ) where
-  pub block-at : at f xs b w .block ≡ b
-  unfolding at
-  block-at = refl
-
-  pub change-at : (g : Block → Block) → change g (at f xs b w) ≡ at f xs (g b) w
-  unfolding at change
-  change-at g = refl
+pub change-at : (f : ℕ → ℕ) (xs : List Item) (b : Block) (w : ℕ) (g : Block → Block) → change g (at f xs b w) ≡ at f xs (g b) w
+unfolding at change
+change-at f xs b w g = refl
 
 pub expects : (k : ℕ) (f : ℕ → ℕ) (t : List ℕ) (xs : List Item) (b : Block) (w : ℕ) → expect k (at f (item k t ∷ xs) b w) ≡ at f xs b w
 unfolding expect
@@ -59,12 +51,18 @@ unfolding judged
 judged-pass [] r next h = refl
 judged-pass ((ok, n) ∷ cs) r next h = rw (h .0) (judged-pass cs r next (h .1))
 
+-- a name of its own
+pub own-name : (with : List ℕ → Block → Block) (f : ℕ → ℕ) (t : List ℕ) (xs : List Item) (b : Block) (w : ℕ)
+    → leb (length t) nameLimit ≡ true → ownName with (at f (name t ∷ xs) b w) ≡ at f xs (with t b) w
+unfolding ownName at kind text advance change
+own-name with f t xs b w h = judged-pass _ _ _ (refl, (h, tt))
+
 -- the kind of the first item
 abbrev pub headKind : List Item → ℕ
 headKind [] = Keywords.END
 headKind (x ∷ xs) = x .kind
 
-pub kind-head : (f : ℕ → ℕ) (xs : List Item) (b : Block) (w : ℕ) → kind (at f xs b w) ≡ headKind xs
+kind-head : (f : ℕ → ℕ) (xs : List Item) (b : Block) (w : ℕ) → kind (at f xs b w) ≡ headKind xs
 unfolding at kind
 kind-head f [] b w = refl
 kind-head f (x ∷ xs) b w = refl
@@ -128,7 +126,7 @@ module _ {X : Type 0} (k : ℕ) (part : Part) (items : X → List Item) (B : Lis
       ∙ repeats n (ds ++ (x ∷ [])) es (e ∙ sym (append-snoc ds x es)) (omega arith)
 
   -- the elements from es on
-  pub repeated-reads : (ds es : List X) → xs ≡ ds ++ es
+  repeated-reads : (ds es : List X) → xs ≡ ds ++ es
       → repeated k part (at f (gather items es ++ rest) (B ds) (W ds)) ≡ at f rest (B xs) (W xs)
   unfolding repeated
   repeated-reads ds es e =
@@ -176,8 +174,15 @@ listed-reads {X} part items B W f xs walks rest stops x es e =
     after : Walks each more B W f xs
     after ds y zs ys h = ap part (expects Keywords.COMMA f _ (items y ++ ys) (B ds) (W ds)) ∙ walks ds y zs ys h
 
+pub listed-one : (part : Part) (r : Parse) (f : ℕ → ℕ) (rest : List Item) (b : Block) (w : ℕ) → part r ≡ at f rest b w
+    → eqb (headKind rest) Keywords.COMMA ≡ false → listed part r ≡ at f rest b w
+unfolding listed repeated
+listed-one part r f rest b w h stops =
+    ap (repeated Keywords.COMMA (λ q. part (expect Keywords.COMMA q))) h
+    ∙ never Keywords.COMMA (λ q. part (expect Keywords.COMMA q)) _ (at f rest b w) (is-head Keywords.COMMA f rest b w ∙ stops)
+
 -- PLACES: any tokens are laid from their items
-abbrev placesOf : List Token → ℕ → ℕ
+abbrev pub placesOf : List Token → ℕ → ℕ
 placesOf [] n = 0
 placesOf (t ∷ ts) n = if eqb n (length ts) then t .place else placesOf ts n
 
