@@ -1,5 +1,6 @@
 #!/usr/bin/env python3
-"""vectors.py FOLDER: from the vectors of FOLDER, writes what the programs text_vectors, image_vectors and call_vectors read and must write."""
+"""vectors.py FOLDER: from the vectors of FOLDER, writes what the programs text_vectors, image_vectors and call_vectors
+read and must write."""
 import json
 import os
 import sys
@@ -33,52 +34,58 @@ def reading(r):
     return word(2) + word(r["INT"])
 
 
+def refusal(number, place):
+    return f"{number} {'-' if place is None else place}"
+
+
 def figures(held):
-    return " ".join(str(x) for x in held)
+    return ", " + " ".join(str(x) for x in held)
 
 
 def answer(a):
-    return f"{a['mark']} {a['thousandths']} {a['S']} {a['f64']:016x}, "
+    return f", {a['mark']} {a['thousandths']} {a['S']} {a['f64']:016x}"
 
 
 def outcome(call):
     none = {"mark": "none", "thousandths": 0, "S": 0, "f64": 0}
     answers = call.get("answers", [])
-    number, place = call.get("refused", [0, None])
     shown = "".join(answer(a) for a in answers + [none] * (6 - len(answers)))
     # a refused call leaves the record
     after = call["held"] if "refused" in call else call["after"]
-    return f"{number} {'-' if place is None else place}, {shown}{figures(after)}"
+    return refusal(*call.get("refused", [0, None])) + shown + figures(after)
 
 
 data, lines = [], []
 for case in json.load(open(os.path.join(source, "texts.json"))):
     data.append(with_length(case["text"].encode("latin-1")))
     if "refused" in case:
-        lines.append("%d %d" % tuple(case["refused"]))
+        lines.append(refusal(*case["refused"]))
     else:
-        # then the same text with one byte too little room
-        lines += [case["image"], f"10 {len(case['image']) // 2}"]
+        # then the same text with the room that it needs, and with one byte less
+        lines += [case["image"], case["image"], refusal(10, len(case["image"]) // 2)]
 # the longest text and one byte more, by document 01: no token in it, and too long
 data += [with_length(b" " * 65536), with_length(b" " * 65537)]
-lines += ["2 65536", "1 0"]
+lines += [refusal(2, 65536), refusal(1, 0)]
 write("text_vectors", b"".join(data), lines)
 
-cases = json.load(open(os.path.join(source, "images.json")))
-write(
-    "image_vectors",
-    b"".join(with_length(bytes.fromhex(c["image"])) for c in cases),
-    ["accepted" if c["accepted"] else "11" for c in cases],
-)
+# of a refused image a fresh record, all zero, and a call, which leaves the record that image_vectors lends it
+lent = [1, -2, 30, -400, 5000, -60000]
+refused = [refusal(11, None), refusal(11, None) + figures([0] * 6), outcome({"refused": [11, None], "held": lent})]
+data, lines = [], []
+for case in json.load(open(os.path.join(source, "images.json"))):
+    data.append(with_length(bytes.fromhex(case["image"])))
+    lines += [refusal(0, None)] if case["accepted"] else refused
+write("image_vectors", b"".join(data), lines)
 
 data, lines = [], []
 for block in json.load(open(os.path.join(source, "calls.json"))):
-    data += [with_length(bytes.fromhex(block["image"])), word(len(block["calls"]))]
-    lines.append("0 -, " + figures(block["fresh"]))
+    data.append(with_length(bytes.fromhex(block["image"])))
+    lines.append(refusal(0, None) + figures(block["fresh"]))
     for call in block["calls"]:
         readings = call["readings"]
-        data.append(word(len(readings)))
-        data += [reading(r) for r in readings + [None] * (8 - len(readings))]
-        data += [word(x) for x in call["held"]]
+        parts = [word(len(readings))] + [reading(r) for r in readings + [None] * (8 - len(readings))]
+        data.append(with_length(b"".join(parts + [word(x) for x in call["held"]])))
         lines.append(outcome(call))
+    # an empty case behind the calls
+    data.append(with_length(b""))
 write("call_vectors", b"".join(data), lines)

@@ -17,7 +17,7 @@ use Rattle.model.specs.declared.Degree.{Degree}
 use Rattle.model.specs.Bounds.{M}
 use Rattle.degrees.specs.Tables.{numbers, Low}
 use Rattle.aggregation.proofs.Degrees.{low-set, numbers-set, numbers-zeros, number-at}
-use Rattle.accumulation.specs.Heights.{afterConclusions, afterRules}
+use Rattle.accumulation.specs.Heights.{afterConclusions}
 
 -- THE BLOCK'S HEIGHT
 abbrev given : ℕ → ℕ → List Conclusion → List ℕ
@@ -37,6 +37,11 @@ conclusions-give a d t (k ∷ ks) h = go (eqb (k .term) t) ∙ conclusions-give 
     go true = refl
     go false = refl
 
+-- after some rules
+unfoldable pub afterRules : Block → List ℕ → ℕ → List Rule → ℕ → ℕ
+afterRules b ds t [] h = h
+afterRules b ds t (r ∷ rs) h = afterRules b ds t rs (afterConclusions (b .accu) (ruleDegree b ds r) t (r .conclusions) h)
+
 module _ (b : Block) (ds : List ℕ) (t : ℕ) where
   rules-give : (rs : List Rule) (h : ℕ) → accumulateAll (b .accu) h (gather (λ r. given t (ruleDegree b ds r) (r .conclusions)) rs) ≡ afterRules b ds t rs h
   unfolding accumulateAll afterRules gather
@@ -54,7 +59,8 @@ module _ (b : Block) (ds : List ℕ) (t : ℕ) where
 
 -- WHAT IS LEFT FROM j UP TO n
 module _ (a : Accumulation) (d : ℕ) (f : ℕ → Conclusion) (s n j : ℕ) (t h : ℕ) where
-  conclusions-turn : j < n → afterConclusions a d t (tab f (n - j) (s + j)) h ≡ afterConclusions a d t (tab f (n - (j + 1)) (s + (j + 1))) (if eqb (f (s + j) .term) t then accumulated a h d else h)
+  conclusions-turn : j < n → afterConclusions a d t (tab f (n - j) (s + j)) h
+      ≡ afterConclusions a d t (tab f (n - (j + 1)) (s + (j + 1))) (if eqb (f (s + j) .term) t then accumulated a h d else h)
   unfolding afterConclusions tab
   conclusions-turn l =
       let e : s + (j + 1) ≡ suc (s + j) = omega arith in
@@ -98,13 +104,15 @@ one-changed a d l m t p v lo hi e = go (eqb t (m + p)) refl
 
 module _ (a : Accumulation) (d : ℕ) (f : ℕ → Conclusion) (s n j m : ℕ) (r : List Degree) (t : ℕ) (v : Degree) where
   pub conclusion-turn : j < n → t ≡ f (s + j) .term → m ≤ t → t < m + length r → v .0 ≡ accumulated a (getD r (t - m) (record { 0 = 0 }) .0) d
-      → (p : ℕ) → afterConclusions a d (m + p) (tab f (n - (j + 1)) (s + (j + 1))) (getD (numbers (set r (t - m) v)) p 0) ≡ afterConclusions a d (m + p) (tab f (n - j) (s + j)) (getD (numbers r) p 0)
+      → (p : ℕ) → afterConclusions a d (m + p) (tab f (n - (j + 1)) (s + (j + 1))) (getD (numbers (set r (t - m) v)) p 0)
+      ≡ afterConclusions a d (m + p) (tab f (n - j) (s + j)) (getD (numbers r) p 0)
   conclusion-turn l e lo hi q p =
       let g = getD (numbers r) p 0 in
       let e₁ : v .0 ≡ accumulated a (getD (numbers r) (t - m) 0) d = q ∙ ap (λ (x : ℕ). accumulated a x d) (number-at r (t - m)) in
       let k : t < m + length (numbers r) = rw length-map hi in
-      let c : getD (numbers (set r (t - m) v)) p 0 ≡ (if eqb (f (s + j) .term) (m + p) then accumulated a g d else g) =
-      ap (λ (y : List ℕ). getD y p 0) (numbers-set r (t - m) v) ∙ one-changed a d (numbers r) m t p (v .0) lo k e₁ ∙ ap (λ (x : ℕ). if eqb x (m + p) then accumulated a g d else g) e in
+      let after : ℕ → ℕ = λ x. if eqb x (m + p) then accumulated a g d else g in
+      let o = one-changed a d (numbers r) m t p (v .0) lo k e₁ in
+      let c : getD (numbers (set r (t - m) v)) p 0 ≡ after (f (s + j) .term) = ap (λ (y : List ℕ). getD y p 0) (numbers-set r (t - m) v) ∙ o ∙ ap after e in
       ap (afterConclusions a d (m + p) (tab f (n - (j + 1)) (s + (j + 1)))) c ∙ sym (conclusions-turn a d f s n j (m + p) g l)
 
 pub low-turn : (r : List Degree) (n : ℕ) (v : Degree) → Low (numbers r) → v .0 ≤ M → Low (numbers (set r n v))

@@ -12,15 +12,12 @@ use Rattle.model.specs.declared.Pair.{Pair}
 use Rattle.model.specs.Block.{Op, and, or, Condition, term, neg, two}
 use Rattle.model.specs.Degrees.{notOf, pairs, conditionDegree}
 use Rattle.model.specs.Image.{opWord, treeOf, tab}
-use Rattle.stored_conditions.specs.Machine.{Meaning, room, fold, added, unary, binary, step, turn, pass, stackOf}
+use Rattle.stored_conditions.specs.Machine.{Meaning, room, added, unary, binary, step, turn, stackOf}
 use Rattle.stored_conditions.specs.Stored.{conditionStored}
-use Rattle.stored_conditions.proofs.Passes.{Allowed, pass-postfix, Left, left-start, left-turn, left-end, left-none}
+use Rattle.stored_conditions.proofs.Passes.{none-some, fold, pass, Allowed, pass-postfix, Left, left-start, left-turn, left-end, left-none}
 use Rattle.stored_conditions.proofs.Accepted.{condition-in}
 use Rattle.stored_conditions.proofs.Stacks.{length-stack, stack-push, stack-one, stack-two}
 use Rattle.aggregation.specs.Stacks.{byDegrees}
-
-none-some : {A : Type 0} (x : A) → _≡_ {A = Option A} none (some x) → ⊥
-none-some x e = let z : _≡_ {A = ℕ} 0 1 = cc in omega arith
 
 some-eq : {A : Type 0} (x y : A) → some x ≡ some y → x ≡ y
 some-eq x y e = cc
@@ -112,7 +109,8 @@ module _ {A : Type 0} (g : Meaning A) (f : ℕ → ℕ) (d n : ℕ) where
   unfolding Follows
   follows-start x q = left-start g f d n
 
-  pub follows-turn : (i w : ℕ) (st st′ : List A) → i < n → w ≡ f (d + i) → ((s : List A) → turn g w (some st) ≡ some s → st′ ≡ s) → Follows i st → Follows (i + 1) st′
+  pub follows-turn : (i w : ℕ) (st st′ : List A) → i < n → w ≡ f (d + i) → ((s : List A) → turn g w (some st) ≡ some s → st′ ≡ s)
+      → Follows i st → Follows (i + 1) st′
   unfolding Follows
   follows-turn i w st st′ h e t p x q = go (turn g w (some st)) refl
     where

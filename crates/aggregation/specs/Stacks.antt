@@ -1,4 +1,5 @@
--- The machine that keeps of each subtree its degree.
+-- A helper: the machine that keeps of each subtree its degree, and the code's stack as that machine's. `ends` of
+-- proofs/Steps ties what it leaves to model's `conditionDegree`.
 use mathlib.Core.List.{List}
 use mathlib.Core.Bool.{true}
 use Prim.Native.Nat.{ℕ, _≤_}

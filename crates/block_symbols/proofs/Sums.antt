@@ -53,7 +53,8 @@ module _ (r : List ℕ) (i k : ℕ) (l : length r ≡ 17) (h : i < 16) where
       by : (v : ℕ) → v ≤ i + 1 → (t : Bool) → eqb v (i + 1) ≡ t → getD (set r (i + 1) (getD r i 0 + k)) v 0 ≡ sums c v
       by v b true q =
           let z = eqb-true v (i + 1) q in
-          ap (λ (w : ℕ). getD (set r (i + 1) (getD r i 0 + k)) w 0) z ∙ last-is ∙ (λ j. f .first i (omega arith) j + e j) ∙ sym (sums-more c i) ∙ ap (sums c) (sym z)
+          ap (λ (w : ℕ). getD (set r (i + 1) (getD r i 0 + k)) w 0) z ∙ last-is ∙ (λ j. f .first i (omega arith) j + e j) ∙ sym (sums-more c i)
+          ∙ ap (sums c) (sym z)
       by v b false q = let z = eqb-false v (i + 1) q in getD-set-other r (i + 1) v (getD r i 0 + k) 0 z ∙ f .first v (omega (arith, lt-of-le-ne b z))
 
 -- LISTS

@@ -1,131 +1,13 @@
 // Runs the calls of data/calls and writes a line for the fresh record of each image and one for each call.
-// The file, and the lines to expect, are made by tools/vectors.py from vectors worked out elsewhere.
 ghost use Prim.Native.Nat.{_≤_};
-use model::Answer;
 use model::Crisp;
-use model::Evaluation;
 use model::Held;
-use model::Mark;
 use model::Reading;
-use model::Refusal;
-use model::Verdict;
+use vectors::next_case;
+use vectors::write_evaluation;
+use vectors::write_fresh;
 use words::crisp_at;
 use words::word;
-
-// Any 32-bit number in decimal: a held record that is refused may hold each of them.
-fn write_signed(x: Crisp) {
-    let n = x.0;
-    if n < -2147483647 {
-        io::write_all(1, b"-2147483648");
-        return;
-    }
-    if n < 0 {
-        io::write_all(1, b"-");
-        io::print_decimal(1, (0 - n) as u64);
-    } else {
-        io::print_decimal(1, n as u64);
-    }
-}
-
-fn write_figures(held: Held) {
-    let f = held.figures;
-    write_signed(f[0]);
-    io::write_all(1, b" ");
-    write_signed(f[1]);
-    io::write_all(1, b" ");
-    write_signed(f[2]);
-    io::write_all(1, b" ");
-    write_signed(f[3]);
-    io::write_all(1, b" ");
-    write_signed(f[4]);
-    io::write_all(1, b" ");
-    write_signed(f[5]);
-    io::write_all(1, b"\n");
-}
-
-fn write_place(k: usize) {
-    io::write_all(1, b"14 ");
-    io::print_decimal(1, k as u64);
-    io::write_all(1, b", ");
-}
-
-// The number, 0 for accepted, and the place that only 14 has here.
-fn write_verdict(v: Verdict) {
-    match v {
-        Verdict::Accepted => {
-            io::write_all(1, b"0 -, ");
-        }
-        Verdict::Refused(r) => match r {
-            Refusal::ImageNotAccepted => {
-                io::write_all(1, b"11 -, ");
-            }
-            Refusal::WrongCount => {
-                io::write_all(1, b"12 -, ");
-            }
-            Refusal::WrongHeld => {
-                io::write_all(1, b"13 -, ");
-            }
-            Refusal::WrongReading(k) => write_place(k),
-            _ => {
-                io::write_all(1, b"?, ");
-            }
-        },
-    }
-}
-
-fn write_mark(m: Mark) {
-    match m {
-        Mark::None => {
-            io::write_all(1, b"none ");
-        }
-        Mark::Fired => {
-            io::write_all(1, b"fired ");
-        }
-        Mark::Default => {
-            io::write_all(1, b"default ");
-        }
-        Mark::Held => {
-            io::write_all(1, b"held ");
-        }
-    }
-}
-
-// The bits of a float, in hex.
-fn write_bits(x: f64) {
-    if x != x {
-        io::write_all(1, b"NaN");
-        return;
-    }
-    io::print_hex(1, f64::to_bits(x), 16);
-}
-
-fn write_answer(a: Answer) {
-    let m = a.mark;
-    write_mark(m);
-    let t = a.thousandths;
-    write_signed(t);
-    io::write_all(1, b" ");
-    let s = a.sum;
-    io::print_decimal(1, s as u64);
-    io::write_all(1, b" ");
-    let x = a.value;
-    write_bits(x);
-    io::write_all(1, b", ");
-}
-
-fn write_evaluation(e: Evaluation) {
-    let v = e.verdict;
-    write_verdict(v);
-    let a = e.answers;
-    write_answer(a[0]);
-    write_answer(a[1]);
-    write_answer(a[2]);
-    write_answer(a[3]);
-    write_answer(a[4]);
-    write_answer(a[5]);
-    let h = e.held;
-    write_figures(h);
-}
 
 // The float of a pattern; a NaN's pattern gives a NaN.
 fn float_of(n: u32) -> f32 {
@@ -197,55 +79,37 @@ fn run_words(img: &[u8], call: &[u8]) {
     write_evaluation(e);
 }
 
+// False behind the last call, which an empty case marks.
 fn run_call(fd: i32, img: &[u8]) -> bool {
     let mut call = [0u8; 92];
-    if io::read_full(fd, &mut call) != 92 {
+    if next_case(fd, &mut call) != 92 {
         return false;
     }
     run_words(img, &call);
     true
 }
 
-fn run_calls(fd: i32, img: &[u8], calls: usize) -> bool {
-    let mut i = 0usize;
-    while i < calls {
-        if !run_call(fd, img) {
-            return false;
-        }
+fn run_calls(fd: i32, img: &[u8]) {
+    let mut i = 0u32;
+    while i < 100000 && run_call(fd, img) {
         i += 1;
     }
-    true
 }
 
-// The image is as long as the slice; the number of its calls follows it, then the calls.
-fn run_image(fd: i32, img: &mut [u8]) -> bool {
-    if io::read_full(fd, img) != img.len() {
-        return false;
-    }
-    let fresh = evaluation::fresh_of(img);
-    let v = fresh.verdict;
-    write_verdict(v);
-    let h = fresh.held;
-    write_figures(h);
-    let mut head = [0u8; 4];
-    if io::read_full(fd, &mut head) != 4 {
-        return false;
-    }
-    run_calls(fd, img, word(&head, 0))
+fn run_image(fd: i32, img: &[u8]) {
+    write_fresh(evaluation::fresh_of(img));
+    run_calls(fd, img);
 }
 
-// One block: the length of its image in a word, then its image and its calls. False at the end of the file.
-fn run_block(fd: i32) -> bool {
-    let mut head = [0u8; 4];
-    if io::read_full(fd, &mut head) != 4 {
-        return false;
-    }
-    let n = word(&head, 0);
+// An image and its calls. False at the end of the file.
+fn run_case(fd: i32) -> bool {
+    let mut img = io::large_buffer();
+    let n = next_case(fd, &mut img);
     if n > 65536 {
         return false;
     }
-    let mut img = io::large_buffer();
-    run_image(fd, &mut img[..n])
+    run_image(fd, &img[..n]);
+    true
 }
 
 fn main() {
@@ -254,7 +118,7 @@ fn main() {
         return;
     }
     let mut i = 0u32;
-    while i < 100000 && run_block(fd) {
+    while i < 100000 && run_case(fd) {
         i += 1;
     }
     libc::close(fd);

@@ -18,14 +18,12 @@ use Rattle.laws.proofs.Lists.{map-tab}
 use Rattle.laws.proofs.Places.{length-tab}
 use Rattle.centre.specs.Centre.{figureOf}
 use Rattle.held.proofs.Laws.{held-tab}
-use Rattle.layout.specs.Tables.{outputCount, inputTermsIn}
+use Rattle.layout.specs.Tables.{outputCount, outputFirstAt}
 use Rattle.layout.specs.Groups.{Sound}
-use Rattle.layout.proofs.TableLaws.{Runs}
-use Rattle.layout.proofs.Parts.{outputFirst}
-use Rattle.layout.proofs.Sound.{outputs-run, outputs-few}
+use Rattle.layout.proofs.Sound.{output-first, outputs-few}
 
-pub fired-is : (v : Output) (ps : List ℤ) (hs : List ℕ) (held z : ℤ) (s : ℕ) → ps ≡ map (λ t. t .at) (v .terms) → s ≡ sumOf hs → z ≡ figureOf ps hs → 0 < s
-    → answerWith Fired z s ≡ outputAnswer v hs held
+pub fired-is : (v : Output) (ps : List ℤ) (hs : List ℕ) (held z : ℤ) (s : ℕ)
+    → ps ≡ map (λ t. t .at) (v .terms) → s ≡ sumOf hs → z ≡ figureOf ps hs → 0 < s → answerWith Fired z s ≡ outputAnswer v hs held
 unfolding outputAnswer
 fired-is v ps hs held z s ep es ez h =
     let p : 0 < sumOf hs = subst (λ (n : ℕ). 0 < n) es h in
@@ -41,28 +39,30 @@ unfired-is v hs held s es e =
 -- ALL OUTPUTS
 -- the answer of output j
 unfoldable pub answerAt : (ℕ → ℕ) → (ℕ → ℕ) → List Crisp → ℕ → Answer
-answerAt w h was j = outputAnswer (outputAt w j) (tab h (outputCount w j) (outputFirst w j)) (getD was j (record { 0 = pos 0 }) .0)
+answerAt w h held j = outputAnswer (outputAt w j) (tab h (outputCount w j) (outputFirstAt w j)) (getD held j (record { 0 = pos 0 }) .0)
 
--- the answers of k outputs from the i-th on
-answers-on : (w h : ℕ → ℕ) (was : List Crisp) (k i p : ℕ) → i + k ≤ length was → Runs (outputFirst w) (outputCount w) k i p
-    → outputAnswers h p (tab (outputAt w) k i) (map (λ c. c .0) (drop i was)) ≡ tab (answerAt w h was) k i
-unfolding outputAnswers tab Runs answerAt outputAt
-answers-on w h was zero i p l r = refl
-answers-on w h was (suc k) i p l r =
-    let d : drop i was ≡ getD was i (record { 0 = pos 0 }) ∷ drop (suc i) was = drop-cons was i (record { 0 = pos 0 }) (omega arith) in
-    let n : length (tab (singletonAt w) (outputCount w i) (outputFirst w i)) ≡ outputCount w i = length-tab (singletonAt w) (outputCount w i) (outputFirst w i) in
-    let x = getD was i (record { 0 = pos 0 }) .0 in
-    ap (λ (c : List Crisp). outputAnswers h p (tab (outputAt w) (suc k) i) (map (λ c. c .0) c)) d
-    ∙ (λ j. outputAnswer (outputAt w i) (tab h (n j) (sym (r .0) j)) x ∷ outputAnswers h (p + n j) (tab (outputAt w) k (suc i)) (map (λ c. c .0) (drop (suc i) was)))
-    ∙ ap (λ (c : List Answer). answerAt w h was i ∷ c) (answers-on w h was k (suc i) (p + outputCount w i) (omega arith) (r .1))
+module _ (w h : ℕ → ℕ) (held : List Crisp) (s : Sound w) where
+  -- the answers of k outputs from the i-th on
+  answers-on : (k i : ℕ) → i + k ≤ length held → i + k ≤ w 3
+      → outputAnswers (decode w) h i (tab (outputAt w) k i) (map (λ c. c .0) (drop i held)) ≡ tab (answerAt w h held) k i
+  unfolding outputAnswers tab answerAt outputAt
+  answers-on zero i l r = refl
+  answers-on (suc k) i l r =
+      let none : Crisp = record { 0 = pos 0 } in
+      let first = output-first w (s .frame) i (omega arith) in
+      let n = length-tab (singletonAt w) (outputCount w i) (outputFirstAt w i) in
+      let rest = outputAnswers (decode w) h (suc i) (tab (outputAt w) k (suc i)) (map (λ c. c .0) (drop (suc i) held)) in
+      ap (λ (cs : List Crisp). outputAnswers (decode w) h i (tab (outputAt w) (suc k) i) (map (λ c. c .0) cs)) (drop-cons held i none (omega arith))
+      ∙ (λ j. outputAnswer (outputAt w i) (tab h (n j) (first j)) (getD held i none .0) ∷ rest)
+      ∙ ap (λ (rs : List Answer). answerAt w h held i ∷ rs) (answers-on k (suc i) (omega arith) (omega arith))
 
-pub answers-are : (w h : ℕ → ℕ) (was : List Crisp) → Sound w → length was ≡ 6
-    → outputAnswers h (inputTermsIn w) (decode w .outputs) (map (λ c. c .0) was) ≡ tab (answerAt w h was) (w 3) 0
-unfolding decode
-answers-are w h was s l = answers-on w h was (w 3) 0 (inputTermsIn w) (omega (arith, outputs-few w s)) (outputs-run w s)
+  pub answers-are : length held ≡ 6 → outputAnswers (decode w) h 0 (decode w .outputs) (map (λ c. c .0) held) ≡ tab (answerAt w h held) (w 3) 0
+  unfolding decode
+  answers-are l = answers-on (w 3) 0 (omega (arith, outputs-few w s)) (omega arith)
 
 pub padded-is : (f : ℕ → Answer) (n : ℕ) → tab f n 0 ++ replicate (6 - n) noAnswer ≡ padded noAnswer (tab f n 0)
 padded-is f n = ap (λ (k : ℕ). tab f n 0 ++ replicate (6 - k) noAnswer) (sym (length-tab f n 0))
 
-pub held-is : (f : ℕ → Answer) (n : ℕ) → tab (λ j. f j .thousandths) n 0 ++ replicate (6 - n) (record { 0 = pos 0 }) ≡ heldOf (map (λ a. a .thousandths .0) (tab f n 0)) .figures
+pub held-is : (f : ℕ → Answer) (n : ℕ)
+    → tab (λ j. f j .thousandths) n 0 ++ replicate (6 - n) (record { 0 = pos 0 }) ≡ heldOf (map (λ a. a .thousandths .0) (tab f n 0)) .figures
 held-is f n = held-tab (λ j. f j .thousandths .0) n ∙ ap (λ (l : List ℤ). heldOf l .figures) (sym (map-tab (λ a. a .thousandths .0) f n 0))

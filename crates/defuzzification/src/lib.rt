@@ -4,11 +4,12 @@ ghost use mathlib.Core.List.{map};
 ghost use Prim.Native.Nat.{_+_, _≤_, _<_};
 ghost use Rattle.model.specs.Image.{wordAt, tab, singletonAt, outputAt};
 ghost use Rattle.model.specs.Evaluation.{unfired, outputAnswer, noAnswer, padded, heldOf};
+ghost use Rattle.header.specs.Header.{Heads};
 ghost use Rattle.centre.specs.Centre.{positions, heights};
-ghost use Rattle.layout.specs.Tables.{inputTermsIn, outputCount};
+ghost use Rattle.layout.specs.Tables.{inputTermsIn, outputCount, outputFirstAt};
 ghost use Rattle.layout.specs.Groups.{Sound};
-ghost use Rattle.layout.proofs.Parts.{outputFirst};
 ghost use Rattle.defuzzification.specs.Outputs.{heightOf, HeightsOk, answersBy};
+use header::Header;
 use model::Answer;
 use model::Crisp;
 use model::Degree;
@@ -18,23 +19,23 @@ use words::crisp_at;
 use words::word;
 
 // The position of output term t.
-fn position(img: &[u8], t: usize) -> Crisp
-    requires { ⌜ t ≤ 10000000000 ⌝ }
+fn position(img: &[u8], h: Header, t: usize) -> Crisp
+    requires { ⌜ Heads (wordAt (now img)) h × (t ≤ 10000000000) ⌝ }
     ensures { λ r. ⌜ r .0 ≡ singletonAt (wordAt (now (img .entry))) t .at ⌝ }
 {
-    let first = word(img, word(img, 11) + t * 6 + 4);
-    crisp_at(img, word(img, 12) + first * 2)
+    let first = word(img, header::term_row(h, t) + header::TERM_FIRST);
+    crisp_at(img, header::point_row(h, first))
 }
 
 // The positions of the n terms from the first on.
-fn positions_of(img: &[u8], first: usize, n: usize) -> [Crisp; 7]
-    requires { ⌜ (first ≤ 4294967295) × (n ≤ 7) ⌝ }
+fn positions_of(img: &[u8], h: Header, first: usize, n: usize) -> [Crisp; bounds::TERMS]
+    requires { ⌜ Heads (wordAt (now img)) h × (first ≤ 4294967295) × (n ≤ 7) ⌝ }
     ensures { λ r. ⌜ positions r n ≡ map (λ s. s .at) (tab (singletonAt (wordAt (now (img .entry)))) n first) ⌝ }
 {
-    let mut ps = [Crisp(0); 7];
+    let mut ps = [Crisp(0); bounds::TERMS];
     let mut i = 0usize;
     while i < n {
-        let p = position(img, first + i);
+        let p = position(img, h, first + i);
         ps[i] = p;
         i += 1;
     }
@@ -42,11 +43,11 @@ fn positions_of(img: &[u8], first: usize, n: usize) -> [Crisp; 7]
 }
 
 // The heights of the n terms from the one at place `from` on.
-fn heights_of(hs: [Degree; 42], from: usize, n: usize) -> [Degree; 7]
+fn heights_of(hs: [Degree; bounds::OUTPUT_TERMS], from: usize, n: usize) -> [Degree; bounds::TERMS]
     requires { ⌜ (from + n ≤ 42) × (n ≤ 7) ⌝ }
     ensures { λ r. ⌜ heights r n ≡ tab (heightOf hs 0) n from ⌝ }
 {
-    let mut r = [Degree(0); 7];
+    let mut r = [Degree(0); bounds::TERMS];
     let mut i = 0usize;
     while i < n {
         let h = hs[from + i];
@@ -57,12 +58,12 @@ fn heights_of(hs: [Degree; 42], from: usize, n: usize) -> [Degree; 7]
 }
 
 // The answer of output i where no height is above 0.
-fn without_rule(img: &[u8], i: usize, held: Crisp) -> Answer
-    requires { ⌜ i ≤ 4294967295 ⌝ }
+fn without_rule(img: &[u8], h: Header, i: usize, held: Crisp) -> Answer
+    requires { ⌜ Heads (wordAt (now img)) h × (i ≤ 4294967295) ⌝ }
     ensures { λ r. ⌜ r ≡ unfired (outputAt (wordAt (now (img .entry))) i .default) (held .0) ⌝ }
 {
-    let row = word(img, 10) + i * 11;
-    if word(img, row + 9) == 0 {
+    let row = header::output_row(h, i);
+    if word(img, row + header::OUTPUT_DEFAULT_KIND) == 0 {
         let value = crisp::to_float(held);
         return Answer {
             mark: Mark::Held,
@@ -71,7 +72,7 @@ fn without_rule(img: &[u8], i: usize, held: Crisp) -> Answer
             value: value,
         };
     }
-    let x = crisp_at(img, row + 10);
+    let x = crisp_at(img, row + header::OUTPUT_DEFAULT);
     let value = crisp::to_float(x);
     Answer {
         mark: Mark::Default,
@@ -82,18 +83,28 @@ fn without_rule(img: &[u8], i: usize, held: Crisp) -> Answer
 }
 
 // The answer of output i by the heights of the output terms, of which m is the first.
-fn answer(img: &[u8], i: usize, hs: [Degree; 42], m: usize, held: Crisp) -> Answer
-    requires { ⌜ Sound (wordAt (now img)) × (i < wordAt (now img) 3) × (m ≡ inputTermsIn (wordAt (now img))) × HeightsOk hs ⌝ }
-    ensures { λ r. ⌜ r ≡ outputAnswer (outputAt (wordAt (now (img .entry))) i) (tab (heightOf hs m) (outputCount (wordAt (now (img .entry))) i) (outputFirst (wordAt (now (img .entry))) i)) (held .0) ⌝ }
+fn answer(
+    img: &[u8],
+    h: Header,
+    i: usize,
+    hs: [Degree; bounds::OUTPUT_TERMS],
+    m: usize,
+    held: Crisp,
+) -> Answer
+    requires { ⌜ Sound (wordAt (now img)) × Heads (wordAt (now img)) h × (i < wordAt (now img) 3) ⌝ }
+    requires { ⌜ (m ≡ inputTermsIn (wordAt (now img))) × HeightsOk hs ⌝ }
+    ensures { λ r. ⌜ r ≡ outputAnswer (outputAt (wordAt (now (img .entry))) i)
+        (tab (heightOf hs m) (outputCount (wordAt (now (img .entry))) i) (outputFirstAt (wordAt (now (img .entry))) i))
+        (held .0) ⌝ }
 {
-    let row = word(img, 10) + i * 11;
-    let first = word(img, row + 4);
-    let n = word(img, row + 5);
-    let ps = positions_of(img, first, n);
+    let row = header::output_row(h, i);
+    let first = word(img, row + header::OUTPUT_FIRST);
+    let n = word(img, row + header::OUTPUT_TERMS);
+    let ps = positions_of(img, h, first, n);
     let ws = heights_of(hs, first - m, n);
     let c = centre::centre_of(ps, ws, n);
     if c.sum == 0 {
-        return without_rule(img, i, held);
+        return without_rule(img, h, i, held);
     }
     let x = c.figure;
     let value = crisp::to_float(x);
@@ -119,22 +130,31 @@ pub fn no_answer() -> Answer
 
 // The answers of all outputs, and the held record that stores their figures.
 pub struct Answered {
-    pub answers: [Answer; 6],
+    pub answers: [Answer; bounds::OUTPUTS],
     pub held: Held,
 }
 
-// By the heights of the output terms, of which m is the first, and the held figures.
-pub fn outputs(img: &[u8], hs: [Degree; 42], m: usize, was: [Crisp; 6]) -> Answered
-    requires { ⌜ Sound (wordAt (now img)) × (m ≡ inputTermsIn (wordAt (now img))) × HeightsOk hs ⌝ }
-    ensures { λ r. ⌜ r .answers ≡ padded noAnswer (answersBy (wordAt (now (img .entry))) hs m was) ⌝ }
-    ensures { λ r. ⌜ r .held ≡ heldOf (map (λ a. a .thousandths .0) (answersBy (wordAt (now (img .entry))) hs m was)) ⌝ }
+// By the heights of the output terms, of which m is the first, and the held record.
+pub fn outputs(
+    img: &[u8],
+    h: Header,
+    hs: [Degree; bounds::OUTPUT_TERMS],
+    m: usize,
+    held: Held,
+) -> Answered
+    requires { ⌜ Sound (wordAt (now img)) × Heads (wordAt (now img)) h ⌝ }
+    requires { ⌜ (m ≡ inputTermsIn (wordAt (now img))) × HeightsOk hs ⌝ }
+    ensures { λ r. ⌜ r .answers ≡ padded noAnswer (answersBy (wordAt (now (img .entry))) hs m held) ⌝ }
+    ensures { λ r. ⌜ r .held
+        ≡ heldOf (map (λ a. a .thousandths .0) (answersBy (wordAt (now (img .entry))) hs m held)) ⌝ }
 {
-    let mut answers = [no_answer(); 6];
-    let mut figures = [Crisp(0); 6];
-    let n = word(img, 3);
+    let mut answers = [no_answer(); bounds::OUTPUTS];
+    let mut figures = [Crisp(0); bounds::OUTPUTS];
+    let kept = held.figures;
+    let n = h.outputs;
     let mut i = 0usize;
     while i < n {
-        let a = answer(img, i, hs, m, was[i]);
+        let a = answer(img, h, i, hs, m, kept[i]);
         answers[i] = a;
         let x = a.thousandths;
         figures[i] = x;

@@ -1,16 +1,14 @@
 -- The degrees of the terms of the first inputs, and of one input more.
 use mathlib.Core.Path.{_≡_, refl, sym, ap, _∙_}
 use mathlib.Core.List.{List, [], _∷_, _++_, map, append-assoc, append-nil, map-append}
-use mathlib.Core.Option.{Option}
 use Prim.Native.Nat.{ℕ, zero, suc, _+_, _-_, _≤_, _<_}
 use native.Mathlib.Omega.{arith}
 use lib.IntN.{ℤ, pos}
-use lib.ListN.{length, length-append, length-map, take, getD, replicate}
-use lib.Seq.{sets, take-all}
+use lib.ListN.{length, length-append, length-map, getD, replicate}
+use lib.Seq.{sets}
 use Rattle.model.specs.Block.{Term, Input}
 use Rattle.model.specs.Degrees.{termDegree}
-use Rattle.model.specs.declared.Reading.{Reading}
-use Rattle.model.specs.Evaluation.{termDegrees, valuesOf, orZero}
+use Rattle.model.specs.Evaluation.{termDegrees}
 use Rattle.model.specs.Image.{tab, termAt, inputAt}
 use Rattle.laws.proofs.Places.{length-tab}
 use Rattle.layout.specs.Tables.{sums, inputCount}
@@ -20,7 +18,6 @@ use Rattle.fuzzification.specs.Filled.{filled}
 use Rattle.fuzzification.proofs.Fill.{tab-more}
 use Rattle.laws.proofs.Lists.{sets-append}
 use Rattle.fuzzification.proofs.Entries.{first-is}
-use Rattle.fuzzification.proofs.Wrong.{length-values}
 
 abbrev pub degreesAt : ℤ → List Term → List ℕ
 degreesAt x ts = map (λ t. termDegree (t .points) x) ts
@@ -86,11 +83,6 @@ past-inputs [] xs ys h = refl
 past-inputs (v ∷ vs) [] ys h = absurd (omega arith)
 past-inputs (v ∷ vs) (x ∷ xs) ys h = ap (λ (l : List ℕ). degreesAt x (v .terms) ++ l) (past-inputs vs xs ys (omega arith))
 
--- where no reading is wrong, the degrees at the values in an array of n are those of the call
-pub degrees-of-call : (vs : List Input) (rs : List Reading) (n k : ℕ) (xs : List ℤ) → length vs ≤ k
-    → xs ≡ filled n (pos 0) (map orZero (take k (valuesOf vs rs))) → termDegrees vs xs ≡ termDegrees vs (map orZero (valuesOf vs rs))
-degrees-of-call vs rs n k xs h e =
-    let l = length-values vs rs in
-    let ys = map orZero (valuesOf vs rs) in
-    ap (termDegrees vs) (e ∙ ap (λ (us : List (Option ℤ)). filled n (pos 0) (map orZero us)) (take-all k (valuesOf vs rs) (omega (arith, l))))
-    ∙ past-inputs vs ys (replicate (n - length ys) (pos 0)) (omega (arith, l, length-map (valuesOf vs rs) orZero))
+-- in an array of n
+pub degrees-of-call : (vs : List Input) (n : ℕ) (xs ys : List ℤ) → xs ≡ filled n (pos 0) ys → length vs ≤ length ys → termDegrees vs xs ≡ termDegrees vs ys
+degrees-of-call vs n xs ys e h = ap (termDegrees vs) e ∙ past-inputs vs ys (replicate (n - length ys) (pos 0)) h

@@ -13,7 +13,7 @@ use Rattle.model.specs.Basic.{all}
 use Rattle.model.specs.Bounds.{M, crispLimit}
 use Rattle.model.specs.Block.{Point as BlockPoint}
 use Rattle.model.specs.WellFormed.{unitOk, pointOk, termOk, inputOk}
-use Rattle.model.specs.Image.{tab, pointAt, termAt, inputAt, decode}
+use Rattle.model.specs.Image.{termPlace, tab, pointAt, termAt, inputAt, decode}
 use Rattle.laws.proofs.Lists.{all-at}
 use Rattle.laws.proofs.Tests.{both, passed}
 use Rattle.terms.specs.declared.Point.{Point}
@@ -21,22 +21,10 @@ use Rattle.terms.specs.Points.{PointOk, pointView, noPoint, pointViews, pointAt
 use Rattle.laws.proofs.Places.{length-tab}
 use Rattle.layout.specs.Tables.{sums, inputCount, termCount}
 use Rattle.layout.specs.Groups.{Sound, tablesOk, variablesOk}
-use Rattle.layout.proofs.TableLaws.{Runs}
+use Rattle.layout.proofs.Sound.{runs-at}
 use Rattle.layout.proofs.Parts.{inputFirst, inputFirsts-run}
 use Rattle.fuzzification.specs.Filled.{filled}
 use Rattle.fuzzification.proofs.Fill.{map-take}
-
-runs-at : (f c : ℕ → ℕ) (k s p i : ℕ) → i < k → Runs f c k s p → f (s + i) ≡ p + sums c i s
-unfolding Runs sums
-runs-at f c zero s p i h r = absurd (omega arith)
-runs-at f c (suc k) s p zero h r =
-    let q : s + 0 ≡ s = omega arith in
-    let e : p ≡ p + 0 = omega arith in
-    rw q (r .0 ∙ e)
-runs-at f c (suc k) s p (suc i) h r =
-    let q : s + suc i ≡ suc s + i = omega arith in
-    let e : p + c s + sums c i (suc s) ≡ p + (c s + sums c i (suc s)) = omega arith in
-    rw q (runs-at f c k (suc s) (p + c s) i (omega arith) (r .1) ∙ e)
 
 pub sums-last : (c : ℕ → ℕ) (k s : ℕ) → sums c (k + 1) s ≡ sums c k s + c (s + k)
 unfolding sums
@@ -104,13 +92,11 @@ views-are : (ps : List Point) (xs : List BlockPoint) (n : ℕ) → length xs ≡
 views-are ps xs n e h = map-take pointView n ps ∙ ap (take n) h ∙ take-at xs _ n e
 
 -- as the words that were read say where they stand
-pub points-read : (w : ℕ → ℕ) (t o n first : ℕ) (ps : List Point) → o ≡ w 11 → n ≡ w (o + t * 6 + 5) → first ≡ w (o + t * 6 + 4)
+pub points-read : (w : ℕ → ℕ) (t n first : ℕ) (ps : List Point) → n ≡ termCount w t → first ≡ w (termPlace w t + 4)
     → map pointView ps ≡ filled 4 (pointView noPoint) (tab (pointAt w) n first) → pointViews ps n ≡ termAt w t .points
 unfolding termAt
-points-read w t o n first ps eo en ef h =
-    let e5 = en ∙ ap (λ (k : ℕ). w (k + t * 6 + 5)) eo in
-    let e4 = ef ∙ ap (λ (k : ℕ). w (k + t * 6 + 4)) eo in
-    views-are ps (tab (pointAt w) n first) n (length-tab (pointAt w) n first) h ∙ (λ j. tab (pointAt w) (e5 j) (e4 j))
+points-read w t n first ps en ef h =
+    views-are ps (tab (pointAt w) n first) n (length-tab (pointAt w) n first) h ∙ (λ j. tab (pointAt w) (en j) (ef j))
 
 fine : (p : Point) → pointOk (pointView p) ≡ true → PointOk p
 unfolding pointOk unitOk

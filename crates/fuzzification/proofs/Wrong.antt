@@ -1,97 +1,147 @@
 -- The values of the inputs, one by one, and the first that is wrong.
 use mathlib.Core.Path.{_≡_, refl, sym, ap, _∙_}
-use mathlib.Core.Bool.{true, false}
-use mathlib.Core.List.{List, [], _∷_, _++_, map, map-append}
+use mathlib.Core.List.{List, [], _∷_}
 use mathlib.Core.Logic.{⊎-elim}
 use mathlib.Core.Option.{Option, none, some}
 use Prim.Native.Nat.{ℕ, zero, suc, _+_, _≤_, _<_}
-use native.Mathlib.Numerals.{add-one}
 use native.Mathlib.Omega.{arith}
-use lib.IntN.{ℤ}
-use lib.ListN.{length, length-map, take, drop, getD, drop-of-length-le}
-use lib.Seq.{take-suc, drop-cons, length-take-le}
+use lib.IntN.{ℤ, pos}
+use lib.ListN.{length, getD}
 use types.Run.{OneOf}
 use denote.Enum.Declared.{tagOf}
 use Rattle.model.proofs.Taken.{the-type}
-use Rattle.model.specs.Basic.{indexOf}
 use Rattle.model.specs.Block.{Input}
 use Rattle.model.specs.declared.InputType.{InputType}
+use Rattle.model.specs.Outcome.{Outcome, accepted, refused, andThen}
 use Rattle.model.specs.Readings.{taken, valueIn}
-use Rattle.model.specs.Evaluation.{valuesOf, isNone, orZero, firstWrong}
+use Rattle.model.specs.Evaluation.{valuesOf}
 use Rattle.model.specs.Image.{tab, inputAt, decode}
 use Rattle.model.specs.declared.Reading.{Reading}
 use Rattle.model.specs.declared.Taken.{Taken}
 use Rattle.model.specs.declared.Taken.the-variants.{Value, Absent as Missing, NotFinite, WrongKind}
 use Rattle.laws.proofs.Places.{length-tab}
+use Rattle.fuzzification.specs.Values.{before, valuesRead}
 
-pub length-values : (vs : List Input) (rs : List Reading) → length (valuesOf vs rs) ≡ length vs
-unfolding valuesOf
-length-values [] rs = refl
-length-values (v ∷ vs) [] = ap suc (length-values vs [])
-length-values (v ∷ vs) (r ∷ rs) = ap suc (length-values vs rs)
-
-value-at : (f : ℕ → Input) (n s i : ℕ) (rs : List Reading) (d : Reading) → i < n → i < length rs
-    → getD (valuesOf (tab f n s) rs) i none ≡ valueIn (taken (f (s + i) .type) (getD rs i d))
-unfolding valuesOf tab
-value-at f zero s i rs d h k = absurd (omega arith)
-value-at f (suc n) s i [] d h k = absurd (omega arith)
-value-at f (suc n) s zero (r ∷ rs) d h k = let q : s + 0 ≡ s = omega arith in rw q refl
-value-at f (suc n) s (suc i) (r ∷ rs) d h k =
-    let q : s + suc i ≡ suc s + i = omega arith in
-    rw q (value-at f n (suc s) i rs d (omega arith) (omega arith))
-
-pub length-inputs : (w : ℕ → ℕ) (rs : List Reading) → length (valuesOf (decode w .inputs) rs) ≡ w 2
-unfolding decode
-length-inputs w rs = length-values (tab (inputAt w) (w 2) 0) rs ∙ length-tab (inputAt w) (w 2) 0
-
--- the reading of input i, taken as its declared type says
-pub value-is : (w : ℕ → ℕ) (i : ℕ) (rs : List Reading) (d : Reading) (k : InputType) (t : Taken) → i < w 2 → i < length rs
-    → k ≡ inputAt w i .type → t ≡ taken k (getD rs i d) → getD (valuesOf (decode w .inputs) rs) i none ≡ valueIn t
-unfolding decode
-value-is w i rs d k t h l ek et =
-    let e : 0 + i ≡ i = omega arith in
-    value-at (inputAt w) (w 2) 0 i rs d h l
-    ∙ ap (λ (j : ℕ). valueIn (taken (inputAt w j .type) (getD rs i d))) e
-    ∙ ap (λ (y : InputType). valueIn (taken y (getD rs i d))) (sym ek)
-    ∙ ap valueIn (sym et)
-
--- every variant but the first
-pub no-value : (t : Taken) → OneOf (1 ∷ 2 ∷ 3 ∷ []) (tagOf the-type t) → isNone (valueIn t) ≡ true
-no-value (Value x) h = absurd (never h)
+-- MODEL'S VALUES
+pub values-right : (i : ℕ) (vs : List Input) (rs : List Reading) → length vs ≤ length (valuesRead vs rs) → valuesOf i vs rs ≡ accepted (valuesRead vs rs)
+unfolding valuesOf valuesRead
+values-right i [] rs h = refl
+values-right i (v ∷ vs) [] h = absurd (omega arith)
+values-right i (v ∷ vs) (r ∷ rs) h = go (values-right (suc i) vs rs) (valueIn (taken (v .type) r)) h
   where
-    never : OneOf (1 ∷ 2 ∷ 3 ∷ []) 0 → ⊥
-    never q = ⊎-elim (λ e. omega arith) (λ r. ⊎-elim (λ e. omega arith) (λ e. omega arith) r) q
-no-value Missing h = refl
-no-value NotFinite h = refl
-no-value WrongKind h = refl
+    go : (length vs ≤ length (valuesRead vs rs) → valuesOf (suc i) vs rs ≡ accepted (valuesRead vs rs))
+        → (o : Option ℤ) → suc (length vs) ≤ length (before o (valuesRead vs rs))
+        → elim o [ none ↦ refused 14 (some i) | some x ↦ andThen (valuesOf (suc i) vs rs) (λ xs. accepted (x ∷ xs)) ]
+        ≡ accepted (before o (valuesRead vs rs))
+    go ih none l = absurd (omega arith)
+    go ih (some x) l = ap (λ (a : Outcome (List ℤ)). andThen a (λ xs. accepted (x ∷ xs))) (ih (omega arith))
 
-pub length-taken : (xs : List (Option ℤ)) (i : ℕ) → i ≤ length xs → length (map orZero (take i xs)) ≡ i
-length-taken xs i h = length-map (take i xs) orZero ∙ length-take-le i xs h
+pub values-wrong : (i : ℕ) (vs : List Input) (rs : List Reading) → length (valuesRead vs rs) < length vs
+    → valuesOf i vs rs ≡ refused 14 (some (i + length (valuesRead vs rs)))
+unfolding valuesOf valuesRead
+values-wrong i [] rs h = absurd (omega arith)
+values-wrong i (v ∷ vs) [] h = ap (λ (k : ℕ). refused 14 (some k)) (omega arith)
+values-wrong i (v ∷ vs) (r ∷ rs) h = go (values-wrong (suc i) vs rs) (valueIn (taken (v .type) r)) h
+  where
+    go : (length (valuesRead vs rs) < length vs → valuesOf (suc i) vs rs ≡ refused 14 (some (suc i + length (valuesRead vs rs))))
+        → (o : Option ℤ) → length (before o (valuesRead vs rs)) < suc (length vs)
+        → _≡_ {A = Outcome (List ℤ)}
+        (elim o [ none ↦ refused 14 (some i) | some x ↦ andThen (valuesOf (suc i) vs rs) (λ xs. accepted (x ∷ xs)) ])
+        (refused 14 (some (i + length (before o (valuesRead vs rs)))))
+    go ih none l = ap (λ (k : ℕ). refused 14 (some k)) (omega arith)
+    go ih (some x) l =
+        ap (λ (a : Outcome (List ℤ)). andThen a (λ xs. accepted (x ∷ xs))) (ih (omega arith))
+        ∙ ap (λ (k : ℕ). refused 14 (some k)) (omega arith)
 
-index-some : (o : Option ℤ) (l : List (Option ℤ)) → isNone o ≡ false → indexOf isNone (o ∷ l) ≡ suc (indexOf isNone l)
-index-some none l e = absurd (let z : _≡_ {A = ℕ} 0 1 = cc in omega arith)
-index-some (some x) l e = refl
+-- ONE BY ONE
+read-most : (vs : List Input) (rs : List Reading) → length (valuesRead vs rs) ≤ length vs
+unfolding valuesRead
+read-most [] rs = omega arith
+read-most (v ∷ vs) [] = omega arith
+read-most (v ∷ vs) (r ∷ rs) = go (read-most vs rs) (valueIn (taken (v .type) r))
+  where
+    go : length (valuesRead vs rs) ≤ length vs → (o : Option ℤ) → length (before o (valuesRead vs rs)) ≤ suc (length vs)
+    go most none = omega arith
+    go most (some x) = omega arith
 
-index-none : (o : Option ℤ) (l : List (Option ℤ)) → isNone o ≡ true → indexOf isNone (o ∷ l) ≡ 0
-index-none none l e = refl
-index-none (some x) l e = absurd (let z : _≡_ {A = ℕ} 0 1 = cc in omega arith)
+-- the i-th reading, all before it being right
+module _ (f : ℕ → Input) (d : Reading) where
+  abbrev valueAt : ℕ → List Reading → ℕ → Option ℤ
+  valueAt s rs i = valueIn (taken (f (s + i) .type) (getD rs i d))
 
--- i values, none of them wrong, are before what is left
-module _ (xs : List (Option ℤ)) (i : ℕ) where
-  pub wrong-next : i < length xs → isNone (getD xs i none) ≡ false → firstWrong xs ≡ i + indexOf isNone (drop i xs) → firstWrong xs ≡ i + 1 + indexOf isNone (drop (i + 1) xs)
-  wrong-next h e g =
-      let q : indexOf isNone (drop i xs) ≡ suc (indexOf isNone (drop (suc i) xs)) = rw (drop-cons xs i none h) (index-some (getD xs i none) (drop (suc i) xs) e) in
-      rw (add-one i) (g ∙ omega (arith, q))
+  value-here : (s : ℕ) (r : Reading) (rs : List Reading) → valueIn (taken (f s .type) r) ≡ valueAt s (r ∷ rs) 0
+  value-here s r rs = ap (λ (j : ℕ). valueIn (taken (f j .type) r)) (omega arith)
 
-  pub wrong-here : i < length xs → isNone (getD xs i none) ≡ true → firstWrong xs ≡ i + indexOf isNone (drop i xs) → firstWrong xs ≡ i
-  wrong-here h e g =
-      let q : indexOf isNone (drop i xs) ≡ 0 = rw (drop-cons xs i none h) (index-none (getD xs i none) (drop (suc i) xs) e) in
-      g ∙ omega (arith, q)
+  value-on : (s i : ℕ) (r : Reading) (rs : List Reading) → valueAt (suc s) rs i ≡ valueAt s (r ∷ rs) (suc i)
+  value-on s i r rs = ap (λ (j : ℕ). valueIn (taken (f j .type) (getD rs i d))) (omega arith)
 
-  pub none-wrong : length xs ≤ i → firstWrong xs ≡ i + indexOf isNone (drop i xs) → firstWrong xs ≡ i
-  none-wrong h g =
-      let q : indexOf isNone (drop i xs) ≡ 0 = rw (drop-of-length-le xs {i = i} h) refl in
-      g ∙ omega (arith, q)
+  abbrev Next : List ℤ → ℕ → ℤ → Type 0
+  Next xs i x = (i < length xs) × (getD xs i (pos 0) ≡ x)
 
-  pub value-more : i < length xs → map orZero (take (i + 1) xs) ≡ map orZero (take i xs) ++ (orZero (getD xs i none) ∷ [])
-  value-more h = rw (add-one i) (ap (map orZero) (take-suc xs i none h) ∙ map-append orZero (take i xs) (getD xs i none ∷ []))
+  next-right : (n s i : ℕ) (rs : List Reading) (x : ℤ) → i < n → i < length rs → i ≤ length (valuesRead (tab f n s) rs) → valueAt s rs i ≡ some x
+      → Next (valuesRead (tab f n s) rs) i x
+  unfolding valuesRead tab
+  next-right zero s i rs x h k l e = absurd (omega arith)
+  next-right (suc n) s i [] x h k l e = absurd (omega arith)
+  next-right (suc n) s zero (r ∷ rs) x h k l e =
+      let xs = valuesRead (tab f n (suc s)) rs in
+      let g = value-here s r rs ∙ e in
+      (omega (arith, ap (λ (o : Option ℤ). length (before o xs)) g), ap (λ (o : Option ℤ). getD (before o xs) 0 (pos 0)) g)
+  next-right (suc n) s (suc i) (r ∷ rs) x h k l e =
+      go (valuesRead (tab f n (suc s)) rs) (λ m. next-right n (suc s) i rs x (omega arith) (omega arith) m (value-on s i r rs ∙ e))
+      (valueIn (taken (f s .type) r)) l
+    where
+      go : (xs : List ℤ) → (i ≤ length xs → Next xs i x) → (o : Option ℤ) → suc i ≤ length (before o xs) → Next (before o xs) (suc i) x
+      go xs ih none m = absurd (omega arith)
+      go xs ih (some y) m = let q = ih (omega arith) in (omega (arith, q .0), q .1)
+
+  next-wrong : (n s i : ℕ) (rs : List Reading) → i < n → i < length rs → i ≤ length (valuesRead (tab f n s) rs) → valueAt s rs i ≡ none
+      → length (valuesRead (tab f n s) rs) ≡ i
+  unfolding valuesRead tab
+  next-wrong zero s i rs h k l e = absurd (omega arith)
+  next-wrong (suc n) s i [] h k l e = absurd (omega arith)
+  next-wrong (suc n) s zero (r ∷ rs) h k l e =
+      ap (λ (o : Option ℤ). length (before o (valuesRead (tab f n (suc s)) rs))) (value-here s r rs ∙ e)
+  next-wrong (suc n) s (suc i) (r ∷ rs) h k l e =
+      go (valuesRead (tab f n (suc s)) rs) (λ m. next-wrong n (suc s) i rs (omega arith) (omega arith) m (value-on s i r rs ∙ e))
+      (valueIn (taken (f s .type) r)) l
+    where
+      go : (xs : List ℤ) → (i ≤ length xs → length xs ≡ i) → (o : Option ℤ) → suc i ≤ length (before o xs) → length (before o xs) ≡ suc i
+      go xs ih none m = absurd (omega arith)
+      go xs ih (some y) m = ap suc (ih (omega arith))
+
+-- the same of the inputs of an image, by what the code took a reading for
+module _ (w : ℕ → ℕ) (rs : List Reading) where
+  abbrev pub found : List ℤ
+  found = valuesRead (decode w .inputs) rs
+
+  pub found-most : length found ≤ w 2
+  unfolding decode
+  found-most = omega (arith, read-most (tab (inputAt w) (w 2) 0) rs, length-tab (inputAt w) (w 2) 0)
+
+  module _ (i : ℕ) (d : Reading) (k : InputType) (t : Taken) (h : i < w 2) (l : i < length rs) (m : i ≤ length found)
+      (ek : k ≡ inputAt w i .type) (et : t ≡ taken k (getD rs i d)) where
+    value-is : valueIn (taken (inputAt w (0 + i) .type) (getD rs i d)) ≡ valueIn t
+    value-is =
+        let e : 0 + i ≡ i = omega arith in
+        ap (λ (j : ℕ). valueIn (taken (inputAt w j .type) (getD rs i d))) e
+        ∙ ap (λ (y : InputType). valueIn (taken y (getD rs i d))) (sym ek)
+        ∙ ap valueIn (sym et)
+
+    pub found-next : (x : ℤ) → valueIn t ≡ some x → (i < length found) × (getD found i (pos 0) ≡ x)
+    unfolding decode
+    found-next x e = next-right (inputAt w) d (w 2) 0 i rs x h l m (value-is ∙ e)
+
+    -- every variant but the first
+    pub found-all : OneOf (1 ∷ 2 ∷ 3 ∷ []) (tagOf the-type t) → length found ≡ i
+    unfolding decode
+    found-all o = next-wrong (inputAt w) d (w 2) 0 i rs h l m (value-is ∙ no-value t o)
+      where
+        never : OneOf (1 ∷ 2 ∷ 3 ∷ []) 0 → ⊥
+        never q = ⊎-elim (λ e. omega arith) (λ r. ⊎-elim (λ e. omega arith) (λ e. omega arith) r) q
+
+        no-value : (u : Taken) → OneOf (1 ∷ 2 ∷ 3 ∷ []) (tagOf the-type u) → valueIn u ≡ none
+        no-value (Value x) q = absurd (never q)
+        no-value Missing q = refl
+        no-value NotFinite q = refl
+        no-value WrongKind q = refl

@@ -1,24 +1,28 @@
--- The crisp bounds as two comparisons; and the held record place by place.
+-- Zero by two comparisons; RANGE as the code reads it; and the held record place by place.
 use mathlib.Core.Path.{_≡_, refl, sym, ap, _∙_}
 use mathlib.Core.List.{List, _++_, map, map-append}
-use mathlib.Core.Bool.{Bool, true, false, _&&_, and-true}
+use mathlib.Core.Bool.{Bool, true, false, _&&_, not}
+use mathlib.Core.Option.{none, some}
 use Prim.Native.Nat.{ℕ, zero, suc, _+_, _-_, _≤_, _<_}
 use native.Mathlib.Omega.{arith}
-use lib.Dec.{leb, eqb, leb·suc-suc, leb·suc-zero}
+use lib.Dec.{eqb, leb·suc-zero}
 use lib.IntN.{ℤ, pos, negsuc, natAbs}
 use lib.ListN.{length, drop, replicate, drop-of-length-le}
 use lib.Seq.{drop-cons}
 use lib.Signed.{leZ, ltZ}
-use borrow.Author.Tests.{ltb-true, ne-eqb}
+use borrow.Author.Tests.{ltb-true, eq-eqb, ne-eqb}
+use native.Mathlib.Decide.{ℕ-discrete}
 use Rattle.model.specs.Basic.{all}
-use Rattle.model.specs.Tokens.{inCrisp}
-use Rattle.model.specs.Image.{outputAt, tab}
+use Rattle.model.specs.Block.{Range}
+use Rattle.model.specs.Image.{crispOf, outputPlace, outputAt, tab}
 use Rattle.model.specs.Evaluation.{heldOf, heldOk}
 use Rattle.laws.proofs.Places.{length-tab, map-replicate}
-use Rattle.held.specs.Places.{fits, isZero}
 use Rattle.model.specs.declared.Crisp.{Crisp}
+use Rattle.model.specs.declared.Held.{Held}
 use Rattle.laws.proofs.Tests.{and-assoc}
 use Rattle.laws.proofs.Lists.{map-tab}
+use Rattle.crisp.specs.Crisp.{rangeGiven}
+use Rattle.held.specs.Places.{fits, isZero}
 
 pub zero-below : (z : ℤ) → ltZ z (pos 0) ≡ true → eqb (natAbs z) 0 ≡ false
 zero-below (pos n) h = let l : n < 0 = ltb-true n 0 h in absurd (omega arith)
@@ -39,27 +43,57 @@ held-tab t n = sym (
     mk : ℤ → Crisp
     mk x = record { 0 = x }
 
+-- RANGE OF OUTPUT i by the words of its row that were read
+module _ (w : ℕ → ℕ) (i row flag : ℕ) (er : row ≡ outputPlace w i) (ef : flag ≡ w (row + 6)) where
+  flag-is : flag ≡ w (outputPlace w i + 6)
+  flag-is = ef ∙ ap (λ (o : ℕ). w (o + 6)) er
+
+  pub no-range : flag ≡ 0 → outputAt w i .range ≡ none
+  unfolding outputAt
+  no-range e = simp (eq-eqb (w (outputPlace w i + 6)) 0 (sym flag-is ∙ e))
+
+  module _ (x y : ℤ) (ex : x ≡ crispOf (w (row + 7))) (ey : y ≡ crispOf (w (row + 8))) where
+    ends-are : _≡_ {A = Range} (record { least = x; most = y }) (record { least = crispOf (w (outputPlace w i + 7)); most = crispOf (w (outputPlace w i + 8)) })
+    ends-are = λ j. record { least = (ex ∙ ap (λ (o : ℕ). crispOf (w (o + 7))) er) j; most = (ey ∙ ap (λ (o : ℕ). crispOf (w (o + 8))) er) j }
+
+    pub some-range : (flag ≡ 0 → ⊥) → outputAt w i .range ≡ some (record { least = x; most = y })
+    unfolding outputAt
+    some-range f = simp (ne-eqb (w (outputPlace w i + 6)) 0 (λ e. f (flag-is ∙ e))) (ap some (sym ends-are))
+
+    pub range-read : rangeGiven (not (eqb flag 0)) x y ≡ outputAt w i .range
+    range-read = go (ℕ-discrete flag 0)
+      where
+        go : Dec (flag ≡ 0) → rangeGiven (not (eqb flag 0)) x y ≡ outputAt w i .range
+        go (yes e) = simp (eq-eqb flag 0 e) (sym (no-range e))
+        go (no f) = simp (ne-eqb flag 0 f) (sym (some-range f))
+
 -- PLACE BY PLACE
 abbrev figures : List Crisp → List ℤ
-figures was = map (λ c. c .0) was
+figures cs = map (λ c. c .0) cs
 
-zeros-on : (was : List Crisp) (k i : ℕ) → i + k ≡ length was → all (λ x. eqb (natAbs x) 0) (figures (drop i was)) ≡ all (isZero was) (tab (λ j. j) k i)
-unfolding all tab isZero
-zeros-on was zero i e = ap (λ (l : List Crisp). all (λ x. eqb (natAbs x) 0) (figures l)) (drop-of-length-le was {i = i} (omega arith))
-zeros-on was (suc k) i e =
-    ap (λ (l : List Crisp). all (λ x. eqb (natAbs x) 0) (figures l)) (drop-cons was i (record { 0 = pos 0 }) (omega arith))
-    ∙ ap (λ (b : Bool). isZero was i && b) (zeros-on was k (suc i) (omega arith))
+abbrev zeros : List Crisp → Bool
+zeros cs = all (λ x. eqb (natAbs x) 0) (figures cs)
 
-held-on : (w : ℕ → ℕ) (was : List Crisp) (k i m : ℕ) → i + k + m ≡ length was
-    → heldOk (tab (outputAt w) k i) (figures (drop i was)) ≡ all (fits w was) (tab (λ j. j) k i) && all (isZero was) (tab (λ j. j) m (i + k))
-unfolding heldOk all tab fits
-held-on w was zero i m e = zeros-on was m i (omega arith) ∙ ap (λ (j : ℕ). all (isZero was) (tab (λ x. x) m j)) (omega arith)
-held-on w was (suc k) i m e =
-    ap (λ (l : List Crisp). heldOk (tab (outputAt w) (suc k) i) (figures l)) (drop-cons was i (record { 0 = pos 0 }) (omega arith))
-    ∙ ap (λ (b : Bool). fits w was i && b) (held-on w was k (suc i) m (omega arith) ∙ ap (λ (j : ℕ). all (fits w was) (tab (λ x. x) k (suc i)) && all (isZero was) (tab (λ x. x) m j)) (omega arith))
-    ∙ sym (and-assoc (fits w was i) (all (fits w was) (tab (λ x. x) k (suc i))) (all (isZero was) (tab (λ x. x) m (i + suc k))))
+module _ (held : Held) where
+  zeros-on : (k i : ℕ) → i + k ≡ length (held .figures) → zeros (drop i (held .figures)) ≡ all (isZero held) (tab (λ j. j) k i)
+  unfolding all tab isZero
+  zeros-on zero i e = ap zeros (drop-of-length-le (held .figures) {i = i} (omega arith))
+  zeros-on (suc k) i e =
+      ap zeros (drop-cons (held .figures) i (record { 0 = pos 0 }) (omega arith))
+      ∙ ap (λ (b : Bool). isZero held i && b) (zeros-on k (suc i) (omega arith))
 
-pub held-tests : (w : ℕ → ℕ) (was : List Crisp) (n : ℕ) → length was ≡ 6 → n ≤ 6
-    → heldOk (tab (outputAt w) n 0) (figures was) ≡ all (fits w was) (tab (λ j. j) n 0) && all (isZero was) (tab (λ j. j) (6 - n) n)
-held-tests w was n e h =
-    held-on w was n 0 (6 - n) (omega arith) ∙ ap (λ (j : ℕ). all (fits w was) (tab (λ x. x) n 0) && all (isZero was) (tab (λ x. x) (6 - n) j)) (omega arith)
+  module _ (w : ℕ → ℕ) where
+    abbrev both-from : ℕ → ℕ → ℕ → ℕ → Bool
+    both-from k i m j = all (fits w held) (tab (λ x. x) k i) && all (isZero held) (tab (λ x. x) m j)
+
+    held-on : (k i m : ℕ) → i + k + m ≡ length (held .figures)
+        → heldOk (tab (outputAt w) k i) (figures (drop i (held .figures))) ≡ both-from k i m (i + k)
+    unfolding heldOk all tab fits
+    held-on zero i m e = zeros-on m i (omega arith) ∙ ap (λ (j : ℕ). all (isZero held) (tab (λ x. x) m j)) (omega arith)
+    held-on (suc k) i m e =
+        ap (λ (l : List Crisp). heldOk (tab (outputAt w) (suc k) i) (figures l)) (drop-cons (held .figures) i (record { 0 = pos 0 }) (omega arith))
+        ∙ ap (λ (b : Bool). fits w held i && b) (held-on k (suc i) m (omega arith) ∙ ap (both-from k (suc i) m) (omega arith))
+        ∙ sym (and-assoc (fits w held i) (all (fits w held) (tab (λ x. x) k (suc i))) (all (isZero held) (tab (λ x. x) m (i + suc k))))
+
+    pub held-tests : (n : ℕ) → length (held .figures) ≡ 6 → n ≤ 6 → heldOk (tab (outputAt w) n 0) (figures (held .figures)) ≡ both-from n 0 (6 - n) n
+    held-tests n e h = held-on n 0 (6 - n) (omega arith) ∙ ap (both-from n 0 (6 - n)) (omega arith)

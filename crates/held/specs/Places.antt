@@ -1,6 +1,5 @@
--- The held record place by place, as the code holds it.
+-- A helper: the held record place by place, as the code goes over it. `held-tests` of proofs/Laws ties it to model's `heldOk`.
 use mathlib.Core.Bool.{Bool, _&&_}
-use mathlib.Core.List.{List}
 use Prim.Native.Nat.{ℕ}
 use lib.Dec.{eqb}
 use lib.IntN.{ℤ, pos, natAbs}
@@ -8,14 +7,14 @@ use lib.ListN.{getD}
 use Rattle.model.specs.Block.{inRange}
 use Rattle.model.specs.Tokens.{inCrisp}
 use Rattle.model.specs.Image.{outputAt}
-use Rattle.model.specs.declared.Crisp.{Crisp}
+use Rattle.model.specs.declared.Held.{Held}
 
-abbrev pub figureAt : List Crisp → ℕ → ℤ
-figureAt was j = getD was j (record { 0 = pos 0 }) .0
+abbrev pub figureAt : Held → ℕ → ℤ
+figureAt held j = getD (held .figures) j (record { 0 = pos 0 }) .0
 
 -- the figure of output j is in the crisp bounds and in its RANGE
-unfoldable pub fits : (ℕ → ℕ) → List Crisp → ℕ → Bool
-fits w was j = inCrisp (figureAt was j) && inRange (outputAt w j .range) (figureAt was j)
+unfoldable pub fits : (ℕ → ℕ) → Held → ℕ → Bool
+fits w held j = inCrisp (figureAt held j) && inRange (outputAt w j .range) (figureAt held j)
 
-unfoldable pub isZero : List Crisp → ℕ → Bool
-isZero was j = eqb (natAbs (figureAt was j)) 0
+unfoldable pub isZero : Held → ℕ → Bool
+isZero held j = eqb (natAbs (figureAt held j)) 0

@@ -1,79 +1,68 @@
 // The held record of an accepted image: whether one may be passed in, and the fresh one.
 ghost use mathlib.Core.Path.{_≡_};
-ghost use mathlib.Core.List.{map};
 ghost use Prim.Native.Nat.{_-_, _≤_};
 ghost use lib.Dec.{eqb};
 ghost use lib.IntN.{natAbs};
 ghost use Rattle.model.specs.Basic.{all};
 ghost use Rattle.model.specs.Block.{inRange};
-ghost use Rattle.model.specs.Tokens.{inCrisp};
 ghost use Rattle.model.specs.Image.{wordAt, outputAt, tab, decode};
-ghost use Rattle.model.specs.Evaluation.{startOf, heldOk, freshOf};
+ghost use Rattle.model.specs.Evaluation.{startOf, figuresOf, heldOk, freshOf};
+ghost use Rattle.header.specs.Header.{Heads};
 ghost use Rattle.layout.specs.Groups.{Sound};
 ghost use Rattle.held.specs.Places.{fits, isZero};
 use crisp::not_above;
+use header::Header;
 use model::Crisp;
 use model::Held;
 use words::crisp_at;
 use words::word;
 
-// In the crisp bounds.
-fn in_bounds(x: Crisp) -> bool
-    ensures { λ r. ⌜ r ≡ inCrisp (x .0) ⌝ }
-{
-    if not_above(Crisp(-1_000_000_000), x) {
-        return not_above(x, Crisp(1_000_000_000));
-    }
-    false
-}
-
 // In the RANGE of output i, if it has one.
-fn in_range(img: &[u8], i: usize, x: Crisp) -> bool
-    requires { ⌜ i ≤ 4294967295 ⌝ }
+fn in_range_of(img: &[u8], h: Header, i: usize, x: Crisp) -> bool
+    requires { ⌜ Heads (wordAt (now img)) h × (i ≤ 4294967295) ⌝ }
     ensures { λ r. ⌜ r ≡ inRange (outputAt (wordAt (now (img .entry))) i .range) (x .0) ⌝ }
 {
-    let row = word(img, 10) + i * 11;
-    if word(img, row + 6) == 0 {
-        return true;
-    }
-    if not_above(crisp_at(img, row + 7), x) {
-        return not_above(x, crisp_at(img, row + 8));
-    }
-    false
+    let row = header::output_row(h, i);
+    let ranged = word(img, row + header::OUTPUT_RANGE) != 0;
+    let least = crisp_at(img, row + header::OUTPUT_LEAST);
+    let most = crisp_at(img, row + header::OUTPUT_MOST);
+    crisp::in_range(ranged, least, most, x)
 }
 
 // 0, or the end of the RANGE of output i that is nearest 0.
-fn start_of(img: &[u8], i: usize) -> Crisp
-    requires { ⌜ i ≤ 4294967295 ⌝ }
+fn start_of(img: &[u8], h: Header, i: usize) -> Crisp
+    requires { ⌜ Heads (wordAt (now img)) h × (i ≤ 4294967295) ⌝ }
     ensures { λ r. ⌜ r .0 ≡ startOf (outputAt (wordAt (now (img .entry))) i .range) ⌝ }
 {
-    let row = word(img, 10) + i * 11;
-    if word(img, row + 6) == 0 {
+    let row = header::output_row(h, i);
+    if word(img, row + header::OUTPUT_RANGE) == 0 {
         return Crisp(0);
     }
-    let least = crisp_at(img, row + 7);
+    let least = crisp_at(img, row + header::OUTPUT_LEAST);
     if crisp::less(Crisp(0), least) {
         return least;
     }
-    let most = crisp_at(img, row + 8);
+    let most = crisp_at(img, row + header::OUTPUT_MOST);
     if crisp::less(most, Crisp(0)) {
         return most;
     }
     Crisp(0)
 }
 
-// The first n figures are in the crisp bounds and in their outputs' RANGEs.
-fn figures_ok(img: &[u8], was: [Crisp; 6], n: usize) -> bool
-    requires { ⌜ n ≤ 6 ⌝ }
-    ensures { λ r. ⌜ r ≡ all (fits (wordAt (now (img .entry))) was) (tab (λ j. j) n 0) ⌝ }
+// The figures of the outputs are in the crisp bounds and in their RANGEs.
+fn figures_ok(img: &[u8], h: Header, held: Held) -> bool
+    requires { ⌜ Heads (wordAt (now img)) h × (h .outputs ≤ 6) ⌝ }
+    ensures { λ r. ⌜ r ≡ all (fits (wordAt (now (img .entry))) held) (tab (λ j. j) (h .outputs) 0) ⌝ }
 {
+    let figures = held.figures;
+    let n = h.outputs;
     let mut i = 0usize;
     while i < n {
-        let x = was[i];
-        if !in_bounds(x) {
+        let x = figures[i];
+        if !crisp::in_bounds(x) {
             return false;
         }
-        if !in_range(img, i, x) {
+        if !in_range_of(img, h, i, x) {
             return false;
         }
         i += 1;
@@ -82,13 +71,14 @@ fn figures_ok(img: &[u8], was: [Crisp; 6], n: usize) -> bool
 }
 
 // The figures from the n-th on are 0.
-fn zero_from(was: [Crisp; 6], n: usize) -> bool
+fn zero_from(held: Held, n: usize) -> bool
     requires { ⌜ n ≤ 6 ⌝ }
-    ensures { λ r. ⌜ r ≡ all (isZero was) (tab (λ j. j) (6 - n) n) ⌝ }
+    ensures { λ r. ⌜ r ≡ all (isZero held) (tab (λ j. j) (6 - n) n) ⌝ }
 {
+    let figures = held.figures;
     let mut i = n;
-    while i < 6 {
-        let x = was[i];
+    while i < bounds::OUTPUTS {
+        let x = figures[i];
         if !is_zero(x) {
             return false;
         }
@@ -106,28 +96,27 @@ fn is_zero(x: Crisp) -> bool
     not_above(x, Crisp(0))
 }
 
-// Whether these may be the held figures of an accepted image.
-pub fn record_ok(img: &[u8], was: [Crisp; 6]) -> bool
-    requires { ⌜ Sound (wordAt (now img)) ⌝ }
-    ensures { λ r. ⌜ r ≡ heldOk (decode (wordAt (now (img .entry))) .outputs) (map (λ c. c .0) was) ⌝ }
+// Whether this may be the held record of an accepted image.
+pub fn record_ok(img: &[u8], h: Header, held: Held) -> bool
+    requires { ⌜ Sound (wordAt (now img)) × Heads (wordAt (now img)) h ⌝ }
+    ensures { λ r. ⌜ r ≡ heldOk (decode (wordAt (now (img .entry))) .outputs) (figuresOf held) ⌝ }
 {
-    let n = word(img, 3);
-    if !figures_ok(img, was, n) {
+    if !figures_ok(img, h, held) {
         return false;
     }
-    zero_from(was, n)
+    zero_from(held, h.outputs)
 }
 
 // The fresh held record of an accepted image.
-pub fn fresh_record(img: &[u8]) -> Held
-    requires { ⌜ Sound (wordAt (now img)) ⌝ }
+pub fn fresh_record(img: &[u8], h: Header) -> Held
+    requires { ⌜ Sound (wordAt (now img)) × Heads (wordAt (now img)) h ⌝ }
     ensures { λ r. ⌜ r ≡ freshOf (decode (wordAt (now (img .entry)))) ⌝ }
 {
-    let mut figures = [Crisp(0); 6];
-    let n = word(img, 3);
+    let mut figures = [Crisp(0); bounds::OUTPUTS];
+    let n = h.outputs;
     let mut i = 0usize;
     while i < n {
-        let x = start_of(img, i);
+        let x = start_of(img, h, i);
         figures[i] = x;
         i += 1;
     }

@@ -147,7 +147,8 @@ module _ (s : List ℕ) (t : Tables) (h : Heading) (rs : List Rule) (ok : Holds 
       ∙ (λ j. 1 ∷ endOf headerSize (countList whole) widths ∷ (countList whole ++ (offsets headerSize (countList whole) widths
       ++ (pair-code (h .pair) (head .pair) j ∷ accu-code (h .accu) (head .accu) j ∷ act-code (h .act) (head .act) j ∷ 0 ∷ named))))
 
-  pub words-are : words (wholeView s t h rs) ≡ (headWords whole h ++ named) ++ (variableRows s t (own .count) list ++ (ruleRows rules m ++ (take n ws ++ take (k * 2) ks)))
+  pub words-are : words (wholeView s t h rs) ≡ (headWords whole h ++ named)
+      ++ (variableRows s t (own .count) list ++ (ruleRows rules m ++ (take n ws ++ take (k * 2) ks)))
   unfolding words wholeView variableRows ruleRows
   words-are =
       (λ j. header-is j

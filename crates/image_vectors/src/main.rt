@@ -1,38 +1,46 @@
-// Runs the load check on each image of data/images and writes a line for each: accepted, or the number of the refusal.
-// The file, and the lines to expect, are made by tools/vectors.py from vectors worked out elsewhere.
-use model::Refusal;
+// Runs the load check on each image of data/images and writes a line for each: the number of the refusal, or 0. Of an
+// image that is refused, lines for its fresh record and for a call on it follow.
+use model::Crisp;
+use model::Held;
+use model::Reading;
 use model::Verdict;
+use vectors::next_case;
+use vectors::write_evaluation;
+use vectors::write_fresh;
+use vectors::write_verdict;
 
-fn write_verdict(v: Verdict) -> bool {
+// A record that no refusal may change.
+fn lent_record() -> Held {
+    Held { figures: [Crisp(1), Crisp(-2), Crisp(30), Crisp(-400), Crisp(5000), Crisp(-60000)] }
+}
+
+fn run_refused(img: &[u8]) {
+    write_fresh(evaluation::fresh_of(img));
+    let none = Reading::Absent;
+    let readings = [none, none, none, none, none, none, none, none];
+    let held = lent_record();
+    write_evaluation(evaluation::evaluate(img, readings, 9, held));
+}
+
+fn run_image(img: &[u8]) {
+    let v = load::check(img);
+    write_verdict(v);
+    io::write_all(1, b"\n");
     match v {
-        Verdict::Accepted => io::write_all(1, b"accepted\n"),
-        Verdict::Refused(r) => match r {
-            Refusal::ImageNotAccepted => io::write_all(1, b"11\n"),
-            _ => io::write_all(1, b"?\n"),
-        },
+        Verdict::Accepted => {}
+        Verdict::Refused(_) => run_refused(img),
     }
 }
 
-// The image is as long as the slice.
-fn run_image(fd: i32, img: &mut [u8]) -> bool {
-    if io::read_full(fd, img) != img.len() {
-        return false;
-    }
-    write_verdict(load::check(img))
-}
-
-// One case: its length in a word, then its bytes. False at the end of the file.
+// False at the end of the file.
 fn run_case(fd: i32) -> bool {
-    let mut head = [0u8; 4];
-    if io::read_full(fd, &mut head) != 4 {
-        return false;
-    }
-    let n = words::word(&head, 0);
+    let mut img = io::large_buffer();
+    let n = next_case(fd, &mut img);
     if n > 65536 {
         return false;
     }
-    let mut img = io::large_buffer();
-    run_image(fd, &mut img[..n])
+    run_image(&img[..n]);
+    true
 }
 
 fn main() {

@@ -1,7 +1,13 @@
 pub mod Tests
+pub mod Each
 pub mod Places
 pub mod Lists
 pub mod Conditions
+pub mod Pieces
+pub mod Walk
+pub mod Refused
+pub mod Repetition
+pub mod DummyTree
 pub mod Search
 pub mod Slices
 pub mod Again

@@ -67,6 +67,10 @@ pub same-refl : (xs : List ℕ) → same xs xs ≡ true
 same-refl [] = refl
 same-refl (x ∷ xs) = and-i (eqb x x) (same xs xs) (eq-eqb x x refl) (same-refl xs)
 
+-- a field of the row at p, read where the code has it
+pub field : {A : Type 0} (f : ℕ → A) (o p k : ℕ) (v : A) → v ≡ f (o + k) → o ≡ p → v ≡ f (p + k)
+field f o p k v ev eo = ev ∙ ap (λ (x : ℕ). f (x + k)) eo
+
 -- WALKS: what is left from i up to e, one element a turn
 pub step : (e i : ℕ) → i < e → e - i ≡ suc (e - (i + 1))
 step e i h = omega arith

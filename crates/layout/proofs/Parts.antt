@@ -13,7 +13,7 @@ use Rattle.model.specs.Image.{nameWords, rangeWords, defaultWords, postfix, sin
 use Rattle.laws.proofs.Lists.{map-tab, gather-append}
 use Rattle.laws.proofs.Tests.{both}
 use Rattle.laws.proofs.Places.{length-tab, same-eq}
-use Rattle.layout.specs.Tables.{inputRow, inputNext, outputRow, outputNext, termRow, termNext, ruleRow, ruleNext, outputTermAt, outputPointAt, inputCount, outputCount, termCount, wordCount, conclusionCount, inputTermsIn, outputTermsIn, inputPointsIn, wordsIn, conclusionsIn, inputRows, outputRows, inputTermRows, outputTermRows, ruleRows, conditionExact, conditionRows}
+use Rattle.layout.specs.Tables.{inputRow, inputNext, outputRow, outputNext, termRow, termNext, ruleRow, ruleNext, outputTermAt, outputPointAt, inputCount, outputCount, outputFirstAt, termCount, wordCount, conclusionCount, inputTermsIn, outputTermsIn, inputPointsIn, wordsIn, conclusionsIn, inputRows, outputRows, inputTermRows, outputTermRows, ruleRows, conditionExact, conditionRows}
 use Rattle.layout.proofs.RowLaws.{word-of}
 use Rattle.layout.proofs.TableLaws.{Each, each, Runs, runs-from, gather-runs, sums-one}
 
@@ -40,9 +40,6 @@ module _ (w : ℕ → ℕ) where
   abbrev pub inputFirst : ℕ → ℕ
   inputFirst i = w (w 9 + i * 7 + 5)
 
-  abbrev pub outputFirst : ℕ → ℕ
-  outputFirst i = w (w 10 + i * 11 + 4)
-
   abbrev termFirst : ℕ → ℕ
   termFirst i = w (w 11 + i * 6 + 4)
 
@@ -60,7 +57,7 @@ module _ (w : ℕ → ℕ) where
       (word-of w o 7 (inputRow n (inputAt w i)) 5 (omega arith) h, ap (λ (x : ℕ). n + x) (length-tab (termAt w) (w (o + 6)) (w (o + 5))))
 
   pub output-row : (i n : ℕ) → same (tab w 11 (w 10 + i * 11)) (outputRow n (outputAt w i)) ≡ true
-      → (outputFirst i ≡ n) × (outputNext n (outputAt w i) ≡ n + outputCount w i)
+      → (outputFirstAt w i ≡ n) × (outputNext n (outputAt w i) ≡ n + outputCount w i)
   unfolding nameWords outputAt
   output-row i n h =
       let o = w 10 + i * 11 in
@@ -104,15 +101,15 @@ module _ (w : ℕ → ℕ) where
   inputTerms-are h =
       gather-runs (λ v. v .terms) (inputAt w) (termAt w) inputFirst (inputCount w) (w 2) 0 0 (each _ (λ j. refl) (w 2) 0) (inputFirsts-run h)
 
-  pub outputFirsts-run : outputRows w ≡ true → Runs outputFirst (outputCount w) (w 3) 0 (inputTermsIn w)
+  pub outputFirsts-run : outputRows w ≡ true → Runs (outputFirstAt w) (outputCount w) (w 3) 0 (inputTermsIn w)
   unfolding outputRows
   outputFirsts-run h =
-      runs-from outputRow outputNext (outputAt w) w (w 10) 11 (λ n. n) outputFirst (outputCount w) (λ i n e. output-row i n e) (w 3) 0 (inputTermsIn w) h
+      runs-from outputRow outputNext (outputAt w) w (w 10) 11 (λ n. n) (outputFirstAt w) (outputCount w) (λ i n e. output-row i n e) (w 3) 0 (inputTermsIn w) h
 
   pub outputTerms-are : outputRows w ≡ true → outputTerms (decode w) ≡ tab (singletonAt w) (outputTermsIn w) (inputTermsIn w)
   unfolding decode outputAt
   outputTerms-are h =
-      gather-runs (λ v. v .terms) (outputAt w) (singletonAt w) outputFirst (outputCount w) (w 3) 0 (inputTermsIn w) (each _ (λ j. refl) (w 3) 0)
+      gather-runs (λ v. v .terms) (outputAt w) (singletonAt w) (outputFirstAt w) (outputCount w) (w 3) 0 (inputTermsIn w) (each _ (λ j. refl) (w 3) 0)
       (outputFirsts-run h)
 
   pub terms-are : inputRows w ≡ true → outputRows w ≡ true

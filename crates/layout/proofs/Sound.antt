@@ -1,5 +1,5 @@
 -- What an accepted image says of its outputs: where their terms stand, how many they are, and that their positions are crisp.
-use mathlib.Core.Path.{_≡_, ap, _∙_}
+use mathlib.Core.Path.{_≡_, sym, ap, _∙_}
 use mathlib.Core.Bool.{Bool, true, _&&_}
 use Prim.Native.Nat.{ℕ, zero, suc, _+_, _*_, _-_, _≤_, _<_}
 use native.Mathlib.Nat.{suc-mul}
@@ -8,19 +8,19 @@ use lib.Dec.{leb}
 use lib.IntN.{ℤ, natAbs}
 use lib.ListN.{length}
 use borrow.Author.Tests.{leb-true}
-use Rattle.model.specs.Basic.{all}
+use Rattle.model.specs.Basic.{all, total}
 use Rattle.model.specs.Bounds.{crispLimit}
-use Rattle.model.specs.Block.{inputTerms, inRange}
+use Rattle.model.specs.Block.{Output, inputTerms, outputFirst, inRange}
 use Rattle.model.specs.Tokens.{isName, inCrisp}
 use Rattle.model.specs.WellFormed.{outputOk, singletonOk}
 use Rattle.model.specs.Image.{tab, termAt, singletonAt, outputAt, decode}
 use Rattle.laws.proofs.Lists.{all-at}
 use Rattle.laws.proofs.Tests.{both, passed}
-use Rattle.laws.proofs.Places.{length-tab}
-use Rattle.layout.specs.Tables.{sums, outputCount, inputTermsIn}
+use Rattle.laws.proofs.Places.{length-tab, take-tab}
+use Rattle.layout.specs.Tables.{sums, outputCount, outputFirstAt, inputTermsIn}
 use Rattle.layout.specs.Groups.{tablesOk, variablesOk, Sound}
-use Rattle.layout.proofs.TableLaws.{Runs}
-use Rattle.layout.proofs.Parts.{outputFirst, outputFirsts-run, inputTerms-are}
+use Rattle.layout.proofs.TableLaws.{Runs, total-sums}
+use Rattle.layout.proofs.Parts.{outputFirsts-run, inputTerms-are}
 
 -- one first of a run
 pub runs-at : (f c : ℕ → ℕ) (k i p j : ℕ) → j < k → Runs f c k i p → f (i + j) ≡ p + sums c j i
@@ -40,15 +40,25 @@ module _ (w : ℕ → ℕ) (frame : tablesOk w ≡ true) where
   unfolding tablesOk
   input-terms = ap length (inputTerms-are w (passed _ frame .1 .0)) ∙ length-tab (termAt w) (inputTermsIn w) 0
 
-  firsts-run : Runs (outputFirst w) (outputCount w) (w 3) 0 (inputTermsIn w)
+  firsts-run : Runs (outputFirstAt w) (outputCount w) (w 3) 0 (inputTermsIn w)
   unfolding tablesOk
   firsts-run = outputFirsts-run w (passed _ frame .1 .1 .0)
 
-  pub first-is : (i : ℕ) → i < w 3 → outputFirst w i ≡ inputTermsIn w + sums (outputCount w) i 0
-  first-is i h = ap (outputFirst w) (omega arith) ∙ runs-at (outputFirst w) (outputCount w) (w 3) 0 (inputTermsIn w) i h firsts-run
+  pub first-is : (i : ℕ) → i < w 3 → outputFirstAt w i ≡ inputTermsIn w + sums (outputCount w) i 0
+  first-is i h = ap (outputFirstAt w) (omega arith) ∙ runs-at (outputFirstAt w) (outputCount w) (w 3) 0 (inputTermsIn w) i h firsts-run
+
+  -- it is the first that the block counts
+  pub output-first : (i : ℕ) → i < w 3 → outputFirst i (decode w) ≡ outputFirstAt w i
+  unfolding outputFirst decode outputAt
+  output-first i h =
+      let size : Output → ℕ = λ v. length (v .terms) in
+      let counts = total-sums size (outputAt w) (outputCount w) (λ j. length-tab (singletonAt w) (outputCount w j) (outputFirstAt w j)) i 0 in
+      (λ j. input-terms j + total size (take-tab (outputAt w) (w 3) i 0 (omega arith) j))
+      ∙ ap (λ (k : ℕ). inputTermsIn w + k) counts
+      ∙ sym (first-is i h)
 
 module _ (w : ℕ → ℕ) (s : Sound w) where
-  pub outputs-run : Runs (outputFirst w) (outputCount w) (w 3) 0 (inputTermsIn w)
+  pub outputs-run : Runs (outputFirstAt w) (outputCount w) (w 3) 0 (inputTermsIn w)
   outputs-run = firsts-run w (s .frame)
 
   pub outputs-few : w 3 ≤ 6
@@ -74,16 +84,16 @@ module _ (w : ℕ → ℕ) (s : Sound w) where
   pub before-few : (i : ℕ) → i < w 3 → sums (outputCount w) i 0 ≤ i * 7
   before-few i h = sums-le (outputCount w) 7 i 0 (λ j l. terms-few j (omega arith))
 
-  pub positions-crisp : (i : ℕ) → i < w 3 → (k : ℕ) → k < outputCount w i → natAbs (singletonAt w (outputFirst w i + k) .at) ≤ crispLimit
+  pub positions-crisp : (i : ℕ) → i < w 3 → (k : ℕ) → k < outputCount w i → natAbs (singletonAt w (outputFirstAt w i + k) .at) ≤ crispLimit
   unfolding outputOk outputAt singletonOk
   positions-crisp i h k l =
       let g = outputAt w i .range in
-      let a = all-at (singletonOk g) (singletonAt w) (outputCount w i) (outputFirst w i) k l (passed _ (good i h) .1 .1 .1 .0) in
-      leb-true _ _ (both (inCrisp x) (inRange g x) (both (isName (singletonAt w (outputFirst w i + k) .name)) (inCrisp x && inRange g x) a .1) .0)
+      let a = all-at (singletonOk g) (singletonAt w) (outputCount w i) (outputFirstAt w i) k l (passed _ (good i h) .1 .1 .1 .0) in
+      leb-true _ _ (both (inCrisp x) (inRange g x) (both (isName (singletonAt w (outputFirstAt w i + k) .name)) (inCrisp x && inRange g x) a .1) .0)
     where
       x : ℤ
-      x = singletonAt w (outputFirst w i + k) .at
+      x = singletonAt w (outputFirstAt w i + k) .at
 
   -- in numbers
-  pub output-numbers : (i : ℕ) → i < w 3 → (i ≤ 5) × (outputCount w i ≤ 7) × (inputTermsIn w ≤ outputFirst w i) × (outputFirst w i - inputTermsIn w + outputCount w i ≤ 42)
+  pub output-numbers : (i : ℕ) → i < w 3 → (i ≤ 5) × (outputCount w i ≤ 7) × (inputTermsIn w ≤ outputFirstAt w i) × (outputFirstAt w i - inputTermsIn w + outputCount w i ≤ 42)
   output-numbers i h = omega (arith, outputs-few, terms-few i h, first-is w (s .frame) i h, before-few i h)

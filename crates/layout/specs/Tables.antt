@@ -62,6 +62,10 @@ inputCount w i = w (w 9 + i * 7 + 6)
 abbrev pub outputCount : (ℕ → ℕ) → ℕ → ℕ
 outputCount w i = w (w 10 + i * 11 + 5)
 
+-- the first term of output i
+abbrev pub outputFirstAt : (ℕ → ℕ) → ℕ → ℕ
+outputFirstAt w i = w (w 10 + i * 11 + 4)
+
 abbrev pub termCount : (ℕ → ℕ) → ℕ → ℕ
 termCount w i = w (w 11 + i * 6 + 5)
 

@@ -1,5 +1,5 @@
 -- The container crane of annex C of source 001, with commas between points.
-use mathlib.Core.Bool.{Bool, true, false}
+use mathlib.Core.Bool.{true}
 use mathlib.Core.List.{List, [], _∷_, _++_}
 use mathlib.Core.Option.{none, some}
 use mathlib.Core.Path.{_≡_, refl}
@@ -11,13 +11,14 @@ use lib.ListN.{length}
 use Rattle.model.specs.Basic.{bytes}
 use Rattle.model.specs.Bounds.{M}
 use Rattle.model.specs.Block.{Point, Term, Singleton, real, Condition, term, two, and, Rule, Block, min-max, by-min, by-max}
-use Rattle.model.specs.Outcome.{Outcome, accepted, refused}
+use Rattle.model.specs.Outcome.{accepted, refused}
 use Rattle.model.specs.Reader.{reads}
 use Rattle.model.specs.Evaluation.{termDegrees, heldOf, freshOf, noAnswer, padded, evaluateBlock}
 use Rattle.model.specs.declared.Answer.{Answer}
 use Rattle.model.specs.declared.Mark.the-variants.{Fired}
 use Rattle.model.specs.declared.Reading.the-variants.{Real}
 use Rattle.model.proofs.Opened.{opened}
+use Rattle.model.proofs.Texts.{isAccepted}
 
 -- up to its rules
 abbrev crane : List ℕ
@@ -46,10 +47,6 @@ unfolding opened
 crane-as-printed = refl
 
 -- with pos_high there it is read
-abbrev isAccepted : Outcome Block → Bool
-isAccepted (accepted b) = true
-isAccepted (refused n p) = false
-
 crane-reads : isAccepted (reads (crane ++ (firstRules ++ (bytes "pos_high" ++ lastRules)))) ≡ true
 unfolding opened
 crane-reads = refl

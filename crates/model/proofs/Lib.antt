@@ -1,9 +1,16 @@
 pub mod Opened
+pub mod Texts
+pub mod Tokens
 pub mod Example
 pub mod Starred
 pub mod Refused
 pub mod Accepted
+pub mod Limits
 pub mod Crane
+pub mod Blocks
 pub mod Images
+pub mod Buffers
+pub mod Listings
+pub mod Degrees
 pub mod Calls
 pub mod Vectors

@@ -2,71 +2,20 @@
 use mathlib.Core.List.{List, [], _∷_, _++_, map}
 use mathlib.Core.Option.{some}
 use mathlib.Core.Path.{_≡_, refl}
-use Prim.Native.Nat.{ℕ, zero, suc, _<_}
+use Prim.Native.Nat.{ℕ, _<_}
 use Prim.Native.String.{String}
 use borrow.Author.Tests.{lt-ltb}
 use lib.ListN.{length}
 use Rattle.model.specs.Basic.{bytes}
-use Rattle.model.specs.Bounds.{textLimit}
-use Rattle.model.specs.Block.{Block}
-use Rattle.model.specs.Outcome.{Outcome, refused}
+use Rattle.model.specs.Outcome.{refused}
 use Rattle.model.specs.Reader.{reads}
-use Rattle.model.specs.Listing.{digits}
 use Rattle.model.proofs.Opened.{opened}
-
-pub record Cut : Type 0 where
-  pub before : List ℕ
-  pub from : List ℕ
-
-abbrev cut : List ℕ → List ℕ → Cut
-cut s t = record { before = s; from = t }
-
--- behind s, cut between t and u
-abbrev behind : List ℕ → String → String → Cut
-behind s t u = cut (s ++ bytes t) (bytes u)
-
-abbrev answers : List Cut → List (Outcome Block)
-answers cs = map (λ c. reads (c .before ++ c .from)) cs
-
-abbrev refusedBy : ℕ → List Cut → List (Outcome Block)
-refusedBy n cs = map (λ c. refused n (some (length (c .before)))) cs
-
--- a text up to its declarations, up to and behind each section, and whole
-abbrev pub opening : List ℕ
-opening = bytes "FUNCTION_BLOCK f VAR_INPUT "
-
-abbrev pub declared : List ℕ
-declared = opening ++ bytes "a: REAL; n: INT; END_VAR VAR_OUTPUT y: REAL; END_VAR "
-
-abbrev pub fuzzified : List ℕ
-fuzzified = declared ++ bytes "FUZZIFY a TERM t := (0,0),(1,1); TERM u := (0,1),(1,0); END_FUZZIFY FUZZIFY n TERM v := (0,0),(1,1); END_FUZZIFY "
-
-abbrev pub defuzzified : List ℕ
-defuzzified = fuzzified ++ bytes "DEFUZZIFY y RANGE(-1..2); TERM k := 1; METHOD : CoGS; DEFAULT := NC; END_DEFUZZIFY "
-
-abbrev pub ruled : List ℕ
-ruled = defuzzified ++ bytes "RULEBLOCK r ACCU : MAX; "
-
-abbrev whole : List ℕ
-whole = ruled ++ bytes "RULE 1: IF a IS t THEN y IS k; END_RULEBLOCK END_FUNCTION_BLOCK "
-
--- s, n times
-abbrev pub times : ℕ → List ℕ → List ℕ
-times zero s = []
-times (suc n) s = s ++ times n s
+use Rattle.model.proofs.Texts.{opening, declared, fuzzified, defuzzified, ruled, whole, sevenTerms, Cut, cut, behind, answers, refusedBy}
 
 -- 1: a text of more than 65,536 bytes, at 0
-text-too-long : (s : List ℕ) → textLimit < length s → reads s ≡ refused 1 (some 0)
+text-too-long : (s : List ℕ) → 65536 < length s → reads s ≡ refused 1 (some 0)
 unfolding reads
-text-too-long s h = simp (lt-ltb textLimit (length s) h)
-
--- k rules, numbered from n on
-abbrev pub rulesFrom : ℕ → ℕ → List ℕ
-rulesFrom zero n = []
-rulesFrom (suc k) n = bytes "RULE " ++ (digits n ++ (bytes ": IF a IS t THEN y IS k; " ++ rulesFrom k (suc n)))
-
-abbrev sevenTerms : List ℕ
-sevenTerms = bytes "TERM b := (0,0),(1,1); TERM c := (0,0),(1,1); TERM d := (0,0),(1,1); TERM e := (0,0),(1,1); TERM g := (0,0),(1,1); TERM h := (0,0),(1,1); TERM i := (0,0),(1,1); "
+text-too-long s h = simp (lt-ltb 65536 (length s) h)
 
 -- 2: the text ends early; a byte, a comment, a word or a sign that is wrong
 abbrev wrong-text-texts : List Cut
@@ -86,11 +35,35 @@ wrong-text-texts =
     ∷ behind fuzzified "DEFUZZIFY y TERM k := 5" ".; "
     ∷ behind fuzzified "DEFUZZIFY y TERM k := " "- 5;"
     ∷ behind fuzzified "DEFUZZIFY y TERM k := " ".5;"
+    ∷ behind fuzzified "DEFUZZIFY y RANGE(0.100" ");"
+    ∷ behind fuzzified "DEFUZZIFY y RANGE(0" ". .100);"
+    ∷ behind ruled "RULE 1: IF a IS t THEN y IS k; END_RULEBLOCK " ""
+    ∷ behind whole "" "(* open"
+    ∷ cut (bytes "FUNCTION_BLOCK a") (228 ∷ bytes " VAR_INPUT")
+    ∷ cut (bytes "FUNCTION_BLOCK f") (0 ∷ bytes " VAR_INPUT")
     ∷ []
 
 wrong-text : answers wrong-text-texts ≡ refusedBy 2 wrong-text-texts
 unfolding opened
 wrong-text = refl
+
+-- 2: the reserved words that the reader never asks for, as a name; bytes that are no blank and no letter
+abbrev unasked : List String
+unasked = "CoA" ∷ "CoG" ∷ "END_OPTIONS" ∷ "LM" ∷ "NSUM" ∷ "OPTIONS" ∷ "RM" ∷ "VAR" ∷ []
+
+abbrev reserved-texts : List Cut
+reserved-texts = map (λ w. cut (bytes "FUNCTION_BLOCK ") (bytes w ++ bytes " VAR_INPUT")) unasked
+
+reserved : answers reserved-texts ≡ refusedBy 2 reserved-texts
+unfolding opened
+reserved = refl
+
+abbrev strange-texts : List Cut
+strange-texts = map (λ c. cut [] (c ∷ bytes "FUNCTION_BLOCK f VAR_INPUT")) (0 ∷ 11 ∷ 12 ∷ 34 ∷ 64 ∷ 96 ∷ 123 ∷ 133 ∷ 160 ∷ 228 ∷ 255 ∷ [])
+
+strange : answers strange-texts ≡ refusedBy 2 strange-texts
+unfolding opened
+strange = refl
 
 -- 2: a token that may not stand where it stands, also where it is too long besides
 abbrev wrong-token-texts : List Cut
@@ -120,7 +93,97 @@ wrong-token-texts =
     ∷ behind ruled "RULE 1: IF a IS t THEN y IS k WITH " "a;"
     ∷ behind whole "" "OPTIONS"
     ∷ behind whole "(* the end *) " "x"
+    ∷ behind whole "" "END_FUNCTION_BLOCK"
     ∷ []
+
+-- sections, lines and entries that are missing, repeated or not in their order
+abbrev wrong-order-texts : List Cut
+wrong-order-texts =
+    behind [] "FUNCTION_BLOCK f " "VAR_OUTPUT y: REAL; END_VAR"
+    ∷ behind opening "a: REAL; END_VAR " "VAR_INPUT b: REAL; END_VAR"
+    ∷ behind opening "a: REAL; END_VAR VAR_OUTPUT " "END_VAR"
+    ∷ behind opening "a: REAL; END_VAR " "FUZZIFY a"
+    ∷ behind opening "a, " ": REAL;"
+    ∷ behind opening "a" "; END_VAR"
+    ∷ behind opening "a " "b: REAL;"
+    ∷ behind declared "" "DEFUZZIFY y"
+    ∷ behind declared "FUZZIFY a TERM t := " "; END_FUZZIFY"
+    ∷ behind declared "FUZZIFY a TERM t := (0,0)," "; END_FUZZIFY"
+    ∷ behind declared "FUZZIFY a TERM t := (0,0),(1,1) " "END_FUZZIFY"
+    ∷ behind declared "FUZZIFY a TERM t := (0" ");"
+    ∷ behind declared "FUZZIFY a TERM t := (0,0" ",0);"
+    ∷ behind fuzzified "" "RULEBLOCK r"
+    ∷ behind fuzzified "DEFUZZIFY y TERM k := 1; " "RANGE(0..2);"
+    ∷ behind fuzzified "DEFUZZIFY y RANGE(0..2); " "RANGE(0..2);"
+    ∷ behind fuzzified "DEFUZZIFY y TERM k := " "a;"
+    ∷ behind fuzzified "DEFUZZIFY y TERM k := " "(1,1);"
+    ∷ behind fuzzified "DEFUZZIFY y TERM k := 1; " "DEFAULT := NC; METHOD : CoGS;"
+    ∷ behind fuzzified "DEFUZZIFY y TERM k := 1; METHOD : CoGS; " "END_DEFUZZIFY"
+    ∷ behind fuzzified "DEFUZZIFY y TERM k := 1; METHOD : CoGS; DEFAULT := " "a;"
+    ∷ behind fuzzified "DEFUZZIFY y TERM k := 1; METHOD : CoGS; DEFAULT := NC; " "TERM m := 1;"
+    ∷ behind defuzzified "" "FUZZIFY n"
+    ∷ behind defuzzified "" "END_FUNCTION_BLOCK"
+    ∷ behind ruled "RULE 1: IF a IS t THEN y IS k; END_RULEBLOCK " "RULEBLOCK s"
+    ∷ []
+
+wrong-order : answers wrong-order-texts ≡ refusedBy 2 wrong-order-texts
+unfolding opened
+wrong-order = refl
+
+-- algorithms that are not of their line, and lines that stand twice
+abbrev wrong-line-texts : List Cut
+wrong-line-texts =
+    behind defuzzified "RULEBLOCK r AND : " "ASUM;"
+    ∷ behind defuzzified "RULEBLOCK r AND : " "BSUM;"
+    ∷ behind defuzzified "RULEBLOCK r OR : " "MIN;"
+    ∷ behind defuzzified "RULEBLOCK r OR : " "PROD;"
+    ∷ behind defuzzified "RULEBLOCK r OR : " "BDIF;"
+    ∷ behind defuzzified "RULEBLOCK r AND : MIN; OR : " "MIN;"
+    ∷ behind defuzzified "RULEBLOCK r OR : MAX; " "OR : MAX;"
+    ∷ behind defuzzified "RULEBLOCK r AND : MIN; OR : MAX; " "AND : MIN;"
+    ∷ behind defuzzified "RULEBLOCK r OR : MAX; AND : MIN; " "OR : MAX;"
+    ∷ behind defuzzified "RULEBLOCK r ACT : " "MAX;"
+    ∷ behind defuzzified "RULEBLOCK r ACT : MIN; " "ACT : MIN;"
+    ∷ behind defuzzified "RULEBLOCK r ACT : MIN; " "AND : MIN;"
+    ∷ behind defuzzified "RULEBLOCK r ACT : MIN; " "RULE 1:"
+    ∷ behind defuzzified "RULEBLOCK r ACCU : " "MIN;"
+    ∷ behind defuzzified "RULEBLOCK r ACCU : " "ASUM;"
+    ∷ behind ruled "" "ACCU : MAX;"
+    ∷ []
+
+wrong-line : answers wrong-line-texts ≡ refusedBy 2 wrong-line-texts
+unfolding opened
+wrong-line = refl
+
+-- in a rule
+abbrev wrong-rule-texts : List Cut
+wrong-rule-texts =
+    behind ruled "RULE " "a: IF"
+    ∷ behind ruled "RULE " ": IF"
+    ∷ behind ruled "RULE 1 " "IF a IS t"
+    ∷ behind ruled "RULE 1: " "a IS t"
+    ∷ behind ruled "RULE 1: IF " "THEN"
+    ∷ behind ruled "RULE 1: IF (" ") THEN"
+    ∷ behind ruled "RULE 1: IF a IS NOT " "NOT t"
+    ∷ behind ruled "RULE 1: IF a IS " "(t)"
+    ∷ behind ruled "RULE 1: IF a IS t " "a IS u"
+    ∷ behind ruled "RULE 1: IF a IS t AND " "THEN"
+    ∷ behind ruled "RULE 1: IF a IS t" ") THEN"
+    ∷ behind ruled "RULE 1: IF a IS t " "; "
+    ∷ behind ruled "RULE 1: IF a IS t THEN " "; "
+    ∷ behind ruled "RULE 1: IF a IS t THEN y IS " "NOT k;"
+    ∷ behind ruled "RULE 1: IF a IS t THEN " "NOT y IS k;"
+    ∷ behind ruled "RULE 1: IF a IS t THEN " "(y IS k);"
+    ∷ behind ruled "RULE 1: IF a IS t THEN y IS k " "AND y IS k;"
+    ∷ behind ruled "RULE 1: IF a IS t THEN y IS k, " "; "
+    ∷ behind ruled "RULE 1: IF a IS t THEN y IS k WITH 0.5" ", y IS k;"
+    ∷ behind ruled "RULE 1: IF a IS t THEN y IS k WITH 0.5 " "WITH 0.5;"
+    ∷ behind ruled "RULE 1: IF a IS t THEN y IS k " "END_RULEBLOCK"
+    ∷ []
+
+wrong-rule : answers wrong-rule-texts ≡ refusedBy 2 wrong-rule-texts
+unfolding opened
+wrong-rule = refl
 
 wrong-token : answers wrong-token-texts ≡ refusedBy 2 wrong-token-texts
 unfolding opened
@@ -142,7 +205,13 @@ wrong-number-texts =
     ∷ behind ruled "RULE " "+1: IF"
     ∷ behind ruled "RULE " "1.0: IF"
     ∷ behind ruled "RULE " "00000001: IF"
+    ∷ behind ruled "RULE " "-1: IF"
     ∷ behind ruled "RULE 1: IF a IS t THEN y IS k WITH " "1.5;"
+    ∷ behind ruled "RULE 1: IF a IS t THEN y IS k WITH " "-0.5;"
+    ∷ behind ruled "RULE 1: IF a IS t THEN y IS k WITH " "0.5000;"
+    ∷ behind declared "FUZZIFY a TERM t := (0," "00000001)"
+    ∷ behind fuzzified "DEFUZZIFY y RANGE(0.." "1000000.001)"
+    ∷ behind fuzzified "DEFUZZIFY y TERM k := " "-1000000.001;"
     ∷ []
 
 wrong-number : answers wrong-number-texts ≡ refusedBy 3 wrong-number-texts
@@ -162,13 +231,27 @@ wrong-name-texts =
     ∷ behind fuzzified "FUZZIFY " "n TERM w := (0,0)"
     ∷ behind defuzzified "DEFUZZIFY " "y TERM k := 1;"
     ∷ behind ruled "RULE 7: IF a IS t THEN y IS k; RULE " "007: IF"
+    ∷ behind opening "a: REAL; " "a: INT;"
+    ∷ behind opening "a: REAL; END_VAR VAR_OUTPUT y, " "y: REAL;"
+    ∷ behind opening "a: REAL; END_VAR VAR_OUTPUT y: REAL; " "y: REAL;"
+    ∷ behind opening "a: REAL; END_VAR VAR_OUTPUT " "abcdefghijklmnopq: REAL;"
+    ∷ behind declared "FUZZIFY a TERM " "abcdefghijklmnopq := (0,0)"
+    ∷ behind declared "FUZZIFY a TERM t := (0,0),(1,1); END_FUZZIFY FUZZIFY " "a TERM t := (0,0)"
+    ∷ behind fuzzified "DEFUZZIFY y TERM " "abcdefghijklmnopq := 1;"
+    ∷ behind defuzzified "RULEBLOCK " "abcdefghijklmnopq ACCU"
     ∷ []
 
 wrong-name : answers wrong-name-texts ≡ refusedBy 4 wrong-name-texts
 unfolding opened
 wrong-name = refl
 
--- 5: a name that is not declared for this use
+-- 5: a name that is not declared for this use, also a term of another variable
+abbrev outputs : List ℕ
+outputs =
+    opening ++ bytes "a: REAL; END_VAR VAR_OUTPUT y, z: REAL; END_VAR FUZZIFY a TERM t := (0,0),(1,1); END_FUZZIFY DEFUZZIFY y TERM k := 1; "
+    ++ bytes "METHOD : CoGS; DEFAULT := NC; END_DEFUZZIFY DEFUZZIFY z TERM m := 1; METHOD : CoGS; DEFAULT := NC; END_DEFUZZIFY "
+    ++ bytes "RULEBLOCK r ACCU : MAX; RULE 1: IF a IS t THEN "
+
 abbrev not-declared-texts : List Cut
 not-declared-texts =
     behind declared "FUZZIFY " "z TERM"
@@ -180,6 +263,14 @@ not-declared-texts =
     ∷ behind ruled "RULE 1: IF " "A IS t"
     ∷ behind ruled "RULE 1: IF a IS t THEN " "a IS t;"
     ∷ behind ruled "RULE 1: IF a IS t THEN y IS " "t;"
+    ∷ behind ruled "RULE 1: IF n IS " "t THEN"
+    ∷ behind ruled "RULE 1: IF a IS " "T THEN"
+    ∷ behind ruled "RULE 1: IF " "f IS t"
+    ∷ behind ruled "RULE 1: IF a IS t THEN " "r IS k;"
+    ∷ behind ruled "RULE 1: IF a IS t AND " "y IS k"
+    ∷ behind fuzzified "DEFUZZIFY " "z TERM"
+    ∷ behind outputs "z IS " "k;"
+    ∷ behind outputs "y IS " "m;"
     ∷ []
 
 not-declared : answers not-declared-texts ≡ refusedBy 5 not-declared-texts
@@ -201,31 +292,6 @@ too-many : answers too-many-texts ≡ refusedBy 6 too-many-texts
 unfolding opened
 too-many = refl
 
--- 6: the 65th rule, the 129th conclusion
-abbrev too-many-rules-texts : List Cut
-too-many-rules-texts =
-    cut (ruled ++ rulesFrom 64 1) (bytes "RULE 65: IF")
-    ∷ cut (ruled ++ (bytes "RULE 1: IF a IS t THEN " ++ times 128 (bytes "y IS k, "))) (bytes "y IS k;")
-    ∷ []
-
-too-many-rules : answers too-many-rules-texts ≡ refusedBy 6 too-many-rules-texts
-unfolding opened
-too-many-rules = refl
-
--- 6: the 641st condition word, as an input name, an OR, an AND, a NOT in front and a NOT behind IS
-abbrev too-many-words-texts : List Cut
-too-many-words-texts =
-    cut (ruled ++ (bytes "RULE 1: IF " ++ times 320 (bytes "a IS t AND "))) (bytes "a IS t THEN")
-    ∷ cut (ruled ++ (bytes "RULE 1: IF NOT " ++ (times 319 (bytes "a IS t AND ") ++ bytes "a IS t "))) (bytes "OR a IS t")
-    ∷ cut (ruled ++ (bytes "RULE 1: IF NOT " ++ (times 319 (bytes "a IS t AND ") ++ bytes "a IS t "))) (bytes "AND a IS t")
-    ∷ cut (ruled ++ (bytes "RULE 1: IF " ++ times 320 (bytes "a IS t AND "))) (bytes "NOT a IS t")
-    ∷ cut (ruled ++ (bytes "RULE 1: IF NOT " ++ (times 319 (bytes "a IS t AND ") ++ bytes "a IS "))) (bytes "NOT t THEN")
-    ∷ []
-
-too-many-words : answers too-many-words-texts ≡ refusedBy 6 too-many-words-texts
-unfolding opened
-too-many-words = refl
-
 -- 7: a position that does not rise, a singleton or a default outside RANGE, an empty RANGE, one point only
 abbrev wrong-position-texts : List Cut
 wrong-position-texts =
@@ -236,6 +302,10 @@ wrong-position-texts =
     ∷ behind fuzzified "DEFUZZIFY y RANGE(0.." "-1);"
     ∷ behind fuzzified "DEFUZZIFY y RANGE(0..100); TERM k := " "100.001;"
     ∷ behind fuzzified "DEFUZZIFY y RANGE(0..100); TERM k := 100; METHOD : CoGS; DEFAULT := " "-0.001;"
+    ∷ behind declared "FUZZIFY a TERM t := (0,0),(5,1),(" "3,1);"
+    ∷ behind fuzzified "DEFUZZIFY y RANGE(0..100); TERM k := " "-0.001;"
+    ∷ behind fuzzified "DEFUZZIFY y RANGE(0..100); TERM k := 0; METHOD : CoGS; DEFAULT := " "100.001;"
+    ∷ behind fuzzified "DEFUZZIFY y RANGE(-2..-1); TERM k := -1; TERM m := " "0;"
     ∷ []
 
 wrong-position : answers wrong-position-texts ≡ refusedBy 7 wrong-position-texts
@@ -246,8 +316,15 @@ wrong-position = refl
 abbrev unpaired-texts : List Cut
 unpaired-texts =
     behind defuzzified "RULEBLOCK r AND : MIN; OR : " "ASUM;"
-    ∷ behind defuzzified "RULEBLOCK r OR : MAX; AND : " "BDIF;"
+    ∷ behind defuzzified "RULEBLOCK r AND : MIN; OR : " "BSUM;"
+    ∷ behind defuzzified "RULEBLOCK r AND : PROD; OR : " "MAX;"
     ∷ behind defuzzified "RULEBLOCK r AND : PROD; OR : " "BSUM;"
+    ∷ behind defuzzified "RULEBLOCK r AND : BDIF; OR : " "MAX;"
+    ∷ behind defuzzified "RULEBLOCK r AND : BDIF; OR : " "ASUM;"
+    ∷ behind defuzzified "RULEBLOCK r OR : MAX; AND : " "PROD;"
+    ∷ behind defuzzified "RULEBLOCK r OR : MAX; AND : " "BDIF;"
+    ∷ behind defuzzified "RULEBLOCK r OR : ASUM; AND : " "MIN;"
+    ∷ behind defuzzified "RULEBLOCK r OR : BSUM; AND : " "PROD;"
     ∷ []
 
 unpaired : answers unpaired-texts ≡ refusedBy 8 unpaired-texts
@@ -255,11 +332,18 @@ unfolding opened
 unpaired = refl
 
 -- 9: an input or an output without its part, before anything behind the block
+abbrev withoutFuzzify : List ℕ
+withoutFuzzify =
+    declared ++ bytes "FUZZIFY a TERM t := (0,0),(1,1); END_FUZZIFY DEFUZZIFY y TERM k := 1; METHOD : CoGS; DEFAULT := NC; END_DEFUZZIFY "
+    ++ bytes "RULEBLOCK r ACCU : MAX; RULE 1: IF a IS t THEN y IS k; END_RULEBLOCK "
+
+abbrev withoutDefuzzify : List ℕ
+withoutDefuzzify =
+    opening ++ bytes "a: REAL; END_VAR VAR_OUTPUT y, z: REAL; END_VAR FUZZIFY a TERM t := (0,0),(1,1); END_FUZZIFY DEFUZZIFY z TERM k := 1; "
+    ++ bytes "METHOD : CoGS; DEFAULT := NC; END_DEFUZZIFY RULEBLOCK r ACCU : MAX; RULE 1: IF a IS t THEN z IS k; END_RULEBLOCK "
+
 abbrev part-missing-texts : List Cut
-part-missing-texts =
-    cut (declared ++ bytes "FUZZIFY a TERM t := (0,0),(1,1); END_FUZZIFY DEFUZZIFY y TERM k := 1; METHOD : CoGS; DEFAULT := NC; END_DEFUZZIFY RULEBLOCK r ACCU : MAX; RULE 1: IF a IS t THEN y IS k; END_RULEBLOCK ") (bytes "END_FUNCTION_BLOCK x")
-    ∷ cut (opening ++ bytes "a: REAL; END_VAR VAR_OUTPUT y, z: REAL; END_VAR FUZZIFY a TERM t := (0,0),(1,1); END_FUZZIFY DEFUZZIFY z TERM k := 1; METHOD : CoGS; DEFAULT := NC; END_DEFUZZIFY RULEBLOCK r ACCU : MAX; RULE 1: IF a IS t THEN z IS k; END_RULEBLOCK ") (bytes "END_FUNCTION_BLOCK")
-    ∷ []
+part-missing-texts = cut withoutFuzzify (bytes "END_FUNCTION_BLOCK x") ∷ cut withoutDefuzzify (bytes "END_FUNCTION_BLOCK") ∷ []
 
 part-missing : answers part-missing-texts ≡ refusedBy 9 part-missing-texts
 unfolding opened
@@ -267,10 +351,13 @@ part-missing = refl
 
 -- THE ORDER OF CHECKS at one token
 
--- 3: a number out of bounds does not rise either
+-- 3: a number out of bounds does not rise, is outside RANGE or is repeated either
 abbrev number-before-position-texts : List Cut
 number-before-position-texts =
     behind declared "FUZZIFY a TERM t := (1,0),(" "-1000001,1);"
+    ∷ behind fuzzified "DEFUZZIFY y RANGE(0..1); TERM k := " "1000001;"
+    ∷ behind fuzzified "DEFUZZIFY y RANGE(0.." "-1000001);"
+    ∷ behind ruled "RULE 1: IF a IS t THEN y IS k; RULE " "00000001: IF"
     ∷ []
 
 number-before-position : answers number-before-position-texts ≡ refusedBy 3 number-before-position-texts
@@ -282,18 +369,36 @@ abbrev long-before-declared-texts : List Cut
 long-before-declared-texts =
     behind ruled "RULE 1: IF a IS " "abcdefghijklmnopq THEN"
     ∷ behind fuzzified "DEFUZZIFY " "abcdefghijklmnopq TERM"
+    ∷ behind declared "FUZZIFY " "abcdefghijklmnopq TERM"
+    ∷ behind ruled "RULE 1: IF a IS t THEN " "abcdefghijklmnopq IS k;"
+    ∷ behind ruled "RULE 1: IF a IS t THEN y IS " "abcdefghijklmnopq;"
     ∷ []
 
 long-before-declared : answers long-before-declared-texts ≡ refusedBy 4 long-before-declared-texts
 unfolding opened
 long-before-declared = refl
 
--- 4: a ninth input of a name that is there
+-- 4: a ninth input or a seventh output of a name that is there or too long
 abbrev repeated-before-count-texts : List Cut
 repeated-before-count-texts =
     behind opening "a, b, c, d, e, g, h, i, " "a: REAL;"
+    ∷ behind opening "a, b, c, d, e, g, h, i, " "abcdefghijklmnopq: REAL;"
+    ∷ behind opening "a: REAL; END_VAR VAR_OUTPUT b, c, d, e, g, h, " "h: REAL;"
+    ∷ behind opening "a: REAL; END_VAR VAR_OUTPUT b, c, d, e, g, h, " "a: REAL;"
     ∷ []
 
 repeated-before-count : answers repeated-before-count-texts ≡ refusedBy 4 repeated-before-count-texts
 unfolding opened
 repeated-before-count = refl
+
+-- 2: a token that may not stand there, before any count
+abbrev token-before-count-texts : List Cut
+token-before-count-texts =
+    behind opening "a, b, c, d, e, g, h, i, " "1: REAL;"
+    ∷ behind declared "FUZZIFY a TERM t := (0,0),(1,1),(2,0),(3,1)," "4;"
+    ∷ behind ruled "RULE 1: IF ((((((((" ")"
+    ∷ []
+
+token-before-count : answers token-before-count-texts ≡ refusedBy 2 token-before-count-texts
+unfolding opened
+token-before-count = refl

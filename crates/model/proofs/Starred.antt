@@ -1,7 +1,7 @@
 -- The starred values of document 01, in one table, and the one claim that the definitions give them.
 use mathlib.Core.Bool.{true, false}
-use mathlib.Core.List.{List, [], _∷_, _++_}
-use mathlib.Core.Option.{Option, some}
+use mathlib.Core.List.{List, [], _∷_, _++_, map}
+use mathlib.Core.Option.{Option, none, some}
 use mathlib.Core.Path.{_≡_, refl}
 use Prim.Native.Nat.{ℕ}
 use lib.Ieee.{fin, binary32, ofInt}
@@ -14,10 +14,10 @@ use Rattle.model.specs.Basic.{bytes}
 use Rattle.model.specs.Block.{Point, prod-asum, bdif-bsum, and, or, term, Rule, Block}
 use Rattle.model.specs.Outcome.{Outcome, accepted, refused}
 use Rattle.model.specs.Reader.{reads}
-use Rattle.model.specs.Degrees.{nearestℤ, pairs, termDegree}
+use Rattle.model.specs.Degrees.{pairs, termDegree}
 use Rattle.model.specs.Image.{image}
 use Rattle.model.specs.Readings.{realOf, valueIn}
-use Rattle.model.specs.Evaluation.{ruleDegree, moment, sumOf, freshOf, noAnswer, answersAfter, evaluate}
+use Rattle.model.specs.Evaluation.{ruleDegree, outputAnswer, freshOf, noAnswer, answersAfter, evaluate}
 use Rattle.model.proofs.Opened.{opened}
 use Rattle.model.proofs.Example.{clear, trust}
 
@@ -40,8 +40,11 @@ at x d = record { at = x; degree = d }
 abbrev third : List Point
 third = at (pos 0) 0 ∷ at (pos 3000) 1000000 ∷ []
 
-abbrev centre : List ℤ → List ℕ → ℤ
-centre xs hs = nearestℤ (moment xs hs) (sumOf hs)
+-- what an output with singletons at xs of equal heights answers
+abbrev centre : List ℤ → ℤ
+centre xs =
+    outputAnswer (record { name = []; terms = map (λ x. record { name = []; at = x }) xs; range = none; default = none }) (map (λ x. 1) xs) (pos 0)
+    .thousandths .0
 
 precedence : List ℕ
 precedence =
@@ -81,12 +84,8 @@ table =
     ∷ record { Value = Option ℤ; printed = some (pos 63); defined = valueIn (realOf (fin false 1 (negsuc 3))) }
     ∷ record { Value = Option ℤ; printed = some (negsuc 61); defined = valueIn (realOf (fin true 1 (negsuc 3))) }
     -- equal heights at -0.003 and 0; at -0.003, -0.002 and 0
-    ∷ record { Value = ℤ; printed = negsuc 0; defined = centre (negsuc 2 ∷ pos 0 ∷ []) (1 ∷ 1 ∷ []) }
-    ∷ record {
-      Value = ℤ;
-      printed = negsuc 1;
-      defined = centre (negsuc 2 ∷ negsuc 1 ∷ pos 0 ∷ []) (1 ∷ 1 ∷ 1 ∷ []);
-    }
+    ∷ record { Value = ℤ; printed = negsuc 0; defined = centre (negsuc 2 ∷ pos 0 ∷ []) }
+    ∷ record { Value = ℤ; printed = negsuc 1; defined = centre (negsuc 2 ∷ negsuc 1 ∷ pos 0 ∷ []) }
     -- degree 250,000 WITH 0.5
     ∷ number 125000 (ruleDegree trust (250000 ∷ []) (record { number = 1; condition = term 0; conclusions = []; weight = 500000 }))
     -- a OR b AND c at 0.2, 0.9, 0.1 under MIN/MAX

@@ -1,18 +1,20 @@
 -- Evaluation: rules, heights, the answer of each output; the held record; one call with its checks; a list of calls.
 use mathlib.Core.Bool.{Bool, true, false, _&&_, not}
-use mathlib.Core.List.{List, [], _∷_, _++_, map}
+use mathlib.Core.List.{List, [], _∷_, _++_, map, foldl}
 use mathlib.Core.Option.{Option, none, some}
-use Prim.Native.Nat.{ℕ, _+_, _-_, max}
+use mathlib.Core.Path.{_≡_}
+use Prim.Native.Nat.{ℕ, suc, _-_, max}
 use lib.Dec.{ltb, eqb}
 use lib.Ieee.{fin}
 use lib.IntN.{ℤ, pos, natAbs, _+ℤ_, _*ℤ_}
 use lib.ListN.{length, replicate}
 use lib.Signed.{ltZ}
-use Rattle.model.specs.Basic.{if_then_else_, all, total, gather, indexOf}
+use Rattle.model.specs.Basic.{if_then_else_, all, total, gather}
 use Rattle.model.specs.Bounds.{outputLimit}
 use Rattle.model.specs.Tokens.{inCrisp}
-use Rattle.model.specs.Block.{Input, Range, Output, Rule, Accumulation, by-max, by-bsum, Block, inputTerms, inRange}
-use Rattle.model.specs.Outcome.{Outcome, accepted, refused, andThen}
+use Rattle.model.specs.Block.{Input, Range, Output, Rule, Accumulation, by-max, by-bsum, Block, outputFirst, inRange}
+use Rattle.model.specs.Outcome.{Outcome, accepted, refused, andThen, verdictIn}
+use Rattle.model.specs.Refusals.{verdictOf}
 use Rattle.model.specs.Image.{tab, loads}
 use Rattle.model.specs.Degrees.{nearestℤ, prodOf, bsumOf, termDegree, conditionDegree}
 use Rattle.model.specs.Readings.{taken, valueIn, floatOf}
@@ -21,6 +23,7 @@ use Rattle.model.specs.declared.Mark.{Mark}
 use Rattle.model.specs.declared.Mark.the-variants.{None, Fired, Default, Held as HeldMark}
 use Rattle.model.specs.declared.Answer.{Answer}
 use Rattle.model.specs.declared.Held.{Held}
+use Rattle.model.specs.declared.Evaluation.{Evaluation}
 
 -- THE RULES
 -- the degree of every input term, by the inputs' values
@@ -71,12 +74,12 @@ outputAnswer v hs held =
     if ltb 0 (sumOf hs) then answerWith Fired (nearestℤ (moment (map (λ t. t .at) (v .terms)) hs) (sumOf hs)) (sumOf hs)
     else unfired (v .default) held
 
--- by the heights of all terms; n is the first term of the next output
-unfoldable pub outputAnswers : (ℕ → ℕ) → ℕ → List Output → List ℤ → List Answer
-outputAnswers h n [] held = []
-outputAnswers h n (v ∷ vs) [] = []
-outputAnswers h n (v ∷ vs) (x ∷ held) =
-    outputAnswer v (tab h (length (v .terms)) n) x ∷ outputAnswers h (n + length (v .terms)) vs held
+-- by the heights h of all terms of block b; output i is the next
+unfoldable pub outputAnswers : Block → (ℕ → ℕ) → ℕ → List Output → List ℤ → List Answer
+outputAnswers b h i [] held = []
+outputAnswers b h i (v ∷ vs) [] = []
+outputAnswers b h i (v ∷ vs) (x ∷ held) =
+    outputAnswer v (tab h (length (v .terms)) (outputFirst i b)) x ∷ outputAnswers b h (suc i) vs held
 
 abbrev pub noAnswer : Answer
 noAnswer = record { mark = None; thousandths = record { 0 = pos 0 }; sum = 0; value = fin false 0 (pos 0) }
@@ -107,30 +110,22 @@ heldOk (v ∷ vs) [] = false
 heldOk (v ∷ vs) (x ∷ xs) = (inCrisp x && inRange (v .range) x) && heldOk vs xs
 
 -- ONE CALL
-unfoldable pub valuesOf : List Input → List Reading → List (Option ℤ)
-valuesOf [] rs = []
-valuesOf (v ∷ vs) [] = none ∷ valuesOf vs []
-valuesOf (v ∷ vs) (r ∷ rs) = valueIn (taken (v .type) r) ∷ valuesOf vs rs
-
-abbrev pub isNone : Option ℤ → Bool
-isNone none = true
-isNone (some x) = false
-
-abbrev pub orZero : Option ℤ → ℤ
-orZero none = pos 0
-orZero (some x) = x
-
--- the first input whose reading is absent, not finite or of the wrong kind
-abbrev pub firstWrong : List (Option ℤ) → ℕ
-firstWrong xs = indexOf isNone xs
+-- the crisp values of the inputs, or 14 at the first whose reading is absent, not finite or of the wrong kind;
+-- input i is the next, and a missing reading counts as absent
+unfoldable pub valuesOf : ℕ → List Input → List Reading → Outcome (List ℤ)
+valuesOf i [] rs = accepted []
+valuesOf i (v ∷ vs) [] = refused 14 (some i)
+valuesOf i (v ∷ vs) (r ∷ rs) =
+    elim (valueIn (taken (v .type) r)) [
+      none ↦ refused 14 (some i)
+    | some x ↦ andThen (valuesOf (suc i) vs rs) (λ xs. accepted (x ∷ xs)) ]
 
 pub record CallResult : Type 0 where
   pub answers : List Answer
   pub held : Held
 
 unfoldable pub blockAnswers : Block → List ℤ → List ℤ → List Answer
-blockAnswers b xs held =
-    outputAnswers (height b (termDegrees (b .inputs) xs)) (length (inputTerms b)) (b .outputs) held
+blockAnswers b xs held = outputAnswers b (height b (termDegrees (b .inputs) xs)) 0 (b .outputs) held
 
 -- an accepted call stores every output's thousandths
 abbrev pub callResult : List Answer → CallResult
@@ -140,8 +135,7 @@ unfoldable pub evaluateBlock : Block → List Reading → ℕ → Held → Outco
 evaluateBlock b rs n h =
     if not (eqb n (length (b .inputs))) then refused 12 none else
     if not (heldOk (b .outputs) (figuresOf h)) then refused 13 none else
-    if ltb (firstWrong (valuesOf (b .inputs) rs)) (length (b .inputs)) then refused 14 (some (firstWrong (valuesOf (b .inputs) rs))) else
-    accepted (callResult (blockAnswers b (map orZero (valuesOf (b .inputs) rs)) (figuresOf h)))
+    andThen (valuesOf 0 (b .inputs) rs) (λ xs. accepted (callResult (blockAnswers b xs (figuresOf h))))
 
 -- image, readings and their count, held record
 unfoldable pub evaluate : List ℕ → List Reading → ℕ → Held → Outcome CallResult
@@ -155,6 +149,12 @@ answersAfter (refused n p) = padded noAnswer []
 abbrev pub heldAfter : Held → Outcome CallResult → Held
 heldAfter h (accepted e) = e .held
 heldAfter h (refused n p) = h
+
+-- what a call on the record h hands back is what the outcome says
+pub record Tells (r : Evaluation) (h : Held) (o : Outcome CallResult) : Type 0 where
+  pub verdict : verdictOf (r .verdict) ≡ verdictIn o
+  pub answers : r .answers ≡ answersAfter o
+  pub held : r .held ≡ heldAfter h o
 
 unfoldable pub fresh : List ℕ → Outcome Held
 fresh img = andThen (loads img) (λ b. accepted (freshOf b))
@@ -178,8 +178,7 @@ evaluateList img h (c ∷ cs) =
 
 -- the record after the list
 unfoldable pub heldAfterAll : List ℕ → Held → List Call → Held
-heldAfterAll img h [] = h
-heldAfterAll img h (c ∷ cs) = heldAfterAll img (heldAfter h (evaluate img (c .readings) (c .count) h)) cs
+heldAfterAll img h cs = foldl heldAfter h (evaluateList img h cs)
 
 -- the calls on an image from its fresh record on
 unfoldable pub fromFresh : List ℕ → List Call → Outcome (List (Outcome CallResult))

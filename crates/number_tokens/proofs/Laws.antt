@@ -60,7 +60,8 @@ module _ (s : List ℕ) (c : Cursor) where
     unit-fault true q e = e ∙ sym (simp (kind-seen, text-seen, eq-eqb _ _ h, sym piece-is, q))
     unit-fault false q e = e ∙ sym (simp (kind-seen, text-seen, eq-eqb _ _ h, sym piece-is, q))
 
-    pub number-fault : (t : Bool) → isRuleNumber piece ≡ t → w ≡ (if t then 0 else 3) → w ≡ fault ((is NUMBER (seen s c b n), 2) ∷ (isRuleNumber (text (seen s c b n)), 3) ∷ [])
+    pub number-fault : (t : Bool) → isRuleNumber piece ≡ t → w ≡ (if t then 0 else 3)
+        → w ≡ fault ((is NUMBER (seen s c b n), 2) ∷ (isRuleNumber (text (seen s c b n)), 3) ∷ [])
     unfolding fault
     number-fault true q e = e ∙ sym (simp (kind-seen, text-seen, eq-eqb _ _ h, sym piece-is, q))
     number-fault false q e = e ∙ sym (simp (kind-seen, text-seen, eq-eqb _ _ h, sym piece-is, q))
@@ -95,5 +96,6 @@ module _ (s : List ℕ) (c : Cursor) where
   number-no v h e = by (isRuleNumber piece) refl
     where
       by : (t : Bool) → isRuleNumber piece ≡ t → isRuleNumber piece ≡ false
-      by true q = let z = leb-true 1 (decimal piece) (third (all isDigit piece) (leb (length piece) 7) _ _ q) in let y : v ≡ decimal piece = e ∙ simp q refl in absurd (omega arith)
+      by true q = let z = leb-true 1 (decimal piece) (third (all isDigit piece) (leb (length piece) 7) _ _ q) in let y : v ≡ decimal piece =
+          e ∙ simp q refl in absurd (omega arith)
       by false q = q

@@ -1,11 +1,10 @@
--- The tree of postfix words, and how many words there are.
+-- The tree of postfix words.
 use mathlib.Core.Path.{_≡_, refl, ap, _∙_}
 use mathlib.Core.List.{List, [], _∷_, _++_, append-assoc, append-nil}
 use Prim.Native.Nat.{ℕ, _+_, _-_}
 use native.Mathlib.Omega.{arith}
 use borrow.Author.Tests.{le-leb}
-use lib.ListN.{length, length-append}
-use Rattle.model.specs.Block.{Op, and, or, Condition, term, neg, two, size}
+use Rattle.model.specs.Block.{Op, and, or, Condition, term, neg, two}
 use Rattle.model.specs.Image.{postfix, opWord, joinTop, grown, trees, treeOf}
 
 grown-term : (t : ℕ) (st : List Condition) → grown (16 + t) st ≡ term t ∷ st

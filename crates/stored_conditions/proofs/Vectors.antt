@@ -3,7 +3,6 @@ use mathlib.Core.Path.{_≡_, refl}
 use mathlib.Core.List.{[], _∷_}
 use mathlib.Core.Bool.{true, false}
 use Prim.Native.Nat.{ℕ, zero, suc}
-use Rattle.model.specs.Basic.{same}
 use Rattle.model.specs.Block.{Condition, term, neg, two, and, or}
 use Rattle.model.specs.Parentheses.{form, depth}
 use Rattle.model.specs.WellFormed.{termsBelow}

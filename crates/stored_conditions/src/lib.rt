@@ -22,15 +22,15 @@ pub const OR_WORD: usize = 2;
 pub const TERM_WORD: usize = 16;
 
 // The forms of conditions, from tight to loose.
-pub const IS: u8 = 0;
+pub const TERM_FORM: u8 = 0;
 
-pub const IS_NOT: u8 = 1;
+pub const NOT_TERM_FORM: u8 = 1;
 
-pub const NOT: u8 = 2;
+pub const NOT_FORM: u8 = 2;
 
-pub const AND: u8 = 3;
+pub const AND_FORM: u8 = 3;
 
-pub const OR: u8 = 4;
+pub const OR_FORM: u8 = 4;
 
 // Places for operands: no condition of eight parentheses needs more.
 pub const ROOM: usize = 19;
@@ -67,10 +67,10 @@ fn opening(l: u8, form: u8, depth: u8) -> usize
 fn negated_form(form: u8) -> u8
     ensures { λ r. ⌜ r ≡ negatedForm form ⌝ }
 {
-    if form == IS {
-        return IS_NOT;
+    if form == TERM_FORM {
+        return NOT_TERM_FORM;
     }
-    NOT
+    NOT_FORM
 }
 
 fn fail(st: Stack) -> Stack
@@ -114,7 +114,7 @@ fn negate(st: Stack) -> Stack
         return fail(st);
     }
     let a = st.shapes[n - 1];
-    let depth = opening(IS_NOT, a.form, a.depth);
+    let depth = opening(NOT_TERM_FORM, a.form, a.depth);
     push(st, n - 1, negated_form(a.form), depth)
 }
 
@@ -146,7 +146,7 @@ fn step(st: Stack, m: usize, w: usize) -> Stack
 {
     if TERM_WORD <= w {
         if w - TERM_WORD < m {
-            return push(st, st.height, IS, 0);
+            return push(st, st.height, TERM_FORM, 0);
         }
         return fail(st);
     }
@@ -154,10 +154,10 @@ fn step(st: Stack, m: usize, w: usize) -> Stack
         return negate(st);
     }
     if w == AND_WORD {
-        return join(st, AND, NOT);
+        return join(st, AND_FORM, NOT_FORM);
     }
     if w == OR_WORD {
-        return join(st, OR, AND);
+        return join(st, OR_FORM, AND_FORM);
     }
     fail(st)
 }
@@ -172,7 +172,10 @@ pub fn stored_condition(img: &[u8], d: usize, n: usize, m: usize) -> StoredCondi
     let mut st = Stack {
         ok: true,
         height: 0,
-        shapes: [Shape { form: IS, depth: 0 }; ROOM],
+        shapes: [Shape {
+            form: TERM_FORM,
+            depth: 0,
+        }; ROOM],
     };
     let mut i = 0;
     while i < n {
@@ -180,7 +183,7 @@ pub fn stored_condition(img: &[u8], d: usize, n: usize, m: usize) -> StoredCondi
         if !st.ok {
             return StoredCondition {
                 ok: false,
-                form: IS,
+                form: TERM_FORM,
                 depth: 0,
             };
         }

@@ -11,8 +11,9 @@ use lib.Dec.{eqb, leb}
 use lib.ListN.{length, getD, set, replicate}
 use lib.Seq.{getD-set-same, getD-set-other}
 use Rattle.model.specs.Basic.{all, distinct}
-use Rattle.model.specs.Bounds.{ruleNumberLimit}
-use Rattle.model.specs.Image.{tab}
+use Rattle.model.specs.Bounds.{ruleNumberLeast, ruleNumberLimit}
+use Rattle.model.specs.WellFormed.{ruleOk}
+use Rattle.model.specs.Image.{tab, ruleAt}
 use Rattle.laws.proofs.Tests.{both, passed}
 use Rattle.stored_rules.specs.Walk.{ruleNumber, ruleStored, rowStored, rulesWalk}
 use Rattle.stored_rules.proofs.Loops.{distinct-more, distinct-stop}
@@ -60,18 +61,23 @@ module _ (f : ℕ → ℕ) (e : ℕ) where
       → distinct eqb (tab f (e - j) j) ≡ distinct eqb (tab f (e - (j + 1)) (j + 1))
   unmet j l h q t = distinct-more eqb f e j h (not-back _ _ (sym t ∙ q (f j)))
 
-rule-number : (w : ℕ → ℕ) (m i n k : ℕ) → rowStored w m i n k ≡ true → ruleNumber w i ≤ ruleNumberLimit
-unfolding rowStored ruleStored
-rule-number w m i n k h = leb-true _ _ (both (leb 1 (ruleNumber w i)) (leb (ruleNumber w i) ruleNumberLimit) (passed _ (passed _ h .1 .1 .0) .0) .1)
+rule-number : (w : ℕ → ℕ) (i n k : ℕ) → rowStored w i n k ≡ true → ruleNumber w i ≤ ruleNumberLimit
+unfolding rowStored ruleStored ruleOk ruleAt
+rule-number w i n k h =
+    let stored = passed _ h .1 .1 .0 in
+    let rule = passed _ stored .1 .1 .1 .0 in
+    leb-true _ _ (both (leb ruleNumberLeast (ruleNumber w i)) (leb (ruleNumber w i) ruleNumberLimit) (passed _ rule .0) .1)
 
 -- what the walk over r rules says of their numbers
-walk-from : (w : ℕ → ℕ) (m r i n k : ℕ) → rulesWalk w m r i n k ≡ true → (j : ℕ) → j < r → ruleNumber w (i + j) ≤ ruleNumberLimit
+walk-from : (w : ℕ → ℕ) (r i n k : ℕ) → rulesWalk w r i n k ≡ true → (j : ℕ) → j < r → ruleNumber w (i + j) ≤ ruleNumberLimit
 unfolding rulesWalk
-walk-from w m zero i n k h j l = absurd (omega arith)
-walk-from w m (suc r) i n k h zero l = let e : i + 0 ≡ i = omega arith in rw e (rule-number w m i n k (both (rowStored w m i n k) _ h .0))
-walk-from w m (suc r) i n k h (suc j) l =
+walk-from w zero i n k h j l = absurd (omega arith)
+walk-from w (suc r) i n k h zero l =
+    let e : i + 0 ≡ i = omega arith in
+    rw e (rule-number w i n k (both (rowStored w i n k) _ h .0))
+walk-from w (suc r) i n k h (suc j) l =
     let e : i + suc j ≡ suc i + j = omega arith in
-    rw e (walk-from w m r (suc i) _ _ (both (rowStored w m i n k) _ h .1) j (omega arith))
+    rw e (walk-from w r (suc i) _ _ (both (rowStored w i n k) _ h .1) j (omega arith))
 
-pub walk-numbers : (w : ℕ → ℕ) (m r : ℕ) → rulesWalk w m r 0 0 0 ≡ true → (j : ℕ) → j < r → ruleNumber w j ≤ ruleNumberLimit
-walk-numbers w m r h j l = let e : 0 + j ≡ j = omega arith in rw e at (walk-from w m r 0 0 0 h j l)
+pub walk-numbers : (w : ℕ → ℕ) (r : ℕ) → rulesWalk w r 0 0 0 ≡ true → (j : ℕ) → j < r → ruleNumber w j ≤ ruleNumberLimit
+walk-numbers w r h j l = let e : 0 + j ≡ j = omega arith in rw e at (walk-from w r 0 0 0 h j l)

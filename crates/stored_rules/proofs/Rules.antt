@@ -8,31 +8,23 @@ use borrow.Author.Tests.{eq-eqb, eqb-true, le-leb, leb-true}
 use lib.Dec.{leb, eqb}
 use lib.ListN.{length}
 use Rattle.model.specs.Basic.{every, all, same, between, distinct, isEmpty}
-use Rattle.model.specs.Bounds.{ruleLimit, wordLimit, conclusionLimit}
+use Rattle.model.specs.Bounds.{ruleLimit, wordLimit, conclusionLimit, ruleNumberLeast, ruleNumberLimit}
 use Rattle.model.specs.Block.{Rule, size}
-use Rattle.model.specs.WellFormed.{conditionOk, ruleOk}
-use Rattle.model.specs.Image.{tab, postfix, conclusionAt, ruleAt, decode}
+use Rattle.model.specs.WellFormed.{unitOk, conditionOk, conclusionOk, ruleOk}
+use Rattle.model.specs.Image.{tab, postfix, treeOf, conclusionAt, ruleAt, decode}
 use Rattle.laws.proofs.Conditions.{length-postfix}
 use Rattle.laws.proofs.Lists.{map-tab}
 use Rattle.laws.proofs.Tests.{both, and-i, passed, pass, iff}
-use Rattle.laws.proofs.Places.{length-tab, same-eq}
+use Rattle.laws.proofs.Places.{length-tab, tab-from, same-eq}
 use Rattle.stored_conditions.specs.Stored.{isCondition, conditionStored}
 use Rattle.layout.specs.Rows.{rowsOk}
 use Rattle.layout.specs.Tables.{ruleRow, ruleNext, sums, wordCount, conclusionCount, inputTermsIn, wordsIn, conclusionsIn, ruleRows, conditionExact, conditionRows}
 use Rattle.layout.specs.Groups.{tablesOk, rulesOk}
 use Rattle.layout.proofs.RowLaws.{stood}
 use Rattle.layout.proofs.Parts.{wordFirst, conclusionFirst, rule-words-row, rule-conclusions-row}
+use Rattle.layout.proofs.Sound.{input-terms}
 use Rattle.layout.proofs.Whole.{rules-count, words-count, conclusions-count}
 use Rattle.stored_rules.specs.Walk.{ruleNumber, ruleStored, rowStored, rulesWalk}
-use Rattle.stored_rules.proofs.Outputs.{input-terms}
-
--- words counted from the start of their table
-tab-plus : (w : ℕ → ℕ) (o n p : ℕ) → tab (λ k. w (o + k)) n p ≡ tab w n (o + p)
-unfolding tab
-tab-plus w o zero p = refl
-tab-plus w o (suc n) p =
-    let e : o + suc p ≡ suc (o + p) = omega arith in
-    ap (λ (l : List ℕ). w (o + p) ∷ l) (tab-plus w o n (suc p) ∙ ap (tab w n) e)
 
 some-are : {A : Type 0} (f : ℕ → A) (n i : ℕ) → not (isEmpty (tab f n i)) ≡ leb 1 n
 unfolding tab
@@ -45,7 +37,8 @@ module _ (w : ℕ → ℕ) where
   unfolding conditionExact
   exact-size i h =
       let c = ruleAt w i .condition in
-      sym (length-postfix c) ∙ ap length (sym (same-eq (tab (λ k. w (w 14 + k)) (wordCount w i) (wordFirst w i)) (postfix c) h)) ∙ length-tab (λ k. w (w 14 + k)) (wordCount w i) (wordFirst w i)
+      let f : ℕ → ℕ = λ k. w (w 14 + k) in
+      sym (length-postfix c) ∙ ap length (sym (same-eq (tab f (wordCount w i) (wordFirst w i)) (postfix c) h)) ∙ length-tab f (wordCount w i) (wordFirst w i)
 
   conclusions-size : (i : ℕ) → length (ruleAt w i .conclusions) ≡ conclusionCount w i
   unfolding ruleAt
@@ -73,139 +66,182 @@ module _ (w : ℕ → ℕ) where
   abbrev rows : ℕ → ℕ → ℕ × ℕ → Bool
   rows r i σ = rowsOk ruleRow ruleNext (ruleAt w) w (w 13) 6 r i σ
 
-  -- the tests of the code, where there are m input terms
-  abbrev pub tests : ℕ → List Bool
-  tests m =
-      between 1 ruleLimit (w 6)
-      ∷ leb (w 7) wordLimit
-      ∷ leb (w 8) conclusionLimit
-      ∷ rulesWalk w m (w 6) 0 0 0
-      ∷ distinct eqb (tab (ruleNumber w) (w 6) 0)
+  -- the tests of the code on r rules with n condition words and k conclusions
+  abbrev pub tests : ℕ → ℕ → ℕ → List Bool
+  tests r n k =
+      between 1 ruleLimit r
+      ∷ leb n wordLimit
+      ∷ leb k conclusionLimit
+      ∷ rulesWalk w r 0 0 0
+      ∷ distinct eqb (tab (ruleNumber w) r 0)
       ∷ []
 
   numbers-are : map (λ (r : Rule). r .number) (decode w .rules) ≡ tab (ruleNumber w) (w 6) 0
   unfolding decode ruleAt
   numbers-are = map-tab (λ (r : Rule). r .number) (ruleAt w) (w 6) 0
 
+  -- A RULE, by the tests of the code
+  conclusions-some : (i : ℕ) → not (isEmpty (ruleAt w i .conclusions)) ≡ leb 1 (conclusionCount w i)
+  unfolding ruleAt
+  conclusions-some i = some-are (conclusionAt w) (conclusionCount w i) (conclusionFirst w i)
+
+  abbrev pub condition-right : ℕ → Bool
+  condition-right i = conditionExact w i && conditionOk (decode w) (ruleAt w i .condition)
+
+  abbrev pub conclusions-right : ℕ → Bool
+  conclusions-right i = not (isEmpty (ruleAt w i .conclusions)) && all (conclusionOk (decode w)) (ruleAt w i .conclusions)
+
+  pub conclusions-words : (i s k : ℕ) → s ≡ conclusionFirst w i → k ≡ conclusionCount w i
+      → conclusions-right i ≡ leb 1 k && all (conclusionOk (decode w)) (tab (conclusionAt w) k s)
+  unfolding ruleAt
+  conclusions-words i s k es ek = rw (es, ek) (λ j. conclusions-some i j && all (conclusionOk (decode w)) (ruleAt w i .conclusions))
+
+  abbrev pub rule-tests : ℕ → ℕ → ℕ → List Bool
+  rule-tests i n k =
+      leb n wordLimit
+      ∷ leb k conclusionLimit
+      ∷ between ruleNumberLeast ruleNumberLimit (ruleAt w i .number)
+      ∷ unitOk (ruleAt w i .weight)
+      ∷ conclusions-right i
+      ∷ condition-right i
+      ∷ []
+
+  rule-to : (i : ℕ) → ruleStored w i ≡ true → every (rule-tests i (wordCount w i) (conclusionCount w i)) ≡ true
+  unfolding ruleStored ruleOk
+  rule-to i h =
+      let s = passed _ h in
+      let r = passed _ (s .1 .1 .1 .0) in
+      pass _ (s .0, (s .1 .0, (r .0, (r .1 .1 .1 .1 .0, (and-i _ _ (r .1 .1 .0) (r .1 .1 .1 .0), (and-i _ _ (s .1 .1 .0) (r .1 .0), tt))))))
+
+  rule-from : (i : ℕ) → every (rule-tests i (wordCount w i) (conclusionCount w i)) ≡ true → ruleStored w i ≡ true
+  unfolding ruleStored ruleOk
+  rule-from i h =
+      let s = passed _ h in
+      let t = s .1 .1 in
+      let k = both (not (isEmpty (ruleAt w i .conclusions))) (all (conclusionOk (decode w)) (ruleAt w i .conclusions)) (t .1 .1 .0) in
+      let c = both (conditionExact w i) (conditionOk (decode w) (ruleAt w i .condition)) (t .1 .1 .1 .0) in
+      pass _ (s .0, (s .1 .0, (c .0, (pass _ (t .0, (c .1, (k .0, (k .1, (t .1 .0, tt))))), tt))))
+
+  pub rule-words : (i n k : ℕ) → n ≡ wordCount w i → k ≡ conclusionCount w i → ruleStored w i ≡ every (rule-tests i n k)
+  rule-words i n k en ek = rw (en, ek) (iff (ruleStored w i) (every (rule-tests i (wordCount w i) (conclusionCount w i))) (rule-to i) (rule-from i))
+
+  pub row-words : (i n k a b : ℕ) → a ≡ wordFirst w i → b ≡ conclusionFirst w i → rowStored w i n k ≡ every (eqb a n ∷ eqb b k ∷ ruleStored w i ∷ [])
+  unfolding rowStored
+  row-words i n k a b ea eb = rw (ea, eb) refl
+
   module _ (frame : tablesOk w ≡ true) (m : ℕ) (terms : m ≡ inputTermsIn w) where
-    condition-stored : (i : ℕ) → conditionStored w (w 14 + wordFirst w i) (wordCount w i) m ≡ conditionExact w i && conditionOk (decode w) (ruleAt w i .condition)
+    condition-words : (i : ℕ) → tab w (wordCount w i) (w 14 + wordFirst w i) ≡ tab (λ k. w (w 14 + k)) (wordCount w i) (wordFirst w i)
+    condition-words i = sym (tab-from w (w 14) (wordCount w i) (wordFirst w i))
+
+    -- by the words that the code reads
+    pub condition-stored : (i d n : ℕ) → d ≡ w 14 + wordFirst w i → n ≡ wordCount w i → conditionStored w d n m ≡ condition-right i
     unfolding conditionStored conditionExact conditionOk ruleAt
-    condition-stored i = λ j. isCondition ((terms ∙ sym (input-terms w frame)) j) (sym (tab-plus w (w 14) (wordCount w i) (wordFirst w i)) j)
+    condition-stored i d n ed en = rw (ed, en) (λ j. isCondition ((terms ∙ sym (input-terms w frame)) j) (condition-words i j))
 
-    rule-in : (i : ℕ) → ruleStored w m i ≡ true → (conditionExact w i ≡ true) × (ruleOk (decode w) (ruleAt w i) ≡ true)
-    unfolding ruleStored ruleOk ruleAt
-    rule-in i h =
-        let s = passed _ h in
-        let c = both (conditionExact w i) (conditionOk (decode w) (ruleAt w i .condition)) (sym (condition-stored i) ∙ s .1 .1 .1 .1 .1 .0) in
-        let k = both (leb 1 (conclusionCount w i)) (leb (conclusionCount w i) conclusionLimit) (s .1 .1 .0) in
-        (c .0, pass _ (s .0, (c .1, (some-are (conclusionAt w) (conclusionCount w i) (conclusionFirst w i) ∙ k .0, (s .1 .1 .1 .0, (s .1 .0, tt))))))
+    pub condition-tree : (i d n : ℕ) → d ≡ w 14 + wordFirst w i → n ≡ wordCount w i → treeOf (tab w n d) ≡ ruleAt w i .condition
+    unfolding ruleAt
+    condition-tree i d n ed en = rw (ed, en) (ap treeOf (condition-words i))
 
-    rule-out : (i : ℕ) → wordCount w i ≤ wordLimit → conclusionCount w i ≤ conclusionLimit
-        → conditionExact w i ≡ true → ruleOk (decode w) (ruleAt w i) ≡ true → ruleStored w m i ≡ true
-    unfolding ruleStored ruleOk ruleAt
-    rule-out i n k x h =
-        let s = passed _ h in
-        let some = sym (some-are (conclusionAt w) (conclusionCount w i) (conclusionFirst w i)) ∙ s .1 .1 .0 in
-        pass _ (
-          s .0,
-          (s .1 .1 .1 .1 .0, (and-i _ _ some (le-leb _ _ k), (s .1 .1 .1 .0, (le-leb _ _ n, (condition-stored i ∙ and-i _ _ x (s .1 .0), tt))))),
-        )
+  -- THE WALK
+  -- r rules from the i-th on, after n condition words and k conclusions
+  record Walked (r i n k : ℕ) : Type 0 where
+    pub table : rows r i (n, k) ≡ true
+    pub exact : all (conditionExact w) (tab (λ j. j) r i) ≡ true
+    pub good : all (ruleOk (decode w)) (tab (ruleAt w) r i) ≡ true
+    pub words : n + sums (wordCount w) r i ≡ w 7
+    pub conclusions′ : k + sums (conclusionCount w) r i ≡ w 8
 
-    -- THE WALK
-    -- r rules from the i-th on, after n condition words and k conclusions
-    record Walked (r i n k : ℕ) : Type 0 where
-      pub table : rows r i (n, k) ≡ true
-      pub exact : all (conditionExact w) (tab (λ j. j) r i) ≡ true
-      pub good : all (ruleOk (decode w)) (tab (ruleAt w) r i) ≡ true
-      pub words : n + sums (wordCount w) r i ≡ w 7
-      pub conclusions′ : k + sums (conclusionCount w) r i ≡ w 8
+  walk-in : (r i n k : ℕ) → rulesWalk w r i n k ≡ true → Walked r i n k
+  unfolding rulesWalk rowStored ruleStored rowsOk all tab sums
+  walk-in zero i n k h =
+      let b = both (eqb n (w 7)) (eqb k (w 8)) h in
+      let en = eqb-true n (w 7) (b .0) in
+      let ek = eqb-true k (w 8) (b .1) in
+      record { table = refl; exact = refl; good = refl; words = omega arith; conclusions′ = omega arith }
+  walk-in (suc r) i n k h =
+      let b = both (rowStored w i n k) (rulesWalk w r (suc i) (n + wordCount w i) (k + conclusionCount w i)) h in
+      let s = passed _ (b .0) in
+      let c = passed _ (s .1 .1 .0) .1 .1 in
+      let z = walk-in r (suc i) (n + wordCount w i) (k + conclusionCount w i) (b .1) in
+      record {
+        table = and-i _ _ (row-stands i n k (c .0) (eqb-true _ _ (s .0)) (eqb-true _ _ (s .1 .0))) (ap (rows r (suc i)) (next-are i n k (c .0)) ∙ z .table);
+        exact = and-i _ _ (c .0) (z .exact);
+        good = and-i _ _ (c .1 .0) (z .good);
+        words = omega (arith, z .words);
+        conclusions′ = omega (arith, z .conclusions′);
+      }
 
-    walk-in : (r i n k : ℕ) → rulesWalk w m r i n k ≡ true → Walked r i n k
-    unfolding rulesWalk rowStored rowsOk all tab sums
-    walk-in zero i n k h =
-        let b = both (eqb n (w 7)) (eqb k (w 8)) h in
-        record { table = refl; exact = refl; good = refl; words = omega (arith, eqb-true n (w 7) (b .0)); conclusions′ = omega (arith, eqb-true k (w 8) (b .1)) }
-    walk-in (suc r) i n k h =
-        let b = both (rowStored w m i n k) (rulesWalk w m r (suc i) (n + wordCount w i) (k + conclusionCount w i)) h in
-        let s = passed _ (b .0) in
-        let c = rule-in i (s .1 .1 .0) in
-        let z = walk-in r (suc i) (n + wordCount w i) (k + conclusionCount w i) (b .1) in
-        record {
-          table = and-i _ _ (row-stands i n k (c .0) (eqb-true _ _ (s .0)) (eqb-true _ _ (s .1 .0))) (ap (rows r (suc i)) (next-are i n k (c .0)) ∙ z .table);
-          exact = and-i _ _ (c .0) (z .exact);
-          good = and-i _ _ (c .1) (z .good);
-          words = omega (arith, z .words);
-          conclusions′ = omega (arith, z .conclusions′);
-        }
+  walk-out : w 7 ≤ wordLimit → w 8 ≤ conclusionLimit → (r i n k : ℕ) → Walked r i n k → rulesWalk w r i n k ≡ true
+  unfolding rulesWalk rowStored ruleStored rowsOk all tab sums
+  walk-out a b zero i n k z = and-i _ _ (eq-eqb n (w 7) (omega (arith, z .words))) (eq-eqb k (w 8) (omega (arith, z .conclusions′)))
+  walk-out a b (suc r) i n k z =
+      let t = both (same (tab w 6 (w 13 + i * 6)) (ruleRow (n, k) (ruleAt w i))) (rows r (suc i) (ruleNext (n, k) (ruleAt w i))) (z .table) in
+      let x = both (conditionExact w i) (all (conditionExact w) (tab (λ j. j) r (suc i))) (z .exact) in
+      let g = both (ruleOk (decode w) (ruleAt w i)) (all (ruleOk (decode w)) (tab (ruleAt w) r (suc i))) (z .good) in
+      let few = le-leb (wordCount w i) wordLimit (omega (arith, z .words)) in
+      let few′ = le-leb (conclusionCount w i) conclusionLimit (omega (arith, z .conclusions′)) in
+      let stored : ruleStored w i ≡ true = pass _ (few, (few′, (x .0, (g .0, tt)))) in
+      and-i _ _
+      (pass _ (
+        eq-eqb _ _ (rule-words-row w i (n, k) (t .0) .0),
+        (eq-eqb _ _ (rule-conclusions-row w i (n, k) (t .0) .0), (stored, tt)),
+      ))
+      (walk-out a b r (suc i) (n + wordCount w i) (k + conclusionCount w i) (record {
+        table = ap (rows r (suc i)) (sym (next-are i n k (x .0))) ∙ t .1;
+        exact = x .1;
+        good = g .1;
+        words = omega (arith, z .words);
+        conclusions′ = omega (arith, z .conclusions′);
+      }))
 
-    walk-out : w 7 ≤ wordLimit → w 8 ≤ conclusionLimit → (r i n k : ℕ) → Walked r i n k → rulesWalk w m r i n k ≡ true
-    unfolding rulesWalk rowStored rowsOk all tab sums
-    walk-out a b zero i n k z = and-i _ _ (eq-eqb n (w 7) (omega (arith, z .words))) (eq-eqb k (w 8) (omega (arith, z .conclusions′)))
-    walk-out a b (suc r) i n k z =
-        let t = both (same (tab w 6 (w 13 + i * 6)) (ruleRow (n, k) (ruleAt w i))) (rows r (suc i) (ruleNext (n, k) (ruleAt w i))) (z .table) in
-        let x = both (conditionExact w i) (all (conditionExact w) (tab (λ j. j) r (suc i))) (z .exact) in
-        let g = both (ruleOk (decode w) (ruleAt w i)) (all (ruleOk (decode w)) (tab (ruleAt w) r (suc i))) (z .good) in
-        and-i _ _
-        (pass _ (
-          eq-eqb _ _ (rule-words-row w i (n, k) (t .0) .0),
-          (eq-eqb _ _ (rule-conclusions-row w i (n, k) (t .0) .0), (rule-out i (omega (arith, z .words)) (omega (arith, z .conclusions′)) (x .0) (g .0), tt)),
-        ))
-        (walk-out a b r (suc i) (n + wordCount w i) (k + conclusionCount w i) (record {
-          table = ap (rows r (suc i)) (sym (next-are i n k (x .0))) ∙ t .1;
-          exact = x .1;
-          good = g .1;
-          words = omega (arith, z .words);
-          conclusions′ = omega (arith, z .conclusions′);
-        }))
+  -- THE WHOLE
+  to : rulesOk w ≡ true → every (tests (w 6) (w 7) (w 8)) ≡ true
+  unfolding rulesOk ruleRows conditionRows decode
+  to h =
+      let s = passed _ h in
+      let q = s .1 .1 .1 .1 in
+      let n : w 7 ≡ wordsIn w = eqb-true _ _ (s .1 .1 .0) in
+      let k : w 8 ≡ conclusionsIn w = eqb-true _ _ (s .1 .1 .1 .0) in
+      let z : Walked (w 6) 0 0 0 = record { table = s .0; exact = s .1 .0; good = q .1 .0; words = omega (arith, n); conclusions′ = omega (arith, k) } in
+      let a : leb (w 7) wordLimit ≡ true = ap (λ (x : ℕ). leb x wordLimit) (n ∙ sym (words-count w (s .0) (s .1 .0))) ∙ q .1 .1 .1 .0 in
+      let b : leb (w 8) conclusionLimit ≡ true = ap (λ (x : ℕ). leb x conclusionLimit) (k ∙ sym (conclusions-count w (s .0))) ∙ q .1 .1 .1 .1 .0 in
+      pass _ (
+        ap (between 1 ruleLimit) (sym (rules-count w)) ∙ q .0,
+        (a, (b, (walk-out (leb-true _ _ a) (leb-true _ _ b) (w 6) 0 0 0 z, (ap (distinct eqb) (sym numbers-are) ∙ q .1 .1 .0, tt)))),
+      )
 
-    -- THE WHOLE
-    to : rulesOk w ≡ true → every (tests m) ≡ true
-    unfolding rulesOk ruleRows conditionRows decode
-    to h =
-        let s = passed _ h in
-        let q = s .1 .1 .1 .1 in
-        let n : w 7 ≡ wordsIn w = eqb-true _ _ (s .1 .1 .0) in
-        let k : w 8 ≡ conclusionsIn w = eqb-true _ _ (s .1 .1 .1 .0) in
-        let z : Walked (w 6) 0 0 0 = record { table = s .0; exact = s .1 .0; good = q .1 .0; words = omega (arith, n); conclusions′ = omega (arith, k) } in
-        let a : leb (w 7) wordLimit ≡ true = ap (λ (x : ℕ). leb x wordLimit) (n ∙ sym (words-count w (s .0) (s .1 .0))) ∙ q .1 .1 .1 .0 in
-        let b : leb (w 8) conclusionLimit ≡ true = ap (λ (x : ℕ). leb x conclusionLimit) (k ∙ sym (conclusions-count w (s .0))) ∙ q .1 .1 .1 .1 .0 in
-        pass _ (
-          ap (between 1 ruleLimit) (sym (rules-count w)) ∙ q .0,
-          (a, (b, (walk-out (leb-true _ _ a) (leb-true _ _ b) (w 6) 0 0 0 z, (ap (distinct eqb) (sym numbers-are) ∙ q .1 .1 .0, tt)))),
-        )
-
-    from : every (tests m) ≡ true → rulesOk w ≡ true
-    unfolding rulesOk ruleRows conditionRows decode
-    from h =
-        let s = passed _ h in
-        let z = walk-in (w 6) 0 0 0 (s .1 .1 .1 .0) in
-        let n : w 7 ≡ wordsIn w = omega (arith, z .words) in
-        let k : w 8 ≡ conclusionsIn w = omega (arith, z .conclusions′) in
-        pass _ (
-          z .table,
+  from : every (tests (w 6) (w 7) (w 8)) ≡ true → rulesOk w ≡ true
+  unfolding rulesOk ruleRows conditionRows decode
+  from h =
+      let s = passed _ h in
+      let z = walk-in (w 6) 0 0 0 (s .1 .1 .1 .0) in
+      let n : w 7 ≡ wordsIn w = omega (arith, z .words) in
+      let k : w 8 ≡ conclusionsIn w = omega (arith, z .conclusions′) in
+      pass _ (
+        z .table,
+        (
+          z .exact,
           (
-            z .exact,
+            eq-eqb _ _ n,
             (
-              eq-eqb _ _ n,
+              eq-eqb _ _ k,
               (
-                eq-eqb _ _ k,
+                ap (between 1 ruleLimit) (rules-count w) ∙ s .0,
                 (
-                  ap (between 1 ruleLimit) (rules-count w) ∙ s .0,
+                  z .good,
                   (
-                    z .good,
+                    ap (distinct eqb) numbers-are ∙ s .1 .1 .1 .1 .0,
                     (
-                      ap (distinct eqb) numbers-are ∙ s .1 .1 .1 .1 .0,
-                      (
-                        ap (λ (x : ℕ). leb x wordLimit) (words-count w (z .table) (z .exact) ∙ sym n) ∙ s .1 .0,
-                        (ap (λ (x : ℕ). leb x conclusionLimit) (conclusions-count w (z .table) ∙ sym k) ∙ s .1 .1 .0, tt),
-                      ),
+                      ap (λ (x : ℕ). leb x wordLimit) (words-count w (z .table) (z .exact) ∙ sym n) ∙ s .1 .0,
+                      (ap (λ (x : ℕ). leb x conclusionLimit) (conclusions-count w (z .table) ∙ sym k) ∙ s .1 .1 .0, tt),
                     ),
                   ),
                 ),
               ),
             ),
           ),
-        )
+        ),
+      )
 
-    pub rules-words : rulesOk w ≡ every (tests m)
-    rules-words = iff (rulesOk w) (every (tests m)) to from
+  pub rules-words : (r n k : ℕ) → r ≡ w 6 → n ≡ w 7 → k ≡ w 8 → rulesOk w ≡ every (tests r n k)
+  rules-words r n k er en ek = rw (er, en, ek) (iff (rulesOk w) (every (tests (w 6) (w 7) (w 8))) to from)

@@ -1,143 +1,180 @@
-// The rules of a stored image: their rows, conditions and conclusions.
+// The rules of a stored image: their rows, numbers, weights, conditions and conclusions.
 ghost use mathlib.Core.Path.{_≡_};
-ghost use mathlib.Core.Bool.{true};
+ghost use mathlib.Core.Bool.{true, _&&_, not};
 ghost use Prim.Native.Nat.{ℕ, _≤_, _<_};
 ghost use lib.Dec.{eqb};
-ghost use Rattle.model.specs.Basic.{all, between, distinct};
-ghost use Rattle.model.specs.WellFormed.{unitOk, conclusionOk};
-ghost use Rattle.model.specs.Image.{wordAt, tab, conclusionAt, decode};
-ghost use Rattle.layout.specs.Tables.{inputTermsIn};
+ghost use Rattle.model.specs.Basic.{all, between, distinct, isEmpty};
+ghost use Rattle.model.specs.Bounds.{ruleLimit, ruleNumberLeast, ruleNumberLimit};
+ghost use Rattle.model.specs.Parentheses.{form, depth};
+ghost use Rattle.model.specs.WellFormed.{unitOk, conditionOk, conclusionOk};
+ghost use Rattle.model.specs.Image.{wordAt, tab, conclusionAt, ruleAt, decode};
+ghost use Rattle.header.specs.Header.{Heads};
+ghost use Rattle.layout.specs.Tables.{inputTermsIn, conditionExact};
 ghost use Rattle.layout.specs.Groups.{tablesOk, rulesOk};
 ghost use Rattle.stored_rules.specs.Walk.{ruleNumber, ruleStored, rowStored, rulesWalk};
-use stored_conditions::condition_ok;
+use header::Header;
+use header::conclusion_row;
+use header::output_row;
+use header::rule_row;
+use stored_conditions::StoredCondition;
 use words::word;
 
-fn within(a: usize, b: usize, c: usize) -> bool
-    ensures { λ r. ⌜ r ≡ between a b c ⌝ }
+// Rule numbers, and 0.
+const NUMBERS: usize = bounds::RULE_NUMBER + 1;
+
+pub fn number_ok(img: &[u8], h: Header, i: usize) -> bool
+    requires { ⌜ Heads (wordAt (now img)) h × (i ≤ ruleLimit) ⌝ }
+    ensures { λ r. ⌜ r ≡ between ruleNumberLeast ruleNumberLimit (ruleAt (wordAt (now (img .entry))) i .number) ⌝ }
 {
-    if c < a {
-        return false;
-    }
-    c <= b
+    bounds::within(
+        bounds::LEAST_RULE_NUMBER,
+        bounds::RULE_NUMBER,
+        word(img, rule_row(h, i)),
+    )
 }
 
-fn weight_ok(d: usize) -> bool
-    ensures { λ r. ⌜ r ≡ unitOk d ⌝ }
+pub fn weight_ok(img: &[u8], h: Header, i: usize) -> bool
+    requires { ⌜ Heads (wordAt (now img)) h × (i ≤ ruleLimit) ⌝ }
+    ensures { λ r. ⌜ r ≡ unitOk (ruleAt (wordAt (now (img .entry))) i .weight) ⌝ }
 {
-    if 1_000_000 < d {
-        return false;
-    }
-    d % 1000 == 0
+    let weight = word(img, rule_row(h, i) + header::RULE_WEIGHT);
+    degrees::is_unit(weight as u32)
 }
 
-fn conclusion_ok(img: &[u8], i: usize) -> bool
-    requires { ⌜ (tablesOk (wordAt (now img)) ≡ true) × (i ≤ 10000000000) ⌝ }
-    ensures { λ r. ⌜ r ≡ conclusionOk (decode (wordAt (now (img .entry)))) (conclusionAt (wordAt (now (img .entry))) i) ⌝ }
+// Conclusion i of all.
+fn conclusion_ok(img: &[u8], h: Header, i: usize) -> bool
+    requires { ⌜ (tablesOk (wordAt (now img)) ≡ true) × Heads (wordAt (now img)) h × (i ≤ 10000000000) ⌝ }
+    ensures { λ r. ⌜ r
+        ≡ conclusionOk (decode (wordAt (now (img .entry)))) (conclusionAt (wordAt (now (img .entry))) i) ⌝ }
 {
-    let o = word(img, 15) + i * 2;
+    let o = conclusion_row(h, i);
     let j = word(img, o);
-    if word(img, 3) <= j {
+    if h.outputs <= j {
         return false;
     }
-    let t = word(img, o + 1);
-    let v = word(img, 10) + j * 11;
-    let first = word(img, v + 4);
+    let t = word(img, o + header::CONCLUSION_TERM);
+    let v = output_row(h, j);
+    let first = word(img, v + header::OUTPUT_FIRST);
     if t < first {
         return false;
     }
-    t < first + word(img, v + 5)
+    t < first + word(img, v + header::OUTPUT_TERMS)
 }
 
-// k conclusions from s on.
-fn conclusions_ok(img: &[u8], s: usize, k: usize) -> bool
-    requires { ⌜ (tablesOk (wordAt (now img)) ≡ true) × (s ≤ 4294967295) × (k ≤ 4294967295) ⌝ }
-    ensures { λ r. ⌜ r ≡ all (conclusionOk (decode (wordAt (now (img .entry))))) (tab (conclusionAt (wordAt (now (img .entry)))) k s) ⌝ }
+// The conclusions of rule i: there are some, and each is right.
+pub fn conclusions_ok(img: &[u8], h: Header, i: usize) -> bool
+    requires { ⌜ (tablesOk (wordAt (now img)) ≡ true) × Heads (wordAt (now img)) h × (i ≤ ruleLimit) ⌝ }
+    ensures { λ r. ⌜ r ≡ not (isEmpty (ruleAt (wordAt (now (img .entry))) i .conclusions))
+        && all (conclusionOk (decode (wordAt (now (img .entry)))))
+        (ruleAt (wordAt (now (img .entry))) i .conclusions) ⌝ }
 {
+    let o = rule_row(h, i);
+    let s = word(img, o + header::RULE_CONCLUSION_FIRST);
+    let k = word(img, o + header::RULE_CONCLUSIONS);
     let e = s + k;
-    let mut i = s;
-    while i < e {
-        if !conclusion_ok(img, i) {
+    let mut j = s;
+    while j < e {
+        if !conclusion_ok(img, h, j) {
             return false;
         }
-        i += 1;
+        j += 1;
     }
-    true
+    1 <= k
 }
 
-fn rule_ok(img: &[u8], m: usize, i: usize) -> bool
-    requires { ⌜ (tablesOk (wordAt (now img)) ≡ true) × (m ≤ 4294967295) × (i ≤ 64) ⌝ }
-    ensures { λ r. ⌜ r ≡ ruleStored (wordAt (now (img .entry))) m i ⌝ }
+// The condition of rule i, where there are m input terms.
+pub fn rule_condition(img: &[u8], h: Header, m: usize, i: usize) -> StoredCondition
+    requires { ⌜ (tablesOk (wordAt (now img)) ≡ true) × Heads (wordAt (now img)) h
+        × (m ≡ inputTermsIn (wordAt (now img))) × (m ≤ 4294967295) × (i ≤ ruleLimit) ⌝ }
+    ensures { λ r. ⌜ r .ok ≡ conditionExact (wordAt (now (img .entry))) i
+        && conditionOk (decode (wordAt (now (img .entry)))) (ruleAt (wordAt (now (img .entry))) i .condition) ⌝ }
+    ensures tree { λ r. ⌜ (r .ok ≡ true → (r .form ≡ form (ruleAt (wordAt (now (img .entry))) i .condition))
+        × (r .depth ≡ depth (ruleAt (wordAt (now (img .entry))) i .condition))) ⌝ }
 {
-    let o = word(img, 13) + i * 6;
-    if !within(1, 65_535, word(img, o)) {
+    let o = rule_row(h, i);
+    let first = word(img, o + header::RULE_WORD_FIRST);
+    let n = word(img, o + header::RULE_WORDS);
+    stored_conditions::stored_condition(img, h.word_table + first, n, m)
+}
+
+// Rule i. The limits of all rules together bound the loops over one.
+fn rule_ok(img: &[u8], h: Header, m: usize, i: usize) -> bool
+    requires { ⌜ (tablesOk (wordAt (now img)) ≡ true) × Heads (wordAt (now img)) h
+        × (m ≡ inputTermsIn (wordAt (now img))) × (m ≤ 4294967295) × (i ≤ ruleLimit) ⌝ }
+    ensures { λ r. ⌜ r ≡ ruleStored (wordAt (now (img .entry))) i ⌝ }
+{
+    let o = rule_row(h, i);
+    if bounds::WORDS < word(img, o + header::RULE_WORDS) {
         return false;
     }
-    if !weight_ok(word(img, o + 5)) {
+    if bounds::CONCLUSIONS < word(img, o + header::RULE_CONCLUSIONS) {
         return false;
     }
-    let k = word(img, o + 4);
-    if !within(1, 128, k) {
+    if !number_ok(img, h, i) {
         return false;
     }
-    if !conclusions_ok(img, word(img, o + 3), k) {
+    if !weight_ok(img, h, i) {
         return false;
     }
-    let n = word(img, o + 2);
-    if 640 < n {
+    if !conclusions_ok(img, h, i) {
         return false;
     }
-    condition_ok(img, word(img, 14) + word(img, o + 1), n, m)
+    let c = rule_condition(img, h, m, i);
+    c.ok
 }
 
 // n condition words and k conclusions stand before the rule's.
-fn row_ok(img: &[u8], m: usize, i: usize, n: usize, k: usize) -> bool
-    requires { ⌜ (tablesOk (wordAt (now img)) ≡ true) × (m ≤ 4294967295) × (i ≤ 64) ⌝ }
-    ensures { λ r. ⌜ r ≡ rowStored (wordAt (now (img .entry))) m i n k ⌝ }
+fn row_ok(img: &[u8], h: Header, m: usize, i: usize, n: usize, k: usize) -> bool
+    requires { ⌜ (tablesOk (wordAt (now img)) ≡ true) × Heads (wordAt (now img)) h
+        × (m ≡ inputTermsIn (wordAt (now img))) × (m ≤ 4294967295) × (i ≤ ruleLimit) ⌝ }
+    ensures { λ r. ⌜ r ≡ rowStored (wordAt (now (img .entry))) i n k ⌝ }
 {
-    let o = word(img, 13) + i * 6;
-    if word(img, o + 1) != n {
+    let o = rule_row(h, i);
+    if word(img, o + header::RULE_WORD_FIRST) != n {
         return false;
     }
-    if word(img, o + 3) != k {
+    if word(img, o + header::RULE_CONCLUSION_FIRST) != k {
         return false;
     }
-    rule_ok(img, m, i)
+    rule_ok(img, h, m, i)
 }
 
-// e rules, whose condition words and conclusions add up to the header's totals.
-fn rows_ok(img: &[u8], m: usize, e: usize) -> bool
-    requires { ⌜ (tablesOk (wordAt (now img)) ≡ true) × (m ≤ 4294967295) × (e ≤ 64) ⌝ }
-    ensures { λ r. ⌜ r ≡ rulesWalk (wordAt (now (img .entry))) m e 0 0 0 ⌝ }
+// All rules, whose condition words and conclusions add up to the header's totals.
+fn rows_ok(img: &[u8], h: Header, m: usize) -> bool
+    requires { ⌜ (tablesOk (wordAt (now img)) ≡ true) × Heads (wordAt (now img)) h
+        × (m ≡ inputTermsIn (wordAt (now img))) × (m ≤ 4294967295) × (h .rules ≤ ruleLimit) ⌝ }
+    ensures { λ r. ⌜ r ≡ rulesWalk (wordAt (now (img .entry))) (h .rules) 0 0 0 ⌝ }
 {
-    let o = word(img, 13);
+    let e = h.rules;
     let mut n: usize = 0;
     let mut k: usize = 0;
     let mut i: usize = 0;
     while i < e {
-        if !row_ok(img, m, i, n, k) {
+        if !row_ok(img, h, m, i, n, k) {
             return false;
         }
-        n += word(img, o + i * 6 + 2);
-        k += word(img, o + i * 6 + 4);
+        let o = rule_row(h, i);
+        n += word(img, o + header::RULE_WORDS);
+        k += word(img, o + header::RULE_CONCLUSIONS);
         i += 1;
     }
-    if n != word(img, 7) {
+    if n != h.words {
         return false;
     }
-    k == word(img, 8)
+    k == h.conclusions
 }
 
 // From the last rule on, each number is marked; one that is marked already stands twice.
-fn numbers_distinct(img: &[u8], e: usize) -> bool
-    requires { ⌜ (e ≤ 64) × ((i : ℕ) → i < e → ruleNumber (wordAt (now img)) i ≤ 65535) ⌝ }
-    ensures { λ r. ⌜ r ≡ distinct eqb (tab (ruleNumber (wordAt (now (img .entry)))) e 0) ⌝ }
+fn numbers_distinct(img: &[u8], h: Header) -> bool
+    requires { ⌜ Heads (wordAt (now img)) h × (h .rules ≤ ruleLimit)
+        × ((i : ℕ) → i < h .rules → ruleNumber (wordAt (now img)) i ≤ ruleNumberLimit) ⌝ }
+    ensures { λ r. ⌜ r ≡ distinct eqb (tab (ruleNumber (wordAt (now (img .entry)))) (h .rules) 0) ⌝ }
 {
-    let o = word(img, 13);
-    let mut marked = [false; 65_536];
-    let mut i = e;
+    let mut marked = [false; NUMBERS];
+    let mut i = h.rules;
     while 0 < i {
         i -= 1;
-        let number = word(img, o + i * 6);
+        let number = word(img, rule_row(h, i));
         if marked[number] {
             return false;
         }
@@ -147,22 +184,22 @@ fn numbers_distinct(img: &[u8], e: usize) -> bool
 }
 
 // The tables of rules, condition words and conclusions, where there are m input terms.
-pub fn rules_ok(img: &[u8], m: usize) -> bool
-    requires { ⌜ (tablesOk (wordAt (now img)) ≡ true) × (m ≡ inputTermsIn (wordAt (now img))) × (m ≤ 4294967295) ⌝ }
+pub fn rules_ok(img: &[u8], h: Header, m: usize) -> bool
+    requires { ⌜ (tablesOk (wordAt (now img)) ≡ true) × Heads (wordAt (now img)) h
+        × (m ≡ inputTermsIn (wordAt (now img))) × (m ≤ 4294967295) ⌝ }
     ensures { λ r. ⌜ r ≡ rulesOk (wordAt (now (img .entry))) ⌝ }
 {
-    let e = word(img, 6);
-    if !within(1, 64, e) {
+    if !bounds::within(1, bounds::RULES, h.rules) {
         return false;
     }
-    if 640 < word(img, 7) {
+    if bounds::WORDS < h.words {
         return false;
     }
-    if 128 < word(img, 8) {
+    if bounds::CONCLUSIONS < h.conclusions {
         return false;
     }
-    if !rows_ok(img, m, e) {
+    if !rows_ok(img, h, m) {
         return false;
     }
-    numbers_distinct(img, e)
+    numbers_distinct(img, h)
 }

@@ -12,12 +12,12 @@ use Rattle.model.specs.Image.{nameWords, nameAt, tab, termAt, singletonAt, inpu
 use Rattle.laws.proofs.Tests.{both, passed}
 use Rattle.laws.proofs.Places.{at-cut}
 use Rattle.layout.specs.Rows.{rowsOk}
-use Rattle.layout.specs.Tables.{inputRow, inputNext, outputRow, outputNext, termRow, termNext, sums, outputTermAt, inputCount, outputCount, inputTermsIn, outputTermsIn, inputPointsIn, inputRows, outputRows, inputTermRows, outputTermRows, nameExact}
+use Rattle.layout.specs.Tables.{inputRow, inputNext, outputRow, outputNext, termRow, termNext, sums, outputTermAt, inputCount, outputCount, outputFirstAt, inputTermsIn, outputTermsIn, inputPointsIn, inputRows, outputRows, inputTermRows, outputTermRows, nameExact}
 use Rattle.stored_names.proofs.Tables.{Exact}
 use Rattle.layout.specs.Groups.{tablesOk}
 use Rattle.layout.proofs.RowLaws.{stands, stood}
 use Rattle.layout.proofs.TableLaws.{Runs, runs-from}
-use Rattle.layout.proofs.Parts.{inputFirst, outputFirst, input-row, output-row}
+use Rattle.layout.proofs.Parts.{inputFirst, input-row, output-row}
 
 -- P holds of n numbers from i on
 abbrev pub Span : (ℕ → Type 0) → ℕ → ℕ → Type 0
@@ -78,10 +78,10 @@ module _ (w : ℕ → ℕ) where
   unfolding inputRows
   inputs-run h = runs-from inputRow inputNext (inputAt w) w (w 9) 7 (λ n. n) (inputFirst w) (inputCount w) (λ i n e. input-row w i n e) (w 2) 0 0 h
 
-  outputs-run : outputRows w ≡ true → Runs (outputFirst w) (outputCount w) (w 3) 0 (inputTermsIn w)
+  outputs-run : outputRows w ≡ true → Runs (outputFirstAt w) (outputCount w) (w 3) 0 (inputTermsIn w)
   unfolding outputRows
   outputs-run h =
-      runs-from outputRow outputNext (outputAt w) w (w 10) 11 (λ n. n) (outputFirst w) (outputCount w) (λ i n e. output-row w i n e)
+      runs-from outputRow outputNext (outputAt w) w (w 10) 11 (λ n. n) (outputFirstAt w) (outputCount w) (λ i n e. output-row w i n e)
       (w 3) 0 (inputTermsIn w) h
 
   -- all names are exact
@@ -89,7 +89,7 @@ module _ (w : ℕ → ℕ) where
     pub inputs : Exact w (w 9) 7 (w 2) 0
     pub outputs : Exact w (w 10) 11 (w 3) 0
     pub inputTerms : (i : ℕ) → i < w 2 → Exact w (w 11) 6 (inputCount w i) (inputFirst w i)
-    pub outputTerms : (i : ℕ) → i < w 3 → Exact w (w 11) 6 (outputCount w i) (outputFirst w i)
+    pub outputTerms : (i : ℕ) → i < w 3 → Exact w (w 11) 6 (outputCount w i) (outputFirstAt w i)
 
   pub exact-names : tablesOk w ≡ true → Names
   unfolding tablesOk
@@ -106,6 +106,6 @@ module _ (w : ℕ → ℕ) where
             let q = runs-within (inputFirst w) (inputCount w) (w 2) 0 0 (inputs-run ir) i (omega arith) (omega arith) in
             ti k (omega arith) (omega (arith, q .1));
         outputTerms = λ i l k a b.
-            let q = runs-within (outputFirst w) (outputCount w) (w 3) 0 (inputTermsIn w) (outputs-run or) i (omega arith) (omega arith) in
+            let q = runs-within (outputFirstAt w) (outputCount w) (w 3) 0 (inputTermsIn w) (outputs-run or) i (omega arith) (omega arith) in
             to k (omega (arith, q .0)) (omega (arith, q .1));
       }

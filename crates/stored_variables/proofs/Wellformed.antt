@@ -12,9 +12,9 @@ use Rattle.model.specs.Image.{nameAt, tab, termAt, singletonAt, inputAt, output
 use Rattle.laws.proofs.Lists.{map-tab}
 use Rattle.laws.proofs.Places.{length-tab, tab-ext}
 use Rattle.stored_names.proofs.Tables.{Exact, nameIn, distinct-names, joined-names}
-use Rattle.layout.specs.Tables.{inputCount, outputCount, nameExact}
+use Rattle.layout.specs.Tables.{inputCount, outputCount, outputFirstAt, nameExact}
 use Rattle.layout.specs.Groups.{tablesOk, variablesOk}
-use Rattle.layout.proofs.Parts.{inputFirst, outputFirst}
+use Rattle.layout.proofs.Parts.{inputFirst}
 use Rattle.stored_variables.specs.Stored.{termsApart, inputStored, rangeAt, defaultAt, outputStored, variablesApart}
 use Rattle.stored_variables.proofs.Exact.{Span, exact-names}
 
@@ -60,7 +60,7 @@ module _ (w : ℕ → ℕ) where
       isName (nameAt w o)
       && (between 1 termLimit (sym (length-tab (termAt w) k s) j) && (all termOk (tab (termAt w) k s) && (d j && true)))
 
-  output-same : (i : ℕ) → Exact w (w 11) 6 (outputCount w i) (outputFirst w i) → outputStored w i ≡ outputOk (outputAt w i)
+  output-same : (i : ℕ) → Exact w (w 11) 6 (outputCount w i) (outputFirstAt w i) → outputStored w i ≡ outputOk (outputAt w i)
   unfolding outputStored outputOk outputAt every rangeAt defaultAt
   output-same i x =
       let o = w 10 + i * 11 in

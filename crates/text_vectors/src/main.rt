@@ -1,37 +1,13 @@
 // Reads each text of data/texts into a buffer and writes a line for it: the image in hex, or the number and place of
-// the refusal. A text that is accepted is read again into a buffer that is one byte too short. A byte of the buffer
-// that changed and should not have adds "changed". The file, and the lines to expect, are made by tools/vectors.py from
-// vectors worked out elsewhere.
+// the refusal. A text that is accepted is read again into a buffer that fits it exactly and into one that is one byte
+// too short. A byte of the buffer that changed and should not have adds "changed".
 ghost use mathlib.Core.Path.{_≡_};
 ghost use lib.ListN.{length};
-use model::Refusal;
 use model::Written;
+use vectors::next_case;
+use vectors::write_refusal;
 
 const FILL: u8 = 165;
-
-fn write_at(number: u64, place: usize) {
-    io::print_decimal(1, number);
-    io::write_all(1, b" ");
-    io::print_decimal(1, place as u64);
-}
-
-fn write_refusal(r: Refusal) {
-    match r {
-        Refusal::TextTooLong => write_at(1, 0),
-        Refusal::WrongToken(p) => write_at(2, p),
-        Refusal::WrongNumber(p) => write_at(3, p),
-        Refusal::WrongName(p) => write_at(4, p),
-        Refusal::NotDeclared(p) => write_at(5, p),
-        Refusal::TooMany(p) => write_at(6, p),
-        Refusal::WrongPosition(p) => write_at(7, p),
-        Refusal::Unpaired(p) => write_at(8, p),
-        Refusal::PartMissing(p) => write_at(9, p),
-        Refusal::BufferTooShort(n) => write_at(10, n),
-        _ => {
-            io::write_all(1, b"?");
-        }
-    }
-}
 
 fn wide(b: u8) -> u64 {
     b as u64
@@ -96,34 +72,32 @@ fn long_buffer() -> [u8; 65537]
     [0; 65537]
 }
 
-fn run_text(fd: i32, text: &mut [u8]) -> bool {
-    if io::read_full(fd, text) != text.len() {
-        return false;
+// Into the first n bytes of a buffer.
+fn run_room(text: &[u8], n: usize) {
+    if n <= 16384 {
+        let mut out = filled();
+        run_reading(text, &mut out[..n]);
     }
+}
+
+fn run_text(text: &[u8]) {
     let mut out = filled();
     let n = run_reading(text, &mut out);
     if 0 < n {
-        let less = n - 1;
-        if less <= 16384 {
-            let mut short = filled();
-            run_reading(text, &mut short[..less]);
-        }
+        run_room(text, n);
+        run_room(text, n - 1);
     }
-    true
 }
 
-// One case: its length in a word, then its bytes. False at the end of the file.
+// False at the end of the file.
 fn run_case(fd: i32) -> bool {
-    let mut head = [0u8; 4];
-    if io::read_full(fd, &mut head) != 4 {
-        return false;
-    }
-    let n = words::word(&head, 0);
+    let mut text = long_buffer();
+    let n = next_case(fd, &mut text);
     if n > 65537 {
         return false;
     }
-    let mut text = long_buffer();
-    run_text(fd, &mut text[..n])
+    run_text(&text[..n]);
+    true
 }
 
 fn main() {

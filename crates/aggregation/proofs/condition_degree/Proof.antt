@@ -8,10 +8,6 @@ use Rattle.aggregation.proofs.Steps as laws
 use Rattle.aggregation.proofs.Degrees.{low-zeros}
 use Rattle.aggregation.proofs.condition_degree.Statement.{statement}
 use Rattle.aggregation.proofs.condition_degree.Tie as tie
-use Rattle.aggregation.proofs.condition_degree.Reads as reads
-use Rattle.aggregation.proofs.condition_degree.Lts as lts
-use Rattle.aggregation.proofs.step.Reads as step-reads
-use Rattle.words.proofs.word.Reads as word-reads
 
 abbrev Inv-loop : tie.InvT-loop
 Inv-loop img d n ds p st₀ i₀ st i = (i ≤ n) × Small st × laws.Follows (byDegrees p (numbers ds)) (wordAt img) d n i (onStack st)
@@ -41,10 +37,11 @@ loop-less c = search needs
 loop-again : tie.Need-loop-again Inv-loop μ-loop
 loop-again c =
     let l = c .before .before .before .loop in
-    let a = c .before .before .before .before .before .args in (
+    let a = c .before .before .before .before .before .args in
+    let g = byDegrees (a .p) (numbers (a .ds)) in (
       search needs,
       c .step .ensures .1,
-      laws.follows-turn (byDegrees (a .p) (numbers (a .ds))) (wordAt (a .img .now)) (a .d) (a .n) (l .i) _ _ _ (search needs) (c .before .word .ensures .0) (c .step .ensures .0) (l .inv .2),
+      laws.follows-turn g (wordAt (a .img .now)) (a .d) (a .n) (l .i) _ _ _ (search needs) (c .before .word .ensures .0) (c .step .ensures .0) (l .inv .2),
     )
 
 element-copy-out-t16 : tie.Need-element-copy-out-t16 Inv-loop μ-loop

@@ -5,8 +5,6 @@ use Rattle.aggregation.proofs.Steps as laws
 use Rattle.aggregation.proofs.Degrees.{low-set}
 use Rattle.aggregation.proofs.push.Statement.{statement}
 use Rattle.aggregation.proofs.push.Tie as tie
-use Rattle.aggregation.proofs.push.Reads as reads
-use Rattle.aggregation.proofs.push.Lts as lts
 
 mul-r : tie.Need-mul-r
 mul-r c = search needs

@@ -8,13 +8,6 @@ use Rattle.aggregation.specs.Stacks.{onStack}
 use Rattle.aggregation.proofs.Steps as laws
 use Rattle.aggregation.proofs.step.Statement.{statement}
 use Rattle.aggregation.proofs.step.Tie as tie
-use Rattle.aggregation.proofs.step.Reads as reads
-use Rattle.aggregation.proofs.step.Lts as lts
-use Rattle.aggregation.proofs.push.Reads as push-reads
-use Rattle.aggregation.proofs.term_degree.Reads as term-degree-reads
-use Rattle.degrees.proofs.and.Reads as and-reads
-use Rattle.degrees.proofs.not.Reads as not-reads
-use Rattle.degrees.proofs.or.Reads as or-reads
 
 term-degree-requires : tie.Need-term-degree-requires
 term-degree-requires c κs = search needs
@@ -26,9 +19,8 @@ returns : tie.Need-returns
 returns c =
     let a = c .before .before .before .args in
     let ns = numbers (a .ds) in
-    let l = a .t1 .degrees in
-    let h = a .t1 .height in
-    ((λ s e. c .push .ensures .0 (a .p) ns s (laws.term-is (a .p) ns (a .w) _ (onStack (a .t1)) (c .before .before .if1 .taken) (c .before .term-degree .ensures .0) ∙ e)), c .push .ensures .1)
+    let t = laws.term-is (a .p) ns (a .w) _ (onStack (a .t1)) (c .before .before .if1 .taken) (c .before .term-degree .ensures .0) in
+    ((λ s e. c .push .ensures .0 (a .p) ns s (t ∙ e)), c .push .ensures .1)
 
 returns-2 : tie.Need-returns-2
 returns-2 c =
@@ -63,15 +55,17 @@ returns-3 c =
     let l = a .t1 .degrees in
     let h = a .t1 .height in
     let k : 0 < h = omega arith in
-    ((λ s e. c .push2 .ensures .0 (a .p) ns s (laws.not-is (a .p) ns l h (a .w) _ (c .before .before .if3 .taken) k (c .before .not .ensures .0) ∙ e)), c .push2 .ensures .1)
+    let t = laws.not-is (a .p) ns l h (a .w) _ (c .before .before .if3 .taken) k (c .before .not .ensures .0) in
+    ((λ s e. c .push2 .ensures .0 (a .p) ns s (t ∙ e)), c .push2 .ensures .1)
 
 returns-4 : tie.Need-returns-4
 returns-4 c =
-    let a = c .before .before .before .before .before .args in
+    let q = c .before .before .before .before in
+    let a = q .before .args in
     let ns = numbers (a .ds) in
     let l = a .t1 .degrees in
     let h = a .t1 .height in
-    ((λ s e. absurd (laws.single-is (a .p) ns l h (a .w) s (c .if4 .taken) (c .before .before .before .before .if1 .left) (c .before .if3 .left) e)), c .before .before .before .before .before .pre .0)
+    ((λ s e. absurd (laws.single-is (a .p) ns l h (a .w) s (c .if4 .taken) (q .if1 .left) (c .before .if3 .left) e)), q .before .pre .0)
 
 sub-t13-2 : tie.Need-sub-t13-2
 sub-t13-2 c = search needs
@@ -86,7 +80,9 @@ sub-push-2 : tie.Need-sub-push-2
 sub-push-2 c = search needs
 
 and-requires : tie.Need-and-requires
-and-requires c κs = (c .before .before .before .before .before .before .before .pre .0 .1 _, c .before .before .before .before .before .before .before .pre .0 .1 _)
+and-requires c κs =
+    let low = c .before .before .before .before .before .before .before .pre .0 .1 in
+    (low _, low _)
 
 push-requires-3 : tie.Need-push-requires-3
 push-requires-3 c κs = search needs
@@ -98,13 +94,16 @@ returns-5 c =
     let l = a .t1 .degrees in
     let h = a .t1 .height in
     let k : 2 ≤ h = omega arith in
-    ((λ s e. c .push3 .ensures .0 (a .p) ns s (laws.two-is (a .p) ns and l h (a .w) _ (c .before .before .if5 .taken) k (c .before .and .ensures .0) ∙ e)), c .push3 .ensures .1)
+    let t = laws.two-is (a .p) ns and l h (a .w) _ (c .before .before .if5 .taken) k (c .before .and .ensures .0) in
+    ((λ s e. c .push3 .ensures .0 (a .p) ns s (t ∙ e)), c .push3 .ensures .1)
 
 sub-push-3 : tie.Need-sub-push-3
 sub-push-3 c = search needs
 
 or-requires : tie.Need-or-requires
-or-requires c κs = (c .before .before .before .before .before .before .before .pre .0 .1 _, c .before .before .before .before .before .before .before .pre .0 .1 _)
+or-requires c κs =
+    let low = c .before .before .before .before .before .before .before .pre .0 .1 in
+    (low _, low _)
 
 push-requires-4 : tie.Need-push-requires-4
 push-requires-4 c κs = search needs
@@ -116,7 +115,13 @@ returns-6 c =
     let l = a .t1 .degrees in
     let h = a .t1 .height in
     let k : 2 ≤ h = omega arith in
-    ((λ s e. c .push4 .ensures .0 (a .p) ns s (laws.or-is (a .p) ns l h (a .w) _ s (c .before .before .before .before .before .before .before .before .if1 .left) (c .before .before .before .before .before .if3 .left) (c .before .before .if5 .left) k (c .before .or .ensures .0) e)), c .push4 .ensures .1)
+    let p = c .before .before in
+    let q = p .before .before .before in
+    let term = q .before .before .before .if1 .left in
+    let d = c .before .or .ensures .0 in (
+      (λ s e. c .push4 .ensures .0 (a .p) ns s (laws.or-is (a .p) ns l h (a .w) _ s term (q .if3 .left) (p .if5 .left) k d e)),
+      c .push4 .ensures .1,
+    )
 
 pub step-spec : {M : Type 1} → statement M
 step-spec =

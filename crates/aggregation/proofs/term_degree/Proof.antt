@@ -5,8 +5,6 @@ use borrow.Author.Needs.{needs}
 use Rattle.aggregation.proofs.Degrees.{number-past, number-at}
 use Rattle.aggregation.proofs.term_degree.Statement.{statement}
 use Rattle.aggregation.proofs.term_degree.Tie as tie
-use Rattle.aggregation.proofs.term_degree.Reads as reads
-use Rattle.aggregation.proofs.term_degree.Lts as lts
 
 mul-result : tie.Need-mul-result
 mul-result c = search needs

@@ -21,8 +21,8 @@ returns c = search needs
 loop-holds : tie.Need-loop-holds Inv-loop μ-loop
 loop-holds c = search needs
 
-run-block-requires : tie.Need-run-block-requires Inv-loop μ-loop
-run-block-requires c κs = search needs
+run-case-requires : tie.Need-run-case-requires Inv-loop μ-loop
+run-case-requires c κs = search needs
 
 add-i : tie.Need-add-i Inv-loop μ-loop
 add-i c = search needs
@@ -49,7 +49,7 @@ main-spec =
     open-read-requires
     returns
     loop-holds
-    run-block-requires
+    run-case-requires
     add-i
     loop-less
     loop-again

@@ -47,10 +47,12 @@ loop-again : tie.Need-loop-again Inv-loop μ-loop
 loop-again c =
     let l = c .before .before .loop in
     let a = c .before .before .before .args in
+    let d = getD (a .t1) (a .from + l .i) (record { 0 = 0 }) in
+    let e : d .0 ≡ heightOf (a .t1) 0 (a .from + l .i) = ap (λ (k : ℕ). getD (a .t1) k (record { 0 = 0 }) .0) (omega arith) in
     let h : l .i < length (l .r) = omega (arith, l .inv .1) in (
       search needs,
-      length-set (l .r) (l .i) (getD (a .t1) (a .from + l .i) (record { 0 = 0 })) ∙ l .inv .1,
-      fill (λ d. d .0) (heightOf (a .t1) 0) (a .from) (l .i) (l .r) (getD (a .t1) (a .from + l .i) (record { 0 = 0 })) h (l .inv .2) (ap (λ (k : ℕ). getD (a .t1) k (record { 0 = 0 }) .0) (omega arith)),
+      length-set (l .r) (l .i) d ∙ l .inv .1,
+      fill (λ d. d .0) (heightOf (a .t1) 0) (a .from) (l .i) (l .r) d h (l .inv .2) e,
     )
 
 returns : tie.Need-returns Inv-loop μ-loop

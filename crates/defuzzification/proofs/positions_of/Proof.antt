@@ -1,7 +1,8 @@
 use borrow.Author.Needs.{needs}
 use mathlib.Core.Path.{_≡_, refl, sym, _∙_}
-use Prim.Native.Nat.{_-_, _≤_, _<_}
+use Prim.Native.Nat.{ℕ, _-_, _≤_, _<_}
 use native.Mathlib.Omega.{arith}
+use lib.IntN.{ℤ}
 use lib.ListN.{length, length-set}
 use Rattle.model.specs.Image.{wordAt, tab, singletonAt}
 use Rattle.laws.proofs.Lists.{map-tab}
@@ -14,10 +15,10 @@ use Rattle.defuzzification.proofs.positions_of.Lts as lts
 use Rattle.defuzzification.proofs.position.Reads as position-reads
 
 abbrev Inv-loop : tie.InvT-loop
-Inv-loop img first n ps₀ i₀ ps i = (i ≤ n) × (length ps ≡ 7) × (positions ps i ≡ tab (λ k. singletonAt (wordAt img) k .at) i first)
+Inv-loop img h first n ps₀ i₀ ps i = (i ≤ n) × (length ps ≡ 7) × (positions ps i ≡ tab (λ k. singletonAt (wordAt img) k .at) i first)
 
 abbrev μ-loop : tie.MeasureT-loop
-μ-loop img first n ps₀ i₀ ps i = n - i
+μ-loop img h first n ps₀ i₀ ps i = n - i
 
 loop-holds : tie.Need-loop-holds Inv-loop μ-loop
 unfolding tab
@@ -27,7 +28,7 @@ add-position : tie.Need-add-position Inv-loop μ-loop
 add-position c = search needs
 
 position-requires : tie.Need-position-requires Inv-loop μ-loop
-position-requires c κs = search needs
+position-requires c κs = let s = c .before .before .before in (s .pre .0, omega (arith, s .pre .1))
 
 mul-ps : tie.Need-mul-ps Inv-loop μ-loop
 mul-ps c = search needs
@@ -45,10 +46,12 @@ loop-again : tie.Need-loop-again Inv-loop μ-loop
 loop-again c =
     let l = c .before .before .loop in
     let a = c .before .before .before .before .args in
+    let f : ℕ → ℤ = λ k. singletonAt (wordAt (a .img .now)) k .at in
+    let p = c .position in
     let h : l .i < length (l .ps) = omega (arith, l .inv .1) in (
       search needs,
-      length-set (l .ps) (l .i) (c .position .result) ∙ l .inv .1,
-      fill (λ x. x .0) (λ k. singletonAt (wordAt (a .img .now)) k .at) (a .first) (l .i) (l .ps) (c .position .result) h (l .inv .2) (c .position .ensures),
+      length-set (l .ps) (l .i) (p .result) ∙ l .inv .1,
+      fill (λ x. x .0) f (a .first) (l .i) (l .ps) (p .result) h (l .inv .2) (p .ensures),
     )
 
 returns : tie.Need-returns Inv-loop μ-loop

@@ -1,62 +1,69 @@
 use borrow.Author.Needs.{needs}
 use mathlib.Core.Path.{_≡_, ap, _∙_}
 use mathlib.Core.List.{List}
-use Prim.Native.Nat.{ℕ, _+_, _*_}
+use Prim.Native.Nat.{ℕ, _+_}
 use native.Mathlib.Omega.{arith}
 use Rattle.model.specs.Basic.{all}
 use Rattle.model.specs.Block.{Point}
 use Rattle.model.specs.Degrees.{termDegree}
-use Rattle.model.specs.Image.{wordAt, termAt}
+use Rattle.model.specs.Image.{wordAt, termPlace, termAt}
 use Rattle.model.specs.WellFormed.{pointOk}
 use Rattle.terms.specs.Points.{pointViews}
+use Rattle.layout.specs.Tables.{termCount}
 use Rattle.fuzzification.proofs.Entries.{points-few, points-ok, points-read, each-fine}
 use Rattle.fuzzification.proofs.input_term_degree.Statement.{statement}
 use Rattle.fuzzification.proofs.input_term_degree.Tie as tie
 
-word-requires : tie.Need-word-requires
-word-requires c κs = search needs
+-- the words of the term's row that were read
+reads-are : (c : tie.After-word2) →
+    let s = c .before .before .before .before in
+    let w = wordAt (s .args .img .now) in
+    (c .before .word .result ≡ termCount w (s .args .t)) × (c .word2 .result ≡ w (termPlace w (s .args .t) + 4))
+reads-are c =
+    let row = c .before .before in
+    let s = row .before .before in
+    let w = wordAt (s .args .img .now) in
+    let e = row .term-row .ensures .0 w (s .pre .0 .0) in
+    (c .before .word .ensures .0 ∙ ap (λ (o : ℕ). w (o + 5)) e, c .word2 .ensures .0 ∙ ap (λ (o : ℕ). w (o + 4)) e)
 
-mul-o : tie.Need-mul-o
-mul-o c = search needs
+views : (c : tie.After-term-points) →
+    let a = c .before .before .before .before .before .args in
+    pointViews (c .term-points .result) (c .before .before .word .result) ≡ termAt (wordAt (a .img .now)) (a .t) .points
+views c =
+    let a = c .before .before .before .before .before .args in
+    let r = reads-are (c .before) in
+    points-read (wordAt (a .img .now)) (a .t) _ _ (c .term-points .result) (r .0) (r .1) (c .term-points .ensures)
 
-add-o : tie.Need-add-o
-add-o c = search needs
+term-row-requires : tie.Need-term-row-requires
+term-row-requires c κs = let h = c .before .pre .0 .0 in omega (arith, h .term-table, h .fits 11)
 
 add-word : tie.Need-add-word
 add-word c = search needs
 
-word-requires-2 : tie.Need-word-requires-2
-word-requires-2 c κs = search needs
+word-requires : tie.Need-word-requires
+word-requires c κs = search needs
 
 add-word-2 : tie.Need-add-word-2
 add-word-2 c = search needs
 
-word-requires-3 : tie.Need-word-requires-3
-word-requires-3 c κs = search needs
-
-views : (c : tie.After-term-points)
-    → pointViews (c .term-points .result) (c .before .before .word2 .result)
-    ≡ termAt (wordAt (c .before .before .before .before .before .args .img .now)) (c .before .before .before .before .before .args .t) .points
-views c =
-    let a = c .before .before .before .before .before .args in
-    points-read (wordAt (a .img .now)) (a .t) _ _ _ (c .term-points .result) (c .before .before .before .word .ensures .0) (c .before .before .word2 .ensures .0)
-    (c .before .word3 .ensures .0) (c .term-points .ensures)
+word-requires-2 : tie.Need-word-requires-2
+word-requires-2 c κs = search needs
 
 term-points-requires : tie.Need-term-points-requires
 term-points-requires c κs =
-    let a = c .before .before .before .before in
-    let w = wordAt (a .args .img .now) in
-    let e = c .before .word2 .ensures .0 ∙ ap (λ (o : ℕ). w (o + a .args .t * 6 + 5)) (c .before .before .word .ensures .0) in
-    (c .word3 .ensures .1, omega (arith, e, points-few w (a .args .t) (a .pre .2) .1))
+    let s = c .before .before .before .before in
+    let few = points-few (wordAt (s .args .img .now)) (s .args .t) (s .pre .1 .1) in
+    (s .pre .0 .0, c .word2 .ensures .1, omega (arith, reads-are c .0, few .1))
 
 term-degree-requires : tie.Need-term-degree-requires
 term-degree-requires c κs =
-    let a = c .before .before .before .before .before in
-    let w = wordAt (a .args .img .now) in
-    let e = c .before .before .word2 .ensures .0 ∙ ap (λ (o : ℕ). w (o + a .args .t * 6 + 5)) (c .before .before .before .word .ensures .0) in
-    let few = points-few w (a .args .t) (a .pre .2) in
-    let fine = ap (all pointOk) (views c) ∙ points-ok w (a .args .t) (a .pre .2) in
-    (omega (arith, e, few .0), omega (arith, e, few .1), a .pre .1, each-fine (c .term-points .result) (c .before .before .word2 .result) fine)
+    let s = c .before .before .before .before .before in
+    let w = wordAt (s .args .img .now) in
+    let ok = s .pre .1 .1 in
+    let e = reads-are (c .before) .0 in
+    let few = points-few w (s .args .t) ok in
+    let fine = ap (all pointOk) (views c) ∙ points-ok w (s .args .t) ok in
+    (omega (arith, e, few .0), omega (arith, e, few .1), s .pre .1 .0, each-fine (c .term-points .result) (c .before .before .word .result) fine)
 
 returns : tie.Need-returns
 returns c =
@@ -67,13 +74,11 @@ pub input-term-degree-spec : {M : Type 1} → statement M
 input-term-degree-spec =
     tie.close
     (tie.spec
-    word-requires
-    mul-o
-    add-o
+    term-row-requires
     add-word
-    word-requires-2
+    word-requires
     add-word-2
-    word-requires-3
+    word-requires-2
     term-points-requires
     term-degree-requires
     returns)

@@ -1,55 +1,44 @@
 use borrow.Author.Needs.{needs}
 use mathlib.Core.Path.{_≡_, refl, sym, ap, subst, _∙_}
-use mathlib.Core.List.{List, map}
-use mathlib.Core.Option.{none}
-use Prim.Native.Nat.{_+_, _-_, _≤_, _<_}
+use mathlib.Core.List.{List}
+use Prim.Native.Nat.{ℕ, _-_, _≤_}
+use native.Mathlib.Numerals.{add-one}
 use native.Mathlib.Omega.{arith}
 use lib.IntN.{ℤ, pos}
-use lib.ListN.{length, length-set, getD, take, drop, replicate}
-use lib.Seq.{sets}
-use Rattle.model.specs.Basic.{indexOf}
+use lib.ListN.{length, length-set, take, replicate}
+use lib.Seq.{sets, take-suc, take-all, length-take-le}
 use Rattle.model.specs.declared.Crisp.{Crisp}
 use Rattle.model.specs.Readings.{valueIn}
-use Rattle.model.specs.Evaluation.{valuesOf, isNone, orZero, firstWrong}
-use Rattle.model.specs.Image.{wordAt, decode}
+use Rattle.model.specs.Image.{wordAt}
 use Rattle.crisp.specs.Crisp.{InCrisp}
-use Rattle.fuzzification.specs.Filled.{figures, AllCrisp}
+use Rattle.fuzzification.specs.Filled.{filled, figures, AllCrisp}
 use Rattle.fuzzification.proofs.Fill.{map-set, one-more, each-start, each-set, filled-sets}
 use Rattle.fuzzification.proofs.Entries.{input-limit}
-use Rattle.fuzzification.proofs.Wrong.{length-inputs, value-is, no-value, length-taken, wrong-next, wrong-here, none-wrong, value-more}
+use Rattle.fuzzification.proofs.Wrong.{found, found-most, found-next, found-all}
 use Rattle.fuzzification.proofs.input_values.Statement.{statement}
 use Rattle.fuzzification.proofs.input_values.Tie as tie
 
 abbrev Inv-loop : tie.InvT-loop
-Inv-loop img rs n at₀ i₀ at i =
-    let vs = valuesOf (decode (wordAt img) .inputs) rs in
-    (i ≤ n) × (n ≤ 8) × (length at ≡ 8) × (firstWrong vs ≡ i + indexOf isNone (drop i vs)) × (figures at ≡ sets (replicate 8 (pos 0)) 0 (map orZero (take i vs))) × AllCrisp (figures at)
+Inv-loop img h rs n at₀ i₀ at i =
+    let xs = found (wordAt img) rs in
+    (i ≤ n) × (n ≤ 8) × (length at ≡ 8) × (i ≤ length xs) × (figures at ≡ sets (replicate 8 (pos 0)) 0 (take i xs)) × AllCrisp (figures at)
 
 abbrev μ-loop : tie.MeasureT-loop
-μ-loop img rs n at₀ i₀ at i = n - i
+μ-loop img h rs n at₀ i₀ at i = n - i
 
-value : (c : tie.After-taken Inv-loop μ-loop)
-    → getD (valuesOf (decode (wordAt (c .before .before .before .before .before .before .before .args .img .now)) .inputs) (c .before .before .before .before .before .before .before .args .t2)) (c .before .before .before .before .loop .i) none
-    ≡ valueIn (c .taken .result)
-value c =
-    let a = c .before .before .before .before .before .before .before in
-    value-is (wordAt (a .args .img .now)) (c .before .before .before .before .loop .i) (a .args .t2) _ (c .before .before .input-type .result) (c .taken .result)
-    (omega (arith, c .before .before .before .before .before .word .ensures .0)) (omega (arith, a .good)) (c .before .before .input-type .ensures) (c .taken .ensures .0)
-
-inside : (c : tie.After-taken Inv-loop μ-loop)
-    → c .before .before .before .before .loop .i < length (valuesOf (decode (wordAt (c .before .before .before .before .before .before .before .args .img .now)) .inputs) (c .before .before .before .before .before .before .before .args .t2))
-inside c =
-    let a = c .before .before .before .before .before .before .before .args in
-    omega (arith, length-inputs (wordAt (a .img .now)) (a .t2), c .before .before .before .before .before .word .ensures .0)
-
-word-requires : tie.Need-word-requires Inv-loop μ-loop
-word-requires c κs = search needs
+-- the values that were found when all were read
+whole : (xs : List ℤ) (at : List Crisp) (i : ℕ) → i ≤ 8 → length xs ≡ i → figures at ≡ sets (replicate 8 (pos 0)) 0 (take i xs) → figures at ≡ filled 8 (pos 0) xs
+whole xs at i h e g =
+    g ∙ ap (λ (ys : List ℤ). sets (replicate 8 (pos 0)) 0 ys) (take-all i xs (omega arith)) ∙ filled-sets 8 (pos 0) xs (omega arith)
 
 loop-holds : tie.Need-loop-holds Inv-loop μ-loop
-loop-holds c = (search needs, omega (arith, c .word .ensures .0, input-limit (wordAt (c .before .before .args .img .now)) (c .before .before .pre)), refl, omega arith, refl, each-start InCrisp (pos 0) 8 (omega arith))
+loop-holds c =
+    let s = c .before in
+    let few = input-limit (wordAt (s .args .img .now)) (s .pre .0) in
+    (search needs, omega (arith, s .pre .1 .inputs, few), refl, omega arith, refl, each-start InCrisp (pos 0) 8 (omega arith))
 
 input-type-requires : tie.Need-input-type-requires Inv-loop μ-loop
-input-type-requires c κs = search needs
+input-type-requires c κs = let l = c .before in (l .before .before .pre .1, omega (arith, l .loop .inv))
 
 mul-reading : tie.Need-mul-reading Inv-loop μ-loop
 mul-reading c = search needs
@@ -66,14 +55,14 @@ enum-known-value c = search needs
 returns : tie.Need-returns Inv-loop μ-loop
 returns c =
     let d = c .before in
-    let l = d .before .before .before .before .loop in
-    let a = d .before .before .before .before .before .before .before .args in
-    let vs = valuesOf (decode (wordAt (a .img .now)) .inputs) (a .t2) in
-    let h = inside d in
-    let wrong = ap isNone (value d) ∙ no-value (d .taken .result) (c .match .keys2) in (
-      sym (wrong-here vs (l .i) h wrong (l .inv .3)),
-      (l .inv .4 ∙ filled-sets 8 (pos 0) (map orZero (take (l .i) vs)) (omega (arith, length-taken vs (l .i) (omega arith))), l .inv .5),
-    )
+    let kind = d .before .before in
+    let l = kind .before .before .loop in
+    let s = kind .before .before .before .before in
+    let w = wordAt (s .args .img .now) in
+    let rs = s .args .t3 in
+    let e = found-all w rs (l .i) _ (kind .input-type .result) (d .taken .result) (omega (arith, s .pre .1 .inputs)) (omega (arith, s .good)) (l .inv .3)
+    (kind .input-type .ensures) (d .taken .ensures .0) (c .match .keys2) in
+    (sym e, (whole (found w rs) (l .at) (l .i) (omega arith) e (l .inv .4), l .inv .5))
 
 mul-at : tie.Need-mul-at Inv-loop μ-loop
 mul-at c = search needs
@@ -90,34 +79,36 @@ loop-less c = search needs
 loop-again : tie.Need-loop-again Inv-loop μ-loop
 loop-again c =
     let d = c .before .before .before in
-    let l = d .before .before .before .before .loop in
-    let a = d .before .before .before .before .before .before .before .args in
-    let vs = valuesOf (decode (wordAt (a .img .now)) .inputs) (a .t2) in
-    let l₀ = replicate 8 (pos 0) in
+    let kind = d .before .before in
+    let l = kind .before .before .loop in
+    let s = kind .before .before .before .before in
+    let w = wordAt (s .args .img .now) in
+    let rs = s .args .t3 in
+    let xs = found w rs in
     let x = c .before .value .given .0 .0 in
-    let e = value d ∙ ap valueIn (c .before .value .given .1) in
-    let h = inside d in (
+    let r = found-next w rs (l .i) _ (kind .input-type .result) (d .taken .result) (omega (arith, s .pre .1 .inputs)) (omega (arith, s .good)) (l .inv .3)
+    (kind .input-type .ensures) (d .taken .ensures .0) (x .0) (ap valueIn (c .before .value .given .1)) in
+    let l₀ = replicate 8 (pos 0) in
+    let n = length-take-le (l .i) xs (l .inv .3) in (
       search needs,
       search needs,
       length-set (l .at) (l .i) x ∙ l .inv .2,
-      wrong-next vs (l .i) h (ap isNone e) (l .inv .3),
-      one-more (λ (y : Crisp). y .0) (l .at) l₀ 0 (l .i) (map orZero (take (l .i) vs)) x (orZero (getD vs (l .i) none)) (l .inv .4)
-          (omega (arith, length-taken vs (l .i) (omega arith))) (sym (ap orZero e))
-          ∙ ap (λ (ys : List ℤ). sets l₀ 0 ys) (sym (value-more vs (l .i) h)),
+      omega (arith, r .0),
+      one-more (λ (y : Crisp). y .0) (l .at) l₀ 0 (l .i) (take (l .i) xs) x _ (l .inv .4) (omega (arith, n)) (sym (r .1))
+          ∙ ap (λ (ys : List ℤ). sets l₀ 0 ys) (sym (take-suc xs (l .i) (pos 0) (r .0)))
+          ∙ (rw add-one refl),
       subst AllCrisp (sym (map-set (λ (y : Crisp). y .0) (l .at) (l .i) x))
           (each-set InCrisp (pos 0) (figures (l .at)) (l .i) (x .0) (l .inv .5) (d .taken .ensures .1 x (c .before .value .given .1))),
     )
 
 returns-2 : tie.Need-returns-2 Inv-loop μ-loop
 returns-2 c =
-    let a = c .before .before .before .before .args in
     let l = c .before .loop in
-    let w = wordAt (a .img .now) in
-    let vs = valuesOf (decode w .inputs) (a .t2) in
-    let n : length vs ≡ l .i = omega (arith, length-inputs w (a .t2), c .before .before .word .ensures .0) in (
-      sym (none-wrong vs (l .i) (omega (arith, n)) (l .inv .3)),
-      (l .inv .4 ∙ filled-sets 8 (pos 0) (map orZero (take (l .i) vs)) (omega (arith, length-taken vs (l .i) (omega (arith, n)))), l .inv .5),
-    )
+    let s = c .before .before .before in
+    let w = wordAt (s .args .img .now) in
+    let rs = s .args .t3 in
+    let e : length (found w rs) ≡ l .i = omega (arith, found-most w rs, s .pre .1 .inputs) in
+    (sym e, (whole (found w rs) (l .at) (l .i) (omega arith) e (l .inv .4), l .inv .5))
 
 pub input-values-spec : {M : Type 1} → statement M
 input-values-spec =
@@ -125,7 +116,6 @@ input-values-spec =
     (tie.spec
     Inv-loop
     μ-loop
-    word-requires
     loop-holds
     input-type-requires
     mul-reading

@@ -15,11 +15,11 @@ use Rattle.fuzzification.proofs.term_points.Statement.{statement}
 use Rattle.fuzzification.proofs.term_points.Tie as tie
 
 abbrev Inv-loop : tie.InvT-loop
-Inv-loop img first n ps₀ k₀ ps k =
+Inv-loop img h first n ps₀ k₀ ps k =
     (k ≤ n) × (length ps ≡ 4) × (map pointView ps ≡ sets (replicate 4 (pointView noPoint)) 0 (tab (pointAt (wordAt img)) k first))
 
 abbrev μ-loop : tie.MeasureT-loop
-μ-loop img first n ps₀ k₀ ps k = n - k
+μ-loop img h first n ps₀ k₀ ps k = n - k
 
 loop-holds : tie.Need-loop-holds Inv-loop μ-loop
 unfolding tab
@@ -29,7 +29,7 @@ add-point-at : tie.Need-add-point-at Inv-loop μ-loop
 add-point-at c = search needs
 
 point-at-requires : tie.Need-point-at-requires Inv-loop μ-loop
-point-at-requires c κs = search needs
+point-at-requires c κs = let s = c .before .before .before in (s .pre .0, omega (arith, s .pre .1))
 
 mul-ps : tie.Need-mul-ps Inv-loop μ-loop
 mul-ps c = search needs
@@ -48,10 +48,12 @@ loop-again c =
     let l = c .before .before .loop in
     let a = c .before .before .before .before .args in
     let f = pointAt (wordAt (a .img .now)) in
-    let l₀ = replicate 4 (pointView noPoint) in (
+    let p = c .point-at in
+    let l₀ = replicate 4 (pointView noPoint) in
+    let n : l .k ≡ 0 + length (tab f (l .k) (a .first)) = omega (arith, length-tab f (l .k) (a .first)) in (
       search needs,
-      length-set (l .ps) (l .k) (c .point-at .result) ∙ l .inv .1,
-      one-more pointView (l .ps) l₀ 0 (l .k) (tab f (l .k) (a .first)) (c .point-at .result) (f (a .first + l .k)) (l .inv .2) (omega (arith, length-tab f (l .k) (a .first))) (c .point-at .ensures)
+      length-set (l .ps) (l .k) (p .result) ∙ l .inv .1,
+      one-more pointView (l .ps) l₀ 0 (l .k) (tab f (l .k) (a .first)) (p .result) (f (a .first + l .k)) (l .inv .2) n (p .ensures)
           ∙ ap (λ (xs : List Point). sets l₀ 0 xs) (sym (tab-more f (l .k) (a .first))),
     )
 

@@ -17,24 +17,22 @@ use Rattle.held.proofs.fresh_record.Tie as tie
 use Rattle.held.proofs.fresh_record.Reads as reads
 use Rattle.held.proofs.fresh_record.Lts as lts
 use Rattle.held.proofs.start_of.Reads as start-of-reads
-use Rattle.words.proofs.word.Reads as word-reads
 
 abbrev Inv-loop : tie.InvT-loop
-Inv-loop img figures₀ n i₀ figures i =
+Inv-loop img h figures₀ n i₀ figures i =
     (i ≤ n) × (n ≤ 6) × (figures ≡ tab (λ j. record { 0 = startOf (outputAt (wordAt img) j .range) }) i 0 ++ replicate (6 - i) (record { 0 = pos 0 }))
 
 abbrev μ-loop : tie.MeasureT-loop
-μ-loop img figures₀ n i₀ figures i = n - i
-
-word-requires : tie.Need-word-requires Inv-loop μ-loop
-word-requires c κs = search needs
+μ-loop img h figures₀ n i₀ figures i = n - i
 
 loop-holds : tie.Need-loop-holds Inv-loop μ-loop
 unfolding tab
-loop-holds c = (search needs, omega (arith, outputs-few (wordAt (c .before .before .args .img .now)) (c .before .before .pre), c .word .ensures .0), refl)
+loop-holds c =
+    let s = c .before in
+    (search needs, omega (arith, outputs-few (wordAt (s .args .img .now)) (s .pre .0), s .pre .1 .outputs), refl)
 
 start-of-requires : tie.Need-start-of-requires Inv-loop μ-loop
-start-of-requires c κs = search needs
+start-of-requires c κs = let l = c .before in (l .before .before .pre .1, omega (arith, l .loop .inv))
 
 mul-figures : tie.Need-mul-figures Inv-loop μ-loop
 mul-figures c = search needs
@@ -51,23 +49,25 @@ loop-less c = search needs
 loop-again : tie.Need-loop-again Inv-loop μ-loop
 loop-again c =
     let l = c .before .before in
-    let t = l .before .before .before in
+    let t = l .before .before in
+    let f : ℕ → ℤ = λ j. startOf (outputAt (wordAt (t .args .img .now)) j .range) in
+    let x = c .start-of .result in
     let i = l .loop .i in
     let h : i < 6 = omega (arith, l .loop .inv .1) in (
       search needs,
       l .loop .inv .1,
-      ap (λ (x : List Crisp). set x i (c .start-of .result)) (l .loop .inv .2)
-          ∙ fill-front (λ j. record { 0 = startOf (outputAt (wordAt (t .args .img .now)) j .range) }) (record { 0 = pos 0 }) (c .start-of .result) 6 i h (ap (λ (z : ℤ). record { 0 = z }) (c .start-of .ensures)),
+      ap (λ (cs : List Crisp). set cs i x) (l .loop .inv .2)
+          ∙ fill-front (λ j. record { 0 = f j }) (record { 0 = pos 0 }) x 6 i h (ap (λ (z : ℤ). record { 0 = z }) (c .start-of .ensures)),
     )
 
 returns : tie.Need-returns Inv-loop μ-loop
 unfolding freshOf decode
 returns c =
     let l = c .before in
-    let t = l .before .before .before in
+    let t = l .before .before in
     let w = wordAt (t .args .img .now) in
     let f : ℕ → ℤ = λ j. startOf (outputAt w j .range) in
-    let e : l .loop .i ≡ w 3 = omega (arith, l .before .word .ensures .0) in
+    let e : l .loop .i ≡ w 3 = omega (arith, t .pre .1 .outputs) in
     ap (λ (x : List Crisp). record { figures = x })
     (l .loop .inv .2 ∙ ap (λ (n : ℕ). tab (λ j. record { 0 = f j }) n 0 ++ replicate (6 - n) (record { 0 = pos 0 })) e ∙ held-tab f (w 3))
     ∙ ap heldOf (sym (map-tab (λ v. startOf (v .range)) (outputAt w) (w 3) 0))
@@ -78,7 +78,6 @@ fresh-record-spec =
     (tie.spec
     Inv-loop
     μ-loop
-    word-requires
     loop-holds
     start-of-requires
     mul-figures

@@ -4,6 +4,7 @@ use Prim.Native.Nat.{_+_, _-_, _≤_}
 use borrow.Author.Tests.{not-true, not-false}
 use Rattle.model.specs.Basic.{all}
 use Rattle.model.specs.Image.{tab}
+use Rattle.model.specs.declared.Held.{Held}
 use Rattle.laws.proofs.Places.{all-more, all-stop, all-end}
 use Rattle.held.specs.Places.{isZero}
 use Rattle.held.proofs.zero_from.Statement.{statement}
@@ -13,10 +14,12 @@ use Rattle.held.proofs.zero_from.Lts as lts
 use Rattle.held.proofs.is_zero.Reads as is-zero-reads
 
 abbrev Inv-loop : tie.InvT-loop
-Inv-loop n was i₀ i = (i ≤ 6) × (all (isZero was) (tab (λ j. j) (6 - i) i) ≡ all (isZero was) (tab (λ j. j) (6 - n) n))
+Inv-loop n figures i₀ i =
+    let held : Held = record { figures = figures } in
+    (i ≤ 6) × (all (isZero held) (tab (λ j. j) (6 - i) i) ≡ all (isZero held) (tab (λ j. j) (6 - n) n))
 
 abbrev μ-loop : tie.MeasureT-loop
-μ-loop n was i₀ i = 6 - i
+μ-loop n figures i₀ i = 6 - i
 
 loop-holds : tie.Need-loop-holds Inv-loop μ-loop
 loop-holds c = (search needs, refl)
@@ -34,7 +37,9 @@ returns : tie.Need-returns Inv-loop μ-loop
 unfolding isZero
 returns c =
     let l = c .before .before .before .before in
-    sym (all-stop (isZero (l .before .args .t1)) (λ j. j) 6 (l .loop .i) (search needs) (sym (c .before .is-zero .ensures) ∙ not-true (c .before .is-zero .result) (c .if1 .taken))) ∙ l .loop .inv .1
+    let zero = c .before .is-zero in
+    let no = sym (zero .ensures) ∙ not-true (zero .result) (c .if1 .taken) in
+    sym (all-stop (isZero (l .before .before .args .held)) (λ j. j) 6 (l .loop .i) (search needs) no) ∙ l .loop .inv .1
 
 add-i : tie.Need-add-i Inv-loop μ-loop
 add-i c = search needs
@@ -46,12 +51,14 @@ loop-again : tie.Need-loop-again Inv-loop μ-loop
 unfolding isZero
 loop-again c =
     let l = c .before .before .before .before in
-    (search needs, sym (all-more (isZero (l .before .args .t1)) (λ j. j) 6 (l .loop .i) (search needs) (sym (c .before .is-zero .ensures) ∙ not-false (c .before .is-zero .result) (c .if1 .left))) ∙ l .loop .inv .1)
+    let zero = c .before .is-zero in
+    let yes = sym (zero .ensures) ∙ not-false (zero .result) (c .if1 .left) in
+    (search needs, sym (all-more (isZero (l .before .before .args .held)) (λ j. j) 6 (l .loop .i) (search needs) yes) ∙ l .loop .inv .1)
 
 returns-2 : tie.Need-returns-2 Inv-loop μ-loop
 returns-2 c =
     let l = c .before in
-    sym (all-end (isZero (l .before .args .t1)) (λ j. j) 6 (l .loop .i) (search needs)) ∙ l .loop .inv .1
+    sym (all-end (isZero (l .before .before .args .held)) (λ j. j) 6 (l .loop .i) (search needs)) ∙ l .loop .inv .1
 
 pub zero-from-spec : {M : Type 1} → statement M
 zero-from-spec =

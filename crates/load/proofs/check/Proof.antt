@@ -3,9 +3,6 @@ use Rattle.load.proofs.Laws.{verdict-yes, verdict-no}
 use borrow.Author.Needs.{needs}
 use Rattle.load.proofs.check.Statement.{statement}
 use Rattle.load.proofs.check.Tie as tie
-use Rattle.load.proofs.check.Reads as reads
-use Rattle.load.proofs.check.Lts as lts
-use Rattle.load.proofs.examine.Reads as examine-reads
 
 examine-requires : tie.Need-examine-requires
 examine-requires c κs = search needs

@@ -1,32 +1,49 @@
-use borrow.Author.Needs.{needs}
 use mathlib.Core.Path.{_≡_, sym, _∙_}
 use mathlib.Core.Bool.{true}
-use Prim.Native.Nat.{ℕ, _<_}
+use mathlib.Core.List.{[], _∷_}
 use native.Mathlib.Omega.{arith}
-use lib.ListN.{getD}
-use borrow.Author.Tests.{not-true, not-false}
+use borrow.Author.Tests.{eq-eqb, ne-eqb, not-true, not-false}
+use Rattle.model.specs.Basic.{every}
 use Rattle.model.specs.Image.{wordAt, decode, isImageOf}
-use Rattle.layout.specs.Groups.{tablesOk, variablesOk}
-use Rattle.load.proofs.Laws.{wrong-length, no-frame, no-variables, by-rules}
+use Rattle.header.specs.Header.{Heads}
+use Rattle.layout.specs.Groups.{Sound, tablesOk, variablesOk}
+use Rattle.laws.proofs.Tests.{clash, one-fails, last-decides}
+use Rattle.load.proofs.Laws.{tests, settled, refuses}
+use borrow.Author.Needs.{needs}
 use Rattle.load.proofs.examine.Statement.{statement}
 use Rattle.load.proofs.examine.Tie as tie
-use Rattle.load.proofs.examine.Reads as reads
-use Rattle.load.proofs.examine.Lts as lts
-use Rattle.stored_tables.proofs.Lists.{clash}
-use Rattle.stored_tables.proofs.frame.Reads as frame-reads
-use Rattle.load.proofs.not_accepted.Reads as not-accepted-reads
-use Rattle.stored_rules.proofs.rules_ok.Reads as rules-ok-reads
-use Rattle.stored_variables.proofs.variables_ok.Reads as variables-ok-reads
-use Rattle.words.proofs.word.Reads as word-reads
 
-small : (c : tie.After-word) → (k : ℕ) → getD (c .before .before .args .img .now) k 0 < 256
-small c k = omega (arith, c .before .shared-slice-known .given k)
+heads : (c : tie.After-word) → Heads (wordAt (c .before .before .before .args .img .now)) (c .before .header-of .result)
+heads c = c .before .header-of .ensures
 
-framed : (c : tie.Else2) → tablesOk (wordAt (c .before .before .before .before .before .before .args .img .now)) ≡ true
-framed c = sym (c .before .before .frame .ensures .0 .0) ∙ not-false (c .before .before .frame .result .ok) (c .if2 .left)
+-- the image by the length that is read
+read : (c : tie.After-word) →
+    let img = c .before .before .before .args .img .now in
+    isImageOf img (decode (wordAt img)) ≡ every (tests img (c .word .result))
+read c =
+    let s = c .before .before in
+    settled (s .before .args .img .now) _ (λ k. omega (arith, s .shared-slice-known .given k)) (c .word .ensures .0)
 
-spoken : (c : tie.Else3) → variablesOk (wordAt (c .before .before .before .before .before .before .before .before .args .img .now)) ≡ true
-spoken c = sym (c .before .variables-ok .ensures) ∙ not-false (c .before .variables-ok .result) (c .if3 .left)
+framed : (c : tie.Else2) → tablesOk (wordAt (c .before .before .before .before .before .before .before .args .img .now)) ≡ true
+framed c = sym (c .before .before .tables-ok .ensures .0 .0) ∙ not-false _ (c .if2 .left)
+
+spoken : (c : tie.Else3) →
+    let f = c .before .before .before .before in
+    variablesOk (wordAt (f .before .before .before .before .before .args .img .now)) ≡ true
+spoken c = sym (c .before .variables-ok .ensures) ∙ not-false _ (c .if3 .left)
+
+judged : (c : tie.After-rules-ok) →
+    let w = c .before .before .before .before .before .before .before in
+    let img = w .before .before .before .args .img .now in
+    isImageOf img (decode (wordAt img)) ≡ c .rules-ok .result
+judged c =
+    let e = c .before .before .before in
+    let f = e .before .before in
+    let long = eq-eqb _ _ (f .before .if1 .left) in
+    read (f .before .before) ∙ last-decides (_ ∷ _ ∷ _ ∷ []) _ (long, (framed e, (spoken (c .before), tt))) ∙ sym (c .rules-ok .ensures)
+
+header-of-requires : tie.Need-header-of-requires
+header-of-requires c κs = search needs
 
 word-requires : tie.Need-word-requires
 word-requires c κs = search needs
@@ -39,12 +56,11 @@ not-accepted-requires c κs = search needs
 
 returns : tie.Need-returns
 returns c =
-    let w = c .before .before in
-    let q = c .not-accepted .ensures in
-    (q .0 ∙ sym (wrong-length (w .before .before .args .img .now) (small w) (w .word .result) (w .word .ensures .0) (c .before .if1 .taken)), ((λ e. clash (sym (q .0) ∙ e)), (λ e. q .1)))
+    let bad = one-fails _ 0 (ne-eqb _ _ (c .before .if1 .taken)) in
+    refuses _ _ _ _ _ (c .not-accepted .ensures) (heads (c .before .before)) (read (c .before .before) ∙ bad)
 
-frame-requires : tie.Need-frame-requires
-frame-requires c κs = search needs
+tables-ok-requires : tie.Need-tables-ok-requires
+tables-ok-requires c κs = heads (c .before)
 
 not-accepted-requires-2 : tie.Need-not-accepted-requires-2
 not-accepted-requires-2 c κs = search needs
@@ -53,11 +69,11 @@ returns-2 : tie.Need-returns-2
 returns-2 c =
     let f = c .before .before .before in
     let w = f .before .before in
-    let q = c .not-accepted2 .ensures in
-    (q .0 ∙ sym (no-frame (w .before .before .args .img .now) (small w) (sym (f .frame .ensures .0 .0) ∙ not-true (f .frame .result .ok) (c .before .if2 .taken))), ((λ e. clash (sym (q .0) ∙ e)), (λ e. q .1)))
+    let bad = sym (f .tables-ok .ensures .0 .0) ∙ not-true _ (c .before .if2 .taken) in
+    refuses _ _ _ _ _ (c .not-accepted2 .ensures) (heads w) (read w ∙ one-fails _ 1 bad)
 
 variables-ok-requires : tie.Need-variables-ok-requires
-variables-ok-requires c κs = framed c
+variables-ok-requires c κs = (framed c, heads (c .before .before .before .before))
 
 not-accepted-requires-3 : tie.Need-not-accepted-requires-3
 not-accepted-requires-3 c κs = search needs
@@ -66,21 +82,14 @@ returns-3 : tie.Need-returns-3
 returns-3 c =
     let v = c .before .before in
     let w = v .before .before .before .before .before in
-    let q = c .not-accepted3 .ensures in
-    (q .0 ∙ sym (no-variables (w .before .before .args .img .now) (small w) (sym (v .variables-ok .ensures) ∙ not-true (v .variables-ok .result) (c .before .if3 .taken))), ((λ e. clash (sym (q .0) ∙ e)), (λ e. q .1)))
+    let bad = sym (v .variables-ok .ensures) ∙ not-true _ (c .before .if3 .taken) in
+    refuses _ _ _ _ _ (c .not-accepted3 .ensures) (heads w) (read w ∙ one-fails _ 2 bad)
 
 rules-ok-requires : tie.Need-rules-ok-requires
 rules-ok-requires c κs =
     let e = c .before .before in
     let f = e .before .before in
-    (framed e, f .frame .ensures .0 .1 (not-false (f .frame .result .ok) (e .if2 .left)), f .frame .ensures .1 .0)
-
-judged : (c : tie.After-rules-ok) → isImageOf (c .before .before .before .before .before .before .before .before .before .args .img .now) (decode (wordAt (c .before .before .before .before .before .before .before .before .before .args .img .now))) ≡ c .rules-ok .result
-judged c =
-    let e = c .before .before .before in
-    let f = e .before .before in
-    let w = f .before .before in
-    by-rules (w .before .before .args .img .now) (small w) (w .word .result) (w .word .ensures .0) (f .before .if1 .left) (framed e) (spoken (c .before)) ∙ sym (c .rules-ok .ensures)
+    (framed e, heads (f .before .before), f .tables-ok .ensures .0 .1 (not-false _ (e .if2 .left)), f .tables-ok .ensures .1 .0)
 
 not-accepted-requires-4 : tie.Need-not-accepted-requires-4
 not-accepted-requires-4 c κs = search needs
@@ -88,26 +97,29 @@ not-accepted-requires-4 c κs = search needs
 returns-4 : tie.Need-returns-4
 returns-4 c =
     let r = c .before .before in
-    let q = c .not-accepted4 .ensures in
-    (q .0 ∙ sym (judged r ∙ not-true (r .rules-ok .result) (c .before .if4 .taken)), ((λ e. clash (sym (q .0) ∙ e)), (λ e. q .1)))
+    let w = r .before .before .before .before .before .before .before in
+    refuses _ _ _ _ _ (c .not-accepted4 .ensures) (heads w) (judged r ∙ not-true _ (c .before .if4 .taken))
 
 returns-5 : tie.Need-returns-5
 returns-5 c =
     let r = c .before in
     let e = r .before .before .before in
     let f = e .before .before in
-    let y = not-false (r .rules-ok .result) (c .if4 .left) in
-    (sym (judged r ∙ y), ((λ e′. (record { frame = framed e; variables = spoken (r .before); rules = sym (r .rules-ok .ensures) ∙ y }, f .frame .ensures .0 .1 (not-false (f .frame .result .ok) (e .if2 .left)))), (λ e′. clash (sym e′))))
+    let y = not-false _ (c .if4 .left) in
+    let n = f .tables-ok .ensures .0 .1 (not-false _ (e .if2 .left)) in
+    let sound : Sound _ = record { frame = framed e; variables = spoken (r .before); rules = sym (r .rules-ok .ensures) ∙ y } in
+    (sym (judged r ∙ y), (((λ e′. (sound, n)), (λ e′. clash (sym e′))), heads (f .before .before)))
 
 pub examine-spec : {M : Type 1} → statement M
 examine-spec =
     tie.close
     (tie.spec
+    header-of-requires
     word-requires
     mul-if1
     not-accepted-requires
     returns
-    frame-requires
+    tables-ok-requires
     not-accepted-requires-2
     returns-2
     variables-ok-requires

@@ -3,8 +3,6 @@ use borrow.Author.Needs.{needs}
 use Rattle.stored_conditions.specs.Shapes.{view}
 use Rattle.stored_conditions.proofs.fail.Statement.{statement}
 use Rattle.stored_conditions.proofs.fail.Tie as tie
-use Rattle.stored_conditions.proofs.fail.Reads as reads
-use Rattle.stored_conditions.proofs.fail.Lts as lts
 
 returns : tie.Need-returns
 unfolding view

@@ -4,11 +4,6 @@ use borrow.Author.Needs.{needs}
 use Rattle.stored_conditions.proofs.Steps as laws
 use Rattle.stored_conditions.proofs.join.Statement.{statement}
 use Rattle.stored_conditions.proofs.join.Tie as tie
-use Rattle.stored_conditions.proofs.join.Reads as reads
-use Rattle.stored_conditions.proofs.join.Lts as lts
-use Rattle.stored_conditions.proofs.fail.Reads as fail-reads
-use Rattle.stored_conditions.proofs.opening.Reads as opening-reads
-use Rattle.stored_conditions.proofs.push.Reads as push-reads
 
 fail-requires : tie.Need-fail-requires
 fail-requires c κs = search needs

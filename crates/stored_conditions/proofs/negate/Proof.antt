@@ -6,12 +6,6 @@ use Rattle.stored_conditions.specs.Machine.{unary, stackOf}
 use Rattle.stored_conditions.proofs.Steps as laws
 use Rattle.stored_conditions.proofs.negate.Statement.{statement}
 use Rattle.stored_conditions.proofs.negate.Tie as tie
-use Rattle.stored_conditions.proofs.negate.Reads as reads
-use Rattle.stored_conditions.proofs.negate.Lts as lts
-use Rattle.stored_conditions.proofs.fail.Reads as fail-reads
-use Rattle.stored_conditions.proofs.negated_form.Reads as negated-form-reads
-use Rattle.stored_conditions.proofs.opening.Reads as opening-reads
-use Rattle.stored_conditions.proofs.push.Reads as push-reads
 
 fail-requires : tie.Need-fail-requires
 fail-requires c κs = search needs

@@ -1,8 +1,6 @@
 use borrow.Author.Tests.{eq-eqb, ne-eqb}
 use Rattle.stored_conditions.proofs.negated_form.Statement.{statement}
 use Rattle.stored_conditions.proofs.negated_form.Tie as tie
-use Rattle.stored_conditions.proofs.negated_form.Reads as reads
-use Rattle.stored_conditions.proofs.negated_form.Lts as lts
 
 returns : tie.Need-returns
 returns c = simp (eq-eqb _ _ (c .if1 .taken))

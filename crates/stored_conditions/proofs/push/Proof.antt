@@ -8,9 +8,6 @@ use Rattle.stored_conditions.specs.Shapes.{shape, view}
 use Rattle.stored_conditions.proofs.Stacks.{length-stack, stack-push}
 use Rattle.stored_conditions.proofs.push.Statement.{statement}
 use Rattle.stored_conditions.proofs.push.Tie as tie
-use Rattle.stored_conditions.proofs.push.Reads as reads
-use Rattle.stored_conditions.proofs.push.Lts as lts
-use Rattle.stored_conditions.proofs.fail.Reads as fail-reads
 
 cast-t8 : tie.Need-cast-t8
 cast-t8 c = search needs

@@ -6,12 +6,6 @@ use Rattle.stored_conditions.specs.Machine.{step, turn}
 use Rattle.stored_conditions.specs.Shapes.{view}
 use Rattle.stored_conditions.proofs.step.Statement.{statement}
 use Rattle.stored_conditions.proofs.step.Tie as tie
-use Rattle.stored_conditions.proofs.step.Reads as reads
-use Rattle.stored_conditions.proofs.step.Lts as lts
-use Rattle.stored_conditions.proofs.fail.Reads as fail-reads
-use Rattle.stored_conditions.proofs.join.Reads as join-reads
-use Rattle.stored_conditions.proofs.negate.Reads as negate-reads
-use Rattle.stored_conditions.proofs.push.Reads as push-reads
 
 push-requires : tie.Need-push-requires
 push-requires c κs = search needs

@@ -12,10 +12,6 @@ use Rattle.stored_conditions.proofs.Passes.{Left, left-start, left-turn
 use Rattle.stored_conditions.proofs.Steps as laws
 use Rattle.stored_conditions.proofs.stored_condition.Statement.{statement}
 use Rattle.stored_conditions.proofs.stored_condition.Tie as tie
-use Rattle.stored_conditions.proofs.stored_condition.Reads as reads
-use Rattle.stored_conditions.proofs.stored_condition.Lts as lts
-use Rattle.stored_conditions.proofs.step.Reads as step-reads
-use Rattle.words.proofs.word.Reads as word-reads
 
 abbrev Inv-loop : tie.InvT-loop
 Inv-loop img d n m st₀ i₀ st i =

@@ -1,101 +1,97 @@
-use borrow.Author.Needs.{needs}
+use native.Mathlib.Omega.{arith}
 use borrow.Author.Tests.{le-ltb, lt-ltb, le-leb, lt-leb}
-use mathlib.Core.Path.{sym, _∙_}
-use Rattle.model.specs.Basic.{every}
+use mathlib.Core.Path.{refl, sym, ap, _∙_}
+use mathlib.Core.List.{[], _∷_}
 use Rattle.model.specs.Image.{wordAt}
+use Rattle.laws.proofs.Tests.{one-fails, last-decides}
+use Rattle.laws.proofs.Places.{field}
 use Rattle.stored_rules.proofs.Outputs.{conclusion-words}
-use mathlib.Core.Bool.{and-true}
+use borrow.Author.Needs.{needs}
 use Rattle.stored_rules.proofs.conclusion_ok.Statement.{statement}
 use Rattle.stored_rules.proofs.conclusion_ok.Tie as tie
-use Rattle.stored_rules.proofs.conclusion_ok.Reads as reads
-use Rattle.stored_rules.proofs.conclusion_ok.Lts as lts
-use Rattle.words.proofs.word.Reads as word-reads
+
+conclusion-row-requires : tie.Need-conclusion-row-requires
+conclusion-row-requires c κs = let hd = c .before .pre .1 in omega (arith, hd .conclusion-table, hd .fits 15)
 
 word-requires : tie.Need-word-requires
 word-requires c κs = search needs
 
-mul-o : tie.Need-mul-o
-mul-o c = search needs
-
-add-o : tie.Need-add-o
-add-o c = search needs
-
-word-requires-2 : tie.Need-word-requires-2
-word-requires-2 c κs = search needs
-
-word-requires-3 : tie.Need-word-requires-3
-word-requires-3 c κs = search needs
-
 returns : tie.Need-returns
-unfolding every
 returns c =
-    let a = c .before .before .before .before .before .args in
-    let w = wordAt (a .img .now) in
-    sym (conclusion-words w (c .before .before .before .before .before .pre .0) (a .i) ∙ simp (sym (c .before .before .before .word .ensures .0), sym (c .before .before .word2 .ensures .0), sym (c .before .word3 .ensures .0), le-ltb _ _ (c .if1 .taken)))
+    let p = c .before .before in
+    let s = p .before .before .before in
+    let hd = s .pre .1 in
+    let w = wordAt (s .args .img .now) in
+    let o = p .before .conclusion-row .ensures .0 w hd in
+    sym (conclusion-words w (s .pre .0) (s .args .i) _ _ _ _ _ (p .word .ensures .0 ∙ ap w o) refl (hd .outputs) refl refl
+    ∙ one-fails _ 0 (le-ltb _ _ (c .if1 .taken)))
 
 add-word : tie.Need-add-word
 add-word c = search needs
 
-word-requires-4 : tie.Need-word-requires-4
-word-requires-4 c κs = search needs
+word-requires-2 : tie.Need-word-requires-2
+word-requires-2 c κs = search needs
 
-word-requires-5 : tie.Need-word-requires-5
-word-requires-5 c κs = search needs
-
-mul-v : tie.Need-mul-v
-mul-v c = search needs
-
-add-v : tie.Need-add-v
-add-v c = search needs
+output-row-requires : tie.Need-output-row-requires
+output-row-requires c κs = let hd = c .before .before .before .before .before .before .pre .1 in omega (arith, hd .output-table, hd .fits 10)
 
 add-word-2 : tie.Need-add-word-2
 add-word-2 c = search needs
 
-word-requires-6 : tie.Need-word-requires-6
-word-requires-6 c κs = search needs
+word-requires-3 : tie.Need-word-requires-3
+word-requires-3 c κs = search needs
 
 returns-2 : tie.Need-returns-2
-unfolding every
 returns-2 c =
-    let a = c .before .before .before .before .before .before .before .before .before .args in
-    let w = wordAt (a .img .now) in
-    sym (conclusion-words w (c .before .before .before .before .before .before .before .before .before .pre .0) (a .i) ∙ simp (sym (c .before .before .before .before .before .before .before .word .ensures .0), sym (c .before .before .before .before .before .before .word2 .ensures .0), sym (c .before .before .before .before .before .word3 .ensures .0), sym (c .before .before .before .word4 .ensures .0), sym (c .before .before .word5 .ensures .0), sym (c .before .word6 .ensures .0), lt-ltb _ _ (c .before .before .before .before .if1 .left), lt-leb _ _ (c .if2 .taken)))
+    let v = c .before .before in
+    let p = v .before .before .before .before in
+    let s = p .before .before .before in
+    let hd = s .pre .1 in
+    let w = wordAt (s .args .img .now) in
+    let o = p .before .conclusion-row .ensures .0 w hd in
+    let t = field w _ _ 1 _ (v .before .word2 .ensures .0) o in
+    let first = field w _ _ 4 _ (c .before .word3 .ensures .0) (v .output-row .ensures .0 w hd) in
+    sym (conclusion-words w (s .pre .0) (s .args .i) _ _ _ _ _ (p .word .ensures .0 ∙ ap w o) t (hd .outputs) first refl
+    ∙ one-fails _ 1 (lt-leb _ _ (c .if2 .taken)))
 
 add-word-3 : tie.Need-add-word-3
 add-word-3 c = search needs
 
-word-requires-7 : tie.Need-word-requires-7
-word-requires-7 c κs = search needs
+word-requires-4 : tie.Need-word-requires-4
+word-requires-4 c κs = search needs
 
 add-result : tie.Need-add-result
 add-result c = search needs
 
 returns-3 : tie.Need-returns-3
-unfolding every
 returns-3 c =
-    let a = c .before .before .before .before .before .before .before .before .before .before .args in
-    let w = wordAt (a .img .now) in
-    sym (conclusion-words w (c .before .before .before .before .before .before .before .before .before .before .pre .0) (a .i) ∙ simp (sym (c .before .before .before .before .before .before .before .before .word .ensures .0), sym (c .before .before .before .before .before .before .before .word2 .ensures .0), sym (c .before .before .before .before .before .before .word3 .ensures .0), sym (c .before .before .before .before .word4 .ensures .0), sym (c .before .before .before .word5 .ensures .0), sym (c .before .before .word6 .ensures .0), sym (c .word7 .ensures .0), lt-ltb _ _ (c .before .before .before .before .before .if1 .left), le-leb _ _ (c .before .if2 .left), and-true))
+    let v = c .before .before .before in
+    let p = v .before .before .before .before in
+    let s = p .before .before .before in
+    let hd = s .pre .1 in
+    let w = wordAt (s .args .img .now) in
+    let o = p .before .conclusion-row .ensures .0 w hd in
+    let t = field w _ _ 1 _ (v .before .word2 .ensures .0) o in
+    let r = v .output-row .ensures .0 w hd in
+    let first = field w _ _ 4 _ (c .before .before .word3 .ensures .0) r in
+    let n = field w _ _ 5 _ (c .word4 .ensures .0) r in
+    sym (conclusion-words w (s .pre .0) (s .args .i) _ _ _ _ _ (p .word .ensures .0 ∙ ap w o) t (hd .outputs) first n
+    ∙ last-decides (_ ∷ _ ∷ []) _ (lt-ltb _ _ (v .before .before .if1 .left), (le-leb _ _ (c .before .if2 .left), tt)))
 
 pub conclusion-ok-spec : {M : Type 1} → statement M
 conclusion-ok-spec =
     tie.close
     (tie.spec
+    conclusion-row-requires
     word-requires
-    mul-o
-    add-o
-    word-requires-2
-    word-requires-3
     returns
     add-word
-    word-requires-4
-    word-requires-5
-    mul-v
-    add-v
+    word-requires-2
+    output-row-requires
     add-word-2
-    word-requires-6
+    word-requires-3
     returns-2
     add-word-3
-    word-requires-7
+    word-requires-4
     add-result
     returns-3)

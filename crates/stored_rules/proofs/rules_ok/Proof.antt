@@ -1,91 +1,81 @@
-use borrow.Author.Needs.{needs}
+use mathlib.Core.Path.{_≡_, sym, _∙_}
+use mathlib.Core.List.{[], _∷_}
+use Prim.Native.Nat.{_≤_}
 use lib.Dec.{leb}
 use borrow.Author.Tests.{le-leb, lt-leb, leb-true, not-true, not-false}
-use mathlib.Core.Path.{sym, _∙_}
 use Rattle.model.specs.Basic.{every}
 use Rattle.model.specs.Image.{wordAt}
-use Rattle.laws.proofs.Tests.{both}
-use mathlib.Core.Bool.{and-true}
+use Rattle.layout.specs.Groups.{rulesOk}
+use Rattle.laws.proofs.Tests.{both, one-fails, last-decides}
 use Rattle.stored_rules.proofs.Numbers.{walk-numbers}
-use Rattle.stored_rules.proofs.Rules.{rules-words}
+use Rattle.stored_rules.proofs.Rules.{tests, rules-words}
+use borrow.Author.Needs.{needs}
 use Rattle.stored_rules.proofs.rules_ok.Statement.{statement}
 use Rattle.stored_rules.proofs.rules_ok.Tie as tie
-use Rattle.stored_rules.proofs.rules_ok.Reads as reads
-use Rattle.stored_rules.proofs.rules_ok.Lts as lts
-use Rattle.stored_rules.proofs.numbers_distinct.Reads as numbers-distinct-reads
-use Rattle.stored_rules.proofs.rows_ok.Reads as rows-ok-reads
-use Rattle.stored_rules.proofs.within.Reads as within-reads
-use Rattle.words.proofs.word.Reads as word-reads
 
-word-requires : tie.Need-word-requires
-word-requires c κs = search needs
+-- the rules by the header's counts
+read : (c : tie.After-within) →
+    let a = c .before .before .args in
+    let w = wordAt (a .img .now) in
+    rulesOk w ≡ every (tests w (a .h .rules) (a .h .words) (a .h .conclusions))
+read c =
+    let s = c .before .before in
+    let hd = s .pre .1 in
+    rules-words (wordAt (s .args .img .now)) _ _ _ (hd .rules) (hd .words) (hd .conclusions)
+
+few : (c : tie.Else1) → c .before .before .before .args .h .rules ≤ 64
+few c =
+    let n = c .before .before .before .args .h .rules in
+    leb-true _ _ (both (leb 1 n) (leb n 64) (sym (c .before .within .ensures) ∙ not-false _ (c .if1 .left)) .1)
 
 within-requires : tie.Need-within-requires
 within-requires c κs = search needs
 
 returns : tie.Need-returns
-unfolding every
-returns c =
-    let a = c .before .before .before .before .args in
-    let w = wordAt (a .img .now) in
-    sym (rules-words w (c .before .before .before .before .pre .0) (a .m) (c .before .before .before .before .pre .1) ∙ simp (sym (c .before .before .word .ensures .0), sym (c .before .within .ensures) ∙ not-true _ (c .if1 .taken)))
-
-word-requires-2 : tie.Need-word-requires-2
-word-requires-2 c κs = search needs
+returns c = sym (read (c .before) ∙ one-fails _ 0 (sym (c .before .within .ensures) ∙ not-true _ (c .if1 .taken)))
 
 returns-2 : tie.Need-returns-2
-unfolding every
-returns-2 c =
-    let a = c .before .before .before .before .before .before .args in
-    let w = wordAt (a .img .now) in
-    sym (rules-words w (c .before .before .before .before .before .before .pre .0) (a .m) (c .before .before .before .before .before .before .pre .1) ∙ simp (sym (c .before .before .before .before .word .ensures .0), sym (c .before .word2 .ensures .0), sym (c .before .before .before .within .ensures) ∙ not-false _ (c .before .before .if1 .left), lt-leb _ _ (c .if2 .taken)))
-
-word-requires-3 : tie.Need-word-requires-3
-word-requires-3 c κs = search needs
+returns-2 c = sym (read (c .before .before .before) ∙ one-fails _ 1 (lt-leb _ _ (c .if2 .taken)))
 
 returns-3 : tie.Need-returns-3
-unfolding every
-returns-3 c =
-    let a = c .before .before .before .before .before .before .before .before .args in
-    let w = wordAt (a .img .now) in
-    sym (rules-words w (c .before .before .before .before .before .before .before .before .pre .0) (a .m) (c .before .before .before .before .before .before .before .before .pre .1) ∙ simp (sym (c .before .before .before .before .before .before .word .ensures .0), sym (c .before .before .before .word2 .ensures .0), sym (c .before .word3 .ensures .0), sym (c .before .before .before .before .before .within .ensures) ∙ not-false _ (c .before .before .before .before .if1 .left), le-leb _ _ (c .before .before .if2 .left), lt-leb _ _ (c .if3 .taken)))
+returns-3 c = sym (read (c .before .before .before .before .before) ∙ one-fails _ 2 (lt-leb _ _ (c .if3 .taken)))
 
 rows-ok-requires : tie.Need-rows-ok-requires
-rows-ok-requires c κs = (search needs, search needs, leb-true _ _ (both (leb 1 (c .before .before .before .before .before .before .word .result)) (leb (c .before .before .before .before .before .before .word .result) 64) (sym (c .before .before .before .before .before .within .ensures) ∙ not-false _ (c .before .before .before .before .if1 .left)) .1))
+rows-ok-requires c κs =
+    let p = c .before .before .before .before in
+    let s = p .before .before .before in
+    (s .pre .0, s .pre .1, s .pre .2, s .pre .3, few p)
 
 returns-4 : tie.Need-returns-4
-unfolding every
 returns-4 c =
-    let a = c .before .before .before .before .before .before .before .before .before .before .args in
-    let w = wordAt (a .img .now) in
-    sym (rules-words w (c .before .before .before .before .before .before .before .before .before .before .pre .0) (a .m) (c .before .before .before .before .before .before .before .before .before .before .pre .1) ∙ simp (sym (c .before .before .before .before .before .before .before .before .word .ensures .0), sym (c .before .before .before .before .before .word2 .ensures .0), sym (c .before .before .before .word3 .ensures .0), sym (c .before .before .before .before .before .before .before .within .ensures) ∙ not-false _ (c .before .before .before .before .before .before .if1 .left), le-leb _ _ (c .before .before .before .before .if2 .left), le-leb _ _ (c .before .before .if3 .left), sym (c .before .rows-ok .ensures) ∙ not-true _ (c .if4 .taken)))
+    let p = c .before .before .before .before .before .before .before in
+    sym (read p ∙ one-fails _ 3 (sym (c .before .rows-ok .ensures) ∙ not-true _ (c .if4 .taken)))
 
 numbers-distinct-requires : tie.Need-numbers-distinct-requires
 numbers-distinct-requires c κs =
     let r = c .before in
-    let x = r .before .before .before .before .before .before .before in
-    let a = r .before .before .before .before .before .before .before .before .before .args in (
-      leb-true _ _ (both (leb 1 (x .word .result)) (leb (x .word .result) 64) (sym (c .before .before .before .before .before .before .before .within .ensures) ∙ not-false _ (c .before .before .before .before .before .before .if1 .left)) .1),
-      walk-numbers (wordAt (a .img .now)) (a .m) (x .word .result) (sym (r .rows-ok .ensures) ∙ not-false _ (c .if4 .left)),
-    )
+    let p = r .before .before .before .before .before in
+    let s = p .before .before .before in
+    (s .pre .1, few p, walk-numbers (wordAt (s .args .img .now)) (s .args .h .rules) (sym (r .rows-ok .ensures) ∙ not-false _ (c .if4 .left)))
 
 returns-5 : tie.Need-returns-5
-unfolding every
 returns-5 c =
-    let a = c .before .before .before .before .before .before .before .before .before .before .before .args in
-    let w = wordAt (a .img .now) in
-    sym (rules-words w (c .before .before .before .before .before .before .before .before .before .before .before .pre .0) (a .m) (c .before .before .before .before .before .before .before .before .before .before .before .pre .1) ∙ simp (sym (c .before .before .before .before .before .before .before .before .before .word .ensures .0), sym (c .before .before .before .before .before .before .word2 .ensures .0), sym (c .before .before .before .before .word3 .ensures .0), sym (c .before .before .before .before .before .before .before .before .within .ensures) ∙ not-false _ (c .before .before .before .before .before .before .before .if1 .left), le-leb _ _ (c .before .before .before .before .before .if2 .left), le-leb _ _ (c .before .before .before .if3 .left), sym (c .before .before .rows-ok .ensures) ∙ not-false _ (c .before .if4 .left), sym (c .numbers-distinct .ensures), and-true))
+    let r = c .before .before in
+    let q = r .before .before .before in
+    let p = q .before .before in
+    c .numbers-distinct .ensures
+    ∙ sym (read (p .before) ∙ last-decides (_ ∷ _ ∷ _ ∷ _ ∷ []) _ (
+      sym (p .before .within .ensures) ∙ not-false _ (p .if1 .left),
+      (le-leb _ _ (q .if2 .left), (le-leb _ _ (r .before .if3 .left), (sym (r .rows-ok .ensures) ∙ not-false _ (c .before .if4 .left), tt))),
+    ))
 
 pub rules-ok-spec : {M : Type 1} → statement M
 rules-ok-spec =
     tie.close
     (tie.spec
-    word-requires
     within-requires
     returns
-    word-requires-2
     returns-2
-    word-requires-3
     returns-3
     rows-ok-requires
     returns-4

@@ -1,17 +1,35 @@
-use borrow.Author.Tests.{lt-leb, le-leb}
+use native.Mathlib.Omega.{arith}
+use mathlib.Core.Path.{ap, _∙_}
 use Rattle.model.specs.WellFormed.{unitOk}
+use Rattle.model.specs.Image.{wordAt, ruleAt}
+use borrow.Author.Needs.{needs}
+use Rattle.laws.proofs.Places.{field}
 use Rattle.stored_rules.proofs.weight_ok.Statement.{statement}
 use Rattle.stored_rules.proofs.weight_ok.Tie as tie
-use Rattle.stored_rules.proofs.weight_ok.Reads as reads
-use Rattle.stored_rules.proofs.weight_ok.Lts as lts
+
+rule-row-requires : tie.Need-rule-row-requires
+rule-row-requires c κs = let hd = c .before .pre .0 in omega (arith, hd .rule-table, hd .fits 13)
+
+add-word : tie.Need-add-word
+add-word c = search needs
+
+word-requires : tie.Need-word-requires
+word-requires c κs = search needs
+
+cast-is-unit : tie.Need-cast-is-unit
+cast-is-unit c = search needs
+
+is-unit-requires : tie.Need-is-unit-requires
+is-unit-requires c κs = search needs
 
 returns : tie.Need-returns
-unfolding unitOk
-returns c = simp (lt-leb _ _ (c .if1 .taken))
-
-returns-2 : tie.Need-returns-2
-unfolding unitOk
-returns-2 c = simp (le-leb _ _ (c .if1 .left))
+unfolding ruleAt
+returns c =
+    let s = c .before .before .before .before in
+    let w = wordAt (s .args .img .now) in
+    c .is-unit .ensures ∙ ap unitOk (field w _ _ 5 _ (c .before .word .ensures .0) (c .before .before .rule-row .ensures .0 w (s .pre .0)))
 
 pub weight-ok-spec : {M : Type 1} → statement M
-weight-ok-spec = tie.close (tie.spec returns returns-2)
+weight-ok-spec =
+    tie.close
+    (tie.spec rule-row-requires add-word word-requires cast-is-unit is-unit-requires returns)

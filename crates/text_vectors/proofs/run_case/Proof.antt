@@ -5,51 +5,41 @@ use borrow.Author.Needs.{needs}
 use Rattle.text_vectors.proofs.run_case.Statement.{statement}
 use Rattle.text_vectors.proofs.run_case.Tie as tie
 
-slice-aggregate-read-full : tie.Need-slice-aggregate-read-full
-slice-aggregate-read-full c = search needs
+long-buffer-requires : tie.Need-long-buffer-requires
+long-buffer-requires c κs = search needs
 
-read-full-requires : tie.Need-read-full-requires
-read-full-requires c κs = search needs
+slice-aggregate-next-case : tie.Need-slice-aggregate-next-case
+slice-aggregate-next-case c = search needs
+
+next-case-requires : tie.Need-next-case-requires
+next-case-requires c κs = search needs
 
 returns : tie.Need-returns
 returns c = search needs
 
-slice-aggregate-word : tie.Need-slice-aggregate-word
-slice-aggregate-word c = search needs
-
-word-requires : tie.Need-word-requires
-word-requires c κs = search needs
-
-returns-2 : tie.Need-returns-2
-returns-2 c = search needs
-
-long-buffer-requires : tie.Need-long-buffer-requires
-long-buffer-requires c κs = search needs
-
-array-borrow-prefix-text : tie.Need-array-borrow-prefix-text
-array-borrow-prefix-text c = search needs
+array-share-prefix-text : tie.Need-array-share-prefix-text
+array-share-prefix-text c = search needs
 
 slice-aggregate-run-text : tie.Need-slice-aggregate-run-text
-slice-aggregate-run-text c = sym (length-take-le (c .before .before .before .word .result) (c .before .long-buffer .result) (omega (arith, c .before .before .if2 .left)))
+slice-aggregate-run-text c =
+    let p = c .before .before .before in
+    sym (length-take-le (p .next-case .result) (p .next-case .last .1 .0) (omega (arith, p .next-case, c .before .if1 .left)))
 
 run-text-requires : tie.Need-run-text-requires
 run-text-requires c κs = search needs
 
-returns-3 : tie.Need-returns-3
-returns-3 c = search needs
+returns-2 : tie.Need-returns-2
+returns-2 c = search needs
 
 pub run-case-spec : {M : Type 1} → statement M
 run-case-spec =
     tie.close
     (tie.spec
-    slice-aggregate-read-full
-    read-full-requires
-    returns
-    slice-aggregate-word
-    word-requires
-    returns-2
     long-buffer-requires
-    array-borrow-prefix-text
+    slice-aggregate-next-case
+    next-case-requires
+    returns
+    array-share-prefix-text
     slice-aggregate-run-text
     run-text-requires
-    returns-3)
+    returns-2)
