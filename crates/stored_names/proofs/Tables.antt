@@ -9,6 +9,7 @@ use native.Mathlib.Nat.{mul-le-mul-left}
 use Rattle.model.specs.Basic.{all, distinct, same}
 use Rattle.model.specs.Tokens.{sameName}
 use Rattle.model.specs.Image.{tab, nameAt}
+use Rattle.laws.proofs.Places.{step}
 use Rattle.laws.proofs.Lists.{all-append}
 use Rattle.layout.specs.Tables.{nameExact}
 use Rattle.stored_names.specs.Stored.{wordsIn, absent, apart}
@@ -19,9 +20,6 @@ pub entry : (i s : ℕ) → i ≤ 4294967295 → s ≤ 11 → i * s ≤ 47244640
 entry i s h g = omega (arith, mul-le-mul-left i g)
 
 -- WALKS: what is left from i up to e, one entry a turn
-step : (e i : ℕ) → i < e → e - i ≡ suc (e - (i + 1))
-step e i h = omega arith
-
 module _ {A : Type 0} (eq : A → A → Bool) (f : ℕ → A) (e i : ℕ) where
   pub distinct-more : i < e → absent eq (f i) (tab f (e - (i + 1)) (i + 1)) ≡ true → distinct eq (tab f (e - i) i) ≡ distinct eq (tab f (e - (i + 1)) (i + 1))
   unfolding distinct tab

@@ -10,7 +10,7 @@ use Rattle.model.specs.Tokens.{isName, sameName}
 use Rattle.model.specs.WellFormed.{termOk, inputOk, rangeOk, defaultOk, singletonOk, outputOk}
 use Rattle.model.specs.Image.{nameAt, tab, termAt, singletonAt, inputAt, outputAt, decode}
 use Rattle.laws.proofs.Lists.{map-tab}
-use Rattle.laws.proofs.Places.{length-tab}
+use Rattle.laws.proofs.Places.{length-tab, tab-ext}
 use Rattle.stored_names.proofs.Tables.{Exact, nameIn, distinct-names, joined-names}
 use Rattle.layout.specs.Tables.{inputCount, outputCount, outputFirstAt, nameExact}
 use Rattle.layout.specs.Groups.{tablesOk, variablesOk}
@@ -36,11 +36,6 @@ all-same g h f zero i e = refl
 all-same g h f (suc n) i e =
     λ j. e i (omega arith) (omega arith) j && all-same g h f n (suc i) (λ k a b. e k (omega arith) (omega arith)) j
 
-tab-moved : {A : Type 0} (f g : ℕ → A) (s : ℕ) → ((k : ℕ) → f k ≡ g (s + k)) → (n i m : ℕ) → s + i ≡ m → tab f n i ≡ tab g n m
-unfolding tab
-tab-moved f g s e zero i m q = refl
-tab-moved f g s e (suc n) i m q = λ j. (e i ∙ ap g q) j ∷ tab-moved f g s e n (suc i) (suc m) (omega arith) j
-
 module _ (w : ℕ → ℕ) where
   apart-same : (s k : ℕ) → Exact w (w 11) 6 k s → termsApart w s k ≡ distinct sameName (tab (λ t. nameAt w (w 11 + t * 6)) k s)
   unfolding termsApart
@@ -48,7 +43,8 @@ module _ (w : ℕ → ℕ) where
       let e : (j : ℕ) → w 11 + (s + j) * 6 ≡ w 11 + s * 6 + j * 6 = λ j. omega arith in
       let q = w 11 + s * 6 in
       let p : Exact w q 6 k 0 = λ j a b. subst (λ (o : ℕ). nameExact w o ≡ true) (e j) (x (s + j) (omega arith) (omega arith)) in
-      let moved = tab-moved (nameIn w q 6) (λ t. nameAt w (w 11 + t * 6)) s (λ j. ap (nameAt w) (sym (e j))) k 0 s (omega arith) in
+      let moved : tab (nameIn w q 6) k 0 ≡ tab (λ t. nameAt w (w 11 + t * 6)) k s =
+      tab-ext (nameIn w q 6) (λ t. nameAt w (w 11 + t * 6)) k 0 s (λ j l. ap (nameAt w) (omega arith)) in
       distinct-names w q 6 k 0 p ∙ ap (λ (l : List (List ℕ)). distinct sameName l) moved
 
   input-same : (i : ℕ) → Exact w (w 11) 6 (inputCount w i) (inputFirst w i) → inputStored w i ≡ inputOk (inputAt w i)

@@ -53,7 +53,8 @@ loop-again c =
     let a = c .before .before .before .before .before .args in
     let w = wordAt (a .img .now) in
     let t = sym (rw sub-zero at (c .before .absent-ok .ensures)) ∙ not-false _ (c .if1 .left) in
-    (search needs, sym (all-more (λ x. absent same x (tab (wordsIn w (a .q) (a .t)) (a .m) 0)) (wordsIn w (a .o) (a .s)) (a .n) (l .i) (omega arith) t) ∙ l .inv .1)
+    let more = all-more (λ x. absent same x (tab (wordsIn w (a .q) (a .t)) (a .m) 0)) (wordsIn w (a .o) (a .s)) (a .n) (l .i) (omega arith) t in
+    (search needs, sym more ∙ l .inv .1)
 
 returns-2 : tie.Need-returns-2 Inv-loop μ-loop
 returns-2 c =

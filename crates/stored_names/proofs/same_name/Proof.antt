@@ -15,7 +15,7 @@ returns : tie.Need-returns
 returns c =
     let a = c .before .before .before .before .args in
     let w = wordAt (a .img .now) in
-    differs-1 w w (a .o) (a .q) (c .before .before .word .ensures .0) (c .before .word2 .ensures .0) (c .if1 .taken)
+    differs-1 w (a .o) (a .q) (c .before .before .word .ensures .0) (c .before .word2 .ensures .0) (c .if1 .taken)
 
 add-word : tie.Need-add-word
 add-word c = search needs
@@ -35,7 +35,7 @@ returns-2 c =
     let a = one .before .before .before .before .args in
     let w = wordAt (a .img .now) in
     let e1 = sym (one .before .before .word .ensures .0) ∙ one .if1 .left ∙ one .before .word2 .ensures .0 in
-    differs-2 w w (a .o) (a .q) e1 (c .before .before .word3 .ensures .0) (c .before .word4 .ensures .0) (c .if2 .taken)
+    differs-2 w (a .o) (a .q) e1 (c .before .before .word3 .ensures .0) (c .before .word4 .ensures .0) (c .if2 .taken)
 
 add-word-3 : tie.Need-add-word-3
 add-word-3 c = search needs
@@ -57,7 +57,7 @@ returns-3 c =
     let w = wordAt (a .img .now) in
     let e1 = sym (one .before .before .word .ensures .0) ∙ one .if1 .left ∙ one .before .word2 .ensures .0 in
     let e2 = sym (two .before .before .word3 .ensures .0) ∙ two .if2 .left ∙ two .before .word4 .ensures .0 in
-    differs-3 w w (a .o) (a .q) e1 e2 (c .before .before .word5 .ensures .0) (c .before .word6 .ensures .0) (c .if3 .taken)
+    differs-3 w (a .o) (a .q) e1 e2 (c .before .before .word5 .ensures .0) (c .before .word6 .ensures .0) (c .if3 .taken)
 
 add-word-5 : tie.Need-add-word-5
 add-word-5 c = search needs
@@ -81,7 +81,7 @@ returns-4 c =
     let e1 = sym (one .before .before .word .ensures .0) ∙ one .if1 .left ∙ one .before .word2 .ensures .0 in
     let e2 = sym (two .before .before .word3 .ensures .0) ∙ two .if2 .left ∙ two .before .word4 .ensures .0 in
     let e3 = sym (three .before .before .word5 .ensures .0) ∙ three .if3 .left ∙ three .before .word6 .ensures .0 in
-    only-last w w (a .o) (a .q) e1 e2 e3 (c .before .word7 .ensures .0) (c .word8 .ensures .0)
+    only-last w (a .o) (a .q) e1 e2 e3 (c .before .word7 .ensures .0) (c .word8 .ensures .0)
 
 pub same-name-spec : {M : Type 1} → statement M
 same-name-spec =
