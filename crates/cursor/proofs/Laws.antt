@@ -13,6 +13,7 @@ use Rattle.model.specs.Keywords.{END}
 use Rattle.model.specs.Block.{Block}
 use Rattle.model.specs.Parse.{Parse, Part, Checks, kind, text, here, is, refuse, advance, change, judged, expect, repeatOn, repeated}
 use Rattle.model.specs.Tokens.{Token, tokens}
+use Rattle.laws.proofs.Tests.{clash}
 use Rattle.tokens.specs.Tokens.{tokensFrom, tokenOf, after}
 use Rattle.tokens.specs.declared.Token.{Token as Found}
 use Rattle.cursor.specs.declared.Cursor.{Cursor}
@@ -136,9 +137,6 @@ steps {f} {g} {s} {a} {b} {c} p q = record {
   fits = q .fits;
   sticky = λ h. p .sticky (q .sticky h);
 }
-
-pub clash : {X : Type 0} → false ≡ true → X
-clash h = let z : _≡_ {A = ℕ} 0 1 = cc in absurd (omega arith)
 
 -- A REFUSED READING stays as it is
 module _ (s : List ℕ) (c : Cursor) (g : Fits s c) (h : c .why ≡ 0 → ⊥) where

@@ -9,6 +9,7 @@ use Rattle.layout.proofs.Whole.{length-conditions}
 use Rattle.model.specs.Basic.{gather, total}
 use Rattle.model.specs.Block.{Rule, Conclusion, size}
 use Rattle.model.specs.Image.{ruleTable, conclusionWords}
+use Rattle.laws.proofs.Conditions.{length-pairs}
 use Rattle.block_tables.specs.Stored.{Stored, ruleRow}
 use Rattle.image.specs.Rows.{rows, ruleWords, ruleNext}
 
@@ -16,11 +17,6 @@ length-joined : (rs : List Rule) → length (gather (λ r. r .conclusions) rs) �
 unfolding gather total
 length-joined [] = refl
 length-joined (r ∷ rs) = length-append (r .conclusions) _ ∙ ap (λ (n : ℕ). length (r .conclusions) + n) (length-joined rs)
-
-pub length-pairs : (ks : List Conclusion) → length (gather conclusionWords ks) ≡ length ks * 2
-unfolding gather
-length-pairs [] = refl
-length-pairs (k ∷ ks) = omega (arith, length-pairs ks)
 
 -- ROWS of four words
 four : (l : List ℕ) (m i : ℕ) → i * 4 + 4 ≤ length l

@@ -13,11 +13,12 @@ use Rattle.model.specs.Block.{Block}
 use Rattle.model.specs.Keywords.{NUMBER}
 use Rattle.model.specs.Parse.{is, text, aCrisp, aUnit}
 use Rattle.model.specs.Tokens.{isCrisp, isUnit, isRuleNumber, isDigit, valueOf, unitOf, decimal}
+use Rattle.laws.proofs.Tests.{clash}
 use Rattle.laws.proofs.Slices.{part}
 use Rattle.numerals.specs.Written.{crispWritten, unitWritten, ruleNumberWritten}
 use Rattle.cursor.specs.declared.Cursor.{Cursor}
 use Rattle.cursor.specs.View.{seen, textOf, fault}
-use Rattle.cursor.proofs.Laws.{kind-seen, text-seen, clash}
+use Rattle.cursor.proofs.Laws.{kind-seen, text-seen}
 
 -- what stands for a number that passes
 pub value-here : {A : Type 0} (w : ℕ) (x v z : A) → x ≡ (if eqb w 0 then v else z) → w ≡ 0 → x ≡ v

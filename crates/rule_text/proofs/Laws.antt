@@ -17,15 +17,15 @@ use Rattle.model.specs.Parse.{Parse, Part, kind, text, is, refuse, advance, cha
 use Rattle.model.specs.Tokens.{decimal, unitOf, isRuleNumber}
 use Rattle.model.specs.Declarations.{inputOf, outputOf, termOf, singletonOf, isOutput, isSingleton}
 use Rattle.model.specs.Rules.{ConditionRead, addRule, changeRule, ruleNumber, concludedTerm, conclusion, weight, weighted, condition, conditionWith, parenthesis, ruleGiven, ruleFrom, rule}
+use Rattle.laws.proofs.Tests.{clash}
 use Rattle.laws.proofs.Conditions.{length-postfix}
-use Rattle.laws.proofs.Lists.{gather-append, gather-last, total-last}
+use Rattle.laws.proofs.Lists.{gather-append, gather-last, total-last, updateLast-snoc}
 use Rattle.laws.proofs.Again.{Again, again-more, again-end, repeats, once-more, no-more}
 use Rattle.cursor.specs.declared.Cursor.{Cursor}
 use Rattle.cursor.specs.View.{seen, textOf, Fits, left, Step, fault}
-use Rattle.cursor.proofs.Laws.{kind-seen, text-seen, block-seen, changed, unchanged, clash, judged-bad, judged-good, numbered, lost-is, lost-expect, lost-judged, lost-repeated}
+use Rattle.cursor.proofs.Laws.{kind-seen, text-seen, block-seen, changed, unchanged, judged-bad, judged-good, numbered, lost-is, lost-expect, lost-judged, lost-repeated}
 use Rattle.block_tables.specs.declared.Totals.{Totals}
 use Rattle.block_tables.specs.Stored.{ruleRow}
-use Rattle.block_tables.proofs.Lists.{updateLast-snoc}
 use Rattle.symbol_table.specs.Symbols.{Describes, outputCount, termCount, first, among}
 use Rattle.condition_text.specs.Pending.{Adds}
 use Rattle.condition_text.proofs.Laws.{adds, words-put}
