@@ -17,6 +17,7 @@ use Rattle.model.specs.Declarations.{inputOf, termOf, isInput, isTerm}
 use Rattle.model.specs.Rules.{ConditionRead, conditionRead, word, conditionTerm, termOrNot, subcondition, negatedRead, closed, chainOn, chain, conditionWith, parenthesis}
 use Rattle.laws.proofs.Lists.{sets-append}
 use Rattle.laws.proofs.Again.{Again, again-more, again-end}
+use Rattle.laws.proofs.Repetition.{join, no-join}
 use Rattle.cursor.specs.declared.Cursor.{Cursor}
 use Rattle.cursor.specs.View.{seen, textOf, Fits, left, Step, fault}
 use Rattle.cursor.proofs.Laws.{enough, kind-seen, text-seen, block-seen, words-seen, lost-kind, lost-refuse, lost-expect, judged-bad, judged-good, numbered}
@@ -261,19 +262,6 @@ module _ (part : Parse → ConditionRead) (k : ℕ) (o : Op) (s : List ℕ) (b :
   pub begins : (p : Pending) (l : List ℕ) → Going part k o s b p l p l
   begins p l n t₀ h = (t₀, (n, h, refl), λ m old a. a)
 
-  -- g with the operator at its token and the operand behind it
-  abbrev joined : ConditionRead → ConditionRead
-  joined g = conditionRead (part (word (g .parse)) .parse) (two o (g .tree) (part (word (g .parse)) .tree))
-
-  one-more : (g : ConditionRead) → kind (g .parse) ≡ k → (f : ℕ) → chainOn (suc f) part k o g ≡ chainOn f part k o (joined g)
-  unfolding chainOn
-  one-more g e f = λ i. elim (eq-eqb (kind (g .parse)) k e i) as (λ x. ConditionRead) [ true ↦ chainOn f part k o (joined g) | false ↦ g ]
-
-  none-more : (g : ConditionRead) → (kind (g .parse) ≡ k → ⊥) → (f : ℕ) → chainOn f part k o g ≡ g
-  unfolding chainOn
-  none-more g e zero = refl
-  none-more g e (suc f) = λ i. elim (ne-eqb (kind (g .parse)) k e i) as (λ x. ConditionRead) [ true ↦ chainOn f part k o (joined g) | false ↦ g ]
-
   -- q is p with its token counted, m what part reads from there, r that with the word put
   pub goes : (p₀ p q m r : Pending) (l₀ l mid new : List ℕ) → Going part k o s b p₀ l₀ p l → p .cursor .kind ≡ k → p .cursor .why ≡ 0
       → view q ≡ word (view p) → q .put ≡ p .put → Reads s b q m (part (view q)) l mid → Puts m r (opWord o) mid new
@@ -295,7 +283,7 @@ module _ (part : Parse → ConditionRead) (k : ℕ) (o : Op) (s : List ℕ) (b :
 
       turn : (f : ℕ) → chainOn (suc f) part k o before ≡ chainOn f part k o (conditionRead (view r) tree)
       turn f =
-          one-more before (kind-seen s (p .cursor) b (p .words) ∙ e) f
+          join k part o f before (eq-eqb _ _ (kind-seen s (p .cursor) b (p .words) ∙ e))
           ∙ ap (λ (x : Parse). chainOn f part k o (conditionRead (part x .parse) (two o (G n t₀ h .0) (part x .tree)))) (sym v)
           ∙ ap (λ (x : Parse). chainOn f part k o (conditionRead x tree)) (sym (put-seen s b u ∙ a .seen))
 
@@ -306,6 +294,7 @@ module _ (part : Parse → ConditionRead) (k : ℕ) (o : Op) (s : List ℕ) (b :
       let z = enough s (e .cursor) b (e .words) in
       let g = G (suc (length (view e .rest))) (part (view e) .tree) (omega arith) in
       subst (λ (x : ConditionRead). Reads s b e p x old l)
-      (again-end (λ f. chainOn f part k o) (none-more (conditionRead (view p) (g .0)) (λ z. n (sym (kind-seen s (p .cursor) b (p .words)) ∙ z))) (g .1)
+      (again-end (λ f. chainOn f part k o) (λ f. no-join k part o f (conditionRead (view p) (g .0))
+      (ne-eqb _ _ (λ z. n (sym (kind-seen s (p .cursor) b (p .words)) ∙ z)))) (g .1)
       ∙ ap (λ (x : Parse). chainOn (suc (length (view e .rest))) part k o (conditionRead x (part (view e) .tree))) (r .seen))
       (record { seen = refl; adds = g .2 (e .put) old (r .adds) })

@@ -20,7 +20,8 @@ use Rattle.model.specs.Rules.{ConditionRead, addRule, changeRule, ruleNumber, c
 use Rattle.laws.proofs.Tests.{clash}
 use Rattle.laws.proofs.Conditions.{length-postfix}
 use Rattle.laws.proofs.Lists.{gather-append, gather-last, total-last, updateLast-snoc}
-use Rattle.laws.proofs.Again.{Again, again-more, again-end, repeats, once-more, no-more}
+use Rattle.laws.proofs.Again.{Again, again-more, again-end, repeats}
+use Rattle.laws.proofs.Repetition.{turn, no-turn}
 use Rattle.cursor.specs.declared.Cursor.{Cursor}
 use Rattle.cursor.specs.View.{seen, textOf, Fits, left, Step, fault}
 use Rattle.cursor.proofs.Laws.{kind-seen, text-seen, block-seen, changed, unchanged, judged-bad, judged-good, numbered, lost-is, lost-expect, lost-judged, lost-repeated}
@@ -324,8 +325,8 @@ module _ (s : List ℕ) (b : Block) (rs : List Rule) (q : Rule) (m n : ℕ) wher
   unfolding another expect
   lists-go p₀ p r d l₀ l l′ x k a y lt = record {
     more = x .more ++ y .more;
-    again = again-more (repeats COMMA another) (λ f. once-more COMMA another (seen s (p .cursor) at m) (kind-seen s (p .cursor) at m ∙ k) f
-        ∙ ap (repeatOn f COMMA another) (sym turn)) lt (x .again);
+    again = again-more (repeats COMMA another) (λ f. turn COMMA another f (seen s (p .cursor) at m)
+        (eq-eqb _ _ (kind-seen s (p .cursor) at m ∙ k)) ∙ ap (repeatOn f COMMA another) (sym one)) lt (x .again);
     count = let u = length-append (x .more) (y .more) in let v = x .count in let w = y .count in omega arith;
     put = subst (λ (z : List ℕ). Adds (p₀ .count * 2) (r .count * 2) z l₀ l′) (sym (gather-append conclusionWords (x .more) (y .more)))
         (adds (x .put) (y .put));
@@ -334,8 +335,8 @@ module _ (s : List ℕ) (b : Block) (rs : List Rule) (q : Rule) (m n : ℕ) wher
       at : Block
       at = midst b rs (gives (x .more) q)
 
-      turn : seen s (r .cursor) (midst b rs (gives (x .more ++ y .more) q)) m ≡ another (seen s (p .cursor) at m)
-      turn =
+      one : seen s (r .cursor) (midst b rs (gives (x .more ++ y .more) q)) m ≡ another (seen s (p .cursor) at m)
+      one =
           ap (λ (z : Rule). seen s (r .cursor) (midst b rs z) m) (gives-more q (x .more) (y .more)) ∙ y .reads ∙ ap conclusion (a .reads at m)
           ∙ simp (kind-seen, eq-eqb _ _ k)
 
@@ -347,8 +348,8 @@ module _ (s : List ℕ) (b : Block) (rs : List Rule) (q : Rule) (m n : ℕ) wher
     more = x .more;
     reads =
         again-end (repeats COMMA another)
-        (no-more COMMA another (seen s (p .cursor) (midst b rs (gives (x .more) q)) m)
-        (λ z. k (sym (kind-seen s (p .cursor) (midst b rs (gives (x .more) q)) m) ∙ z)))
+        (λ f. no-turn COMMA another f (seen s (p .cursor) (midst b rs (gives (x .more) q)) m)
+        (ne-eqb _ _ (λ z. k (sym (kind-seen s (p .cursor) (midst b rs (gives (x .more) q)) m) ∙ z))))
         (x .again) ∙ ap (λ (i : ℕ). repeatOn i COMMA another (seen s (p₀ .cursor) (midst b rs q) m)) e;
     count = x .count;
     put = x .put;
@@ -521,9 +522,9 @@ module _ (s : List ℕ) (b : Block) (rs₀ : List Rule) (n : ℕ) where
   runs-go q₀ q r rows ws ks rows′ ws′ ks′ x k y lt =
       let at = seen s (q .cursor) (holding (x .rules) b) (q .totals .words) in
       let stands = kind-seen s (q .cursor) (holding (x .rules) b) (q .totals .words) ∙ k in
-      let turn : (f : ℕ) → repeatOn (suc f) RULE rule at ≡ repeatOn f RULE rule (seen s (r .cursor) (holding (y .rules) b) (r .totals .words)) =
-      λ f. once-more RULE rule at stands f ∙ ap (repeatOn f RULE rule) (sym (y .reads)) in
-      record { rules = y .rules; again = again-more (repeats RULE rule) turn lt (x .again); kept = y .kept }
+      let one : (f : ℕ) → repeatOn (suc f) RULE rule at ≡ repeatOn f RULE rule (seen s (r .cursor) (holding (y .rules) b) (r .totals .words)) =
+      λ f. turn RULE rule f at (eq-eqb _ _ stands) ∙ ap (repeatOn f RULE rule) (sym (y .reads)) in
+      record { rules = y .rules; again = again-more (repeats RULE rule) one lt (x .again); kept = y .kept }
 
 pub runs-end : (s : List ℕ) (b : Block) (p q₀ q : Progress) (rows₀ ws₀ ks₀ rows ws ks : List ℕ) (g : Goes rule s b p q₀ rows₀ ws₀ ks₀)
     → Runs s b (g .rules) (suc (length (seen s (q₀ .cursor) (holding (g .rules) b) (q₀ .totals .words) .rest))) q₀ q rows ws ks → (q .cursor .kind ≡ RULE → ⊥)
@@ -533,8 +534,8 @@ runs-end s b p q₀ q rows₀ ws₀ ks₀ rows ws ks g x k = record {
   rules = x .rules;
   reads =
       again-end (repeats RULE rule)
-      (no-more RULE rule (seen s (q .cursor) (holding (x .rules) b) (q .totals .words))
-      (λ z. k (sym (kind-seen s (q .cursor) (holding (x .rules) b) (q .totals .words)) ∙ z)))
+      (λ f. no-turn RULE rule f (seen s (q .cursor) (holding (x .rules) b) (q .totals .words))
+      (ne-eqb _ _ (λ z. k (sym (kind-seen s (q .cursor) (holding (x .rules) b) (q .totals .words)) ∙ z))))
       (x .again) ∙ ap (repeated RULE rule) (g .reads);
   kept = x .kept;
 }
