@@ -1,4 +1,5 @@
-// One evaluation call, and the fresh held record, of any bytes: the checks 11, 12, 13, 14 in this order, then the answers.
+// One evaluation call, and the fresh held record, of any bytes: the checks 11, 12, 13, 14 in this order, then the
+// answers.
 ghost use mathlib.Core.Path.{_≡_};
 ghost use Rattle.model.specs.Outcome.{verdictIn};
 ghost use Rattle.model.specs.Refusals.{refusalOf, verdictOf};
