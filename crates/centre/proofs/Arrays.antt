@@ -48,5 +48,6 @@ pub positions-crisp : (ps : List Crisp) (n : ℕ) → n ≤ length ps → ((k : 
 positions-crisp ps n h f k l =
     let z : Crisp = record { 0 = pos 0 } in
     let b : k < n = omega (arith, positions-length ps n h) in
-    let e : getD (positions ps n) k (pos 0) ≡ positionAt ps k = List·getD-map (λ (c : Crisp). c .0) (take n ps) k z ∙ ap (λ (c : Crisp). c .0) (getD-take n ps k z b) in
+    let e : getD (positions ps n) k (pos 0) ≡ positionAt ps k = List·getD-map (λ (c : Crisp). c .0) (take n ps) k z
+    ∙ ap (λ (c : Crisp). c .0) (getD-take n ps k z b) in
     subst InCrisp (sym e) (f k b)

@@ -43,11 +43,13 @@ module _ (ps : List ℤ) (hs : List ℕ) (even : length ps ≡ length hs) (crisp
   pub from-low : (lo : ℤ) → InCrisp lo → ((k : ℕ) → k < length ps → 0 < getD hs k 0 → lo ≤ℤ getD ps k (pos 0)) → lo ≤ℤ nearestℤ (moment ps hs) (sumOf hs)
   from-low lo i f =
       let r = nearest (lifted ps hs) (sumOf hs) in
-      let q : above lo ≤ r = nearest-ge (above lo) (lifted ps hs) (sumOf hs) some (low-lifted (above lo) ps hs even (λ k l h. above-mono lo (getD ps k (pos 0)) i (crisp k l) (f k l h))) in
+      let q : above lo ≤ r = nearest-ge (above lo) (lifted ps hs) (sumOf hs) some
+      (low-lifted (above lo) ps hs even (λ k l h. above-mono lo (getD ps k (pos 0)) i (crisp k l) (f k l h))) in
       rw (nearest-is ps hs even crisp some) (subst (λ (z : ℤ). z ≤ℤ subℕ r crispLimit) (sym (crisp-is lo i)) (diff-le (above lo) r crispLimit q))
 
   pub to-high : (hi : ℤ) → InCrisp hi → ((k : ℕ) → k < length ps → 0 < getD hs k 0 → getD ps k (pos 0) ≤ℤ hi) → nearestℤ (moment ps hs) (sumOf hs) ≤ℤ hi
   to-high hi i f =
       let r = nearest (lifted ps hs) (sumOf hs) in
-      let q : r ≤ above hi = nearest-le (above hi) (lifted ps hs) (sumOf hs) some (lifted-high (above hi) ps hs even (λ k l h. above-mono (getD ps k (pos 0)) hi (crisp k l) i (f k l h))) in
+      let q : r ≤ above hi = nearest-le (above hi) (lifted ps hs) (sumOf hs) some
+      (lifted-high (above hi) ps hs even (λ k l h. above-mono (getD ps k (pos 0)) hi (crisp k l) i (f k l h))) in
       rw (nearest-is ps hs even crisp some) (subst (λ (z : ℤ). subℕ r crispLimit ≤ℤ z) (sym (crisp-is hi i)) (diff-le r (above hi) crispLimit q))

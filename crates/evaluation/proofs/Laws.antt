@@ -97,7 +97,8 @@ module _ (ds es : List ℕ) (agree : (t : ℕ) → getD ds t 0 ≡ getD es t 0) 
   pub height-agrees : (b : Block) (t : ℕ) → height b ds t ≡ height b es t
   unfolding height subconclusions
   height-agrees b t =
-      ap (λ (q : Rule → ℕ). accumulateAll (b .accu) 0 (gather (λ r. gather (λ k. if eqb (k .term) t then q r ∷ [] else []) (r .conclusions)) (b .rules))) (rule-agrees b)
+      ap (λ (q : Rule → ℕ). accumulateAll (b .accu) 0 (gather (λ r. gather (λ k. if eqb (k .term) t then q r ∷ [] else []) (r .conclusions)) (b .rules)))
+      (rule-agrees b)
 
 -- answers by heights that agree from the first output term on
 pub answers-agree : (b : Block) (f g : ℕ → ℕ) (i : ℕ) (vs : List Output) (held : List ℤ) → ((t : ℕ) → length (inputTerms b) ≤ t → f t ≡ g t)

@@ -83,7 +83,7 @@ default-fits (some x) h = (omega arith, (crisp-fits x (h x refl), tt))
 
 -- ROWS, X being what is known of the rows that are left
 module _ {R S : Type 0} (enc : S → R → List ℕ) (next : S → R → S) (X : S → List R → Type 0)
-         (row : (σ : S) (r : R) (rs : List R) → X σ (r ∷ rs) → Each Fits (enc σ r) × X (next σ r) rs) where
+    (row : (σ : S) (r : R) (rs : List R) → X σ (r ∷ rs) → Each Fits (enc σ r) × X (next σ r) rs) where
   laid-fits : (σ : S) (rs : List R) → X σ rs → Each Fits (laid enc next σ rs)
   unfolding laid
   laid-fits σ [] x = tt
@@ -97,7 +97,7 @@ held items n r rs h = let e = length-append (items r) (gather items rs) in (omeg
 
 -- rows of a name and more, that hold items of another table: how many, and the first of them
 module _ {R A : Type 0} (name : R → List ℕ) (items : R → List A) (more : ℕ → R → List ℕ) (Good : R → Type 0)
-         (spelt : (r : R) → Good r → Spelt (name r)) (fits : (n : ℕ) (r : R) → Good r → Fits n → Fits (length (items r)) → Each Fits (more n r)) where
+    (spelt : (r : R) → Good r → Spelt (name r)) (fits : (n : ℕ) (r : R) → Good r → Fits n → Fits (length (items r)) → Each Fits (more n r)) where
   named-fit : (n : ℕ) (rs : List R) → Each Good rs → Fits (n + length (gather items rs))
       → Each Fits (laid (λ m r. nameWords (name r) ++ more m r) (λ m r. m + length (items r)) n rs)
   named-fit n rs s l = laid-fits _ _ X row n rs (s, l)
@@ -255,11 +255,55 @@ module _ (b : Block) (h : wellFormed b ≡ true) where
       let r = c .rules in
       let w = c .words′ in
       let k = c .conclusions′ in
-      let names = each-append Fits (nameWords (b .name)) (nameWords (b .ruleBlock)) (name-fits (b .name) (f .name)) (name-fits (b .ruleBlock) (f .ruleBlock)) in
-      (omega arith, (omega arith,
-      (omega arith, (omega arith, (omega arith, (omega arith, (omega arith, (omega arith, (omega arith,
-      (omega arith, (omega arith, (omega arith, (omega arith, (omega arith, (omega arith, (omega arith,
-      (pair-fits (b .pair), (accu-fits (b .accu), (act-fits (b .act), (omega arith, names))))))))))))))))))))
+      let names = each-append Fits (nameWords (b .name)) (nameWords (b .ruleBlock)) (name-fits (b .name) (f .name)) (name-fits (b .ruleBlock) (f .ruleBlock)) in (
+        omega arith,
+        (
+          omega arith,
+          (
+            omega arith,
+            (
+              omega arith,
+              (
+                omega arith,
+                (
+                  omega arith,
+                  (
+                    omega arith,
+                    (
+                      omega arith,
+                      (
+                        omega arith,
+                        (
+                          omega arith,
+                          (
+                            omega arith,
+                            (
+                              omega arith,
+                              (
+                                omega arith,
+                                (
+                                  omega arith,
+                                  (
+                                    omega arith,
+                                    (
+                                      omega arith,
+                                      (pair-fits (b .pair), (accu-fits (b .accu), (act-fits (b .act), (omega arith, names)))),
+                                    ),
+                                  ),
+                                ),
+                              ),
+                            ),
+                          ),
+                        ),
+                      ),
+                    ),
+                  ),
+                ),
+              ),
+            ),
+          ),
+        ),
+      )
 
   -- POINTS, RULES AND CONCLUSIONS
   points-fit : Each Fits (gather pointWords (points b))

@@ -22,15 +22,15 @@ use Rattle.layout.specs.Rows.{laid}
 use Rattle.layout.specs.Tables.{inputRow, inputNext, outputRow, outputNext, termRow, termNext, ruleRow, ruleNext, alone, onward}
 use Rattle.layout.proofs.TableLaws.{input-table, output-table, term-table, rule-table, gather-laid}
 use Rattle.layout.proofs.Parts.{range-long, wide-input, wide-output, wide-term}
-use Rattle.stored_conditions.proofs.Stored.{tree-at}
+use Rattle.stored_conditions.proofs.Trees.{tree-at}
 use Rattle.laws.proofs.Each.{Each}
 use Rattle.image_laws.proofs.Fields.{Spelt, name-back, crisp-back}
 use Rattle.image_laws.proofs.Placed.{Placed}
 
 -- rows that are read back one by one, X being what is known of the rows that are left
 module _ {R S : Type 0} (enc : S → R → List ℕ) (next : S → R → S) (dec : ℕ → R) (w : ℕ → ℕ) (o s : ℕ) (wide : (σ : S) (r : R) → length (enc σ r) ≡ s)
-         (X : S → List R → Type 0)
-         (row : (i : ℕ) (σ : S) (r : R) (rs : List R) → At w (o + i * s) (enc σ r) → X σ (r ∷ rs) → (dec i ≡ r) × X (next σ r) rs) where
+    (X : S → List R → Type 0)
+    (row : (i : ℕ) (σ : S) (r : R) (rs : List R) → At w (o + i * s) (enc σ r) → X σ (r ∷ rs) → (dec i ≡ r) × X (next σ r) rs) where
   rows-from : (i : ℕ) (σ : S) (rs : List R) → At w (o + i * s) (laid enc next σ rs) → X σ rs → At dec i rs
   unfolding laid
   rows-from i σ [] a x = tt
@@ -225,6 +225,7 @@ module _ (w : ℕ → ℕ) (b : Block) (f : Fine b) (p : Placed w b) where
           let e4 = on o 4 _ (omega arith) ∙ a .1 .1 .1 .1 .0 in
           let ek = entries (conclusionAt w) (w (o + 4)) (w (o + 3)) (σ .1) (r .conclusions) e4 e3 (y .0) in
           let ew : w (o + 5) ≡ r .weight = on o 5 _ (omega arith) ∙ a .1 .1 .1 .1 .1 .0 in
-          let z : w 14 + σ .0 + length (postfix c) ≡ w 14 + (σ .0 + size c) = omega (arith, length-postfix c) in
-          ((λ j. record { number = a .0 j; condition = ec j; conclusions = ek j; weight = ew j }),
-          (at-shift w (w 14 + σ .0 + length (postfix c)) (w 14 + (σ .0 + size c)) rest z (u .1), y .1))
+          let z : w 14 + σ .0 + length (postfix c) ≡ w 14 + (σ .0 + size c) = omega (arith, length-postfix c) in (
+            (λ j. record { number = a .0 j; condition = ec j; conclusions = ek j; weight = ew j }),
+            (at-shift w (w 14 + σ .0 + length (postfix c)) (w 14 + (σ .0 + size c)) rest z (u .1), y .1),
+          )

@@ -11,7 +11,16 @@ use vectors::write_verdict;
 
 // A record that no refusal may change.
 fn lent_record() -> Held {
-    Held { figures: [Crisp(1), Crisp(-2), Crisp(30), Crisp(-400), Crisp(5000), Crisp(-60000)] }
+    Held {
+        figures: [
+            Crisp(1),
+            Crisp(-2),
+            Crisp(30),
+            Crisp(-400),
+            Crisp(5000),
+            Crisp(-60000),
+        ],
+    }
 }
 
 fn run_refused(img: &[u8]) {

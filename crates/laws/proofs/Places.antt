@@ -114,7 +114,8 @@ fill {A} {B} π f p i xs y h e q =
     ∙ ap (λ (k : ℕ). tab f k p) (sym one)
 
 -- an array of which the first i are values of f and the rest are d: one more
-pub fill-front : {A : Type 0} (f : ℕ → A) (d y : A) (n i : ℕ) → i < n → y ≡ f i → set (tab f i 0 ++ replicate (n - i) d) i y ≡ tab f (i + 1) 0 ++ replicate (n - (i + 1)) d
+pub fill-front : {A : Type 0} (f : ℕ → A) (d y : A) (n i : ℕ) → i < n → y ≡ f i
+    → set (tab f i 0 ++ replicate (n - i) d) i y ≡ tab f (i + 1) 0 ++ replicate (n - (i + 1)) d
 fill-front {A} f d y n i h e =
     let m : n - i ≡ suc (n - (i + 1)) = omega arith in
     let rest = replicate (n - (i + 1)) d in

@@ -134,8 +134,10 @@ module _ (w : ℕ → ℕ) where
       → gather (λ t. t .points) (tab (outputTermAt w) (outputTermsIn w) (inputTermsIn w)) ≡ tab (outputPointAt w) (outputTermsIn w) (inputPointsIn w)
   unfolding outputTermRows singletonAt tab
   output-points h =
-      gather-runs (λ t. t .points) (outputTermAt w) (outputPointAt w) termFirst (λ j. 1) (outputTermsIn w) (inputTermsIn w) (inputPointsIn w) (each _ (λ j. refl) (outputTermsIn w) (inputTermsIn w))
-      (runs-from termRow termNext (outputTermAt w) w (w 11) 6 (λ n. n) termFirst (λ j. 1) (λ i n e. output-term-row i n e) (outputTermsIn w) (inputTermsIn w) (inputPointsIn w) h)
+      gather-runs (λ t. t .points) (outputTermAt w) (outputPointAt w) termFirst (λ j. 1) (outputTermsIn w) (inputTermsIn w) (inputPointsIn w)
+      (each _ (λ j. refl) (outputTermsIn w) (inputTermsIn w))
+      (runs-from termRow termNext (outputTermAt w) w (w 11) 6 (λ n. n) termFirst (λ j. 1) (λ i n e. output-term-row i n e) (outputTermsIn w) (inputTermsIn w)
+      (inputPointsIn w) h)
       ∙ ap (λ (n : ℕ). tab (outputPointAt w) n (inputPointsIn w)) (sums-one (outputTermsIn w) (inputTermsIn w))
 
   pub points-are : inputRows w ≡ true → outputRows w ≡ true → inputTermRows w ≡ true → outputTermRows w ≡ true

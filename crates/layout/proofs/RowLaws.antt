@@ -59,7 +59,8 @@ laid-append enc next dec (suc k) i σ rs =
     ap (λ (l : List ℕ). enc σ (dec i) ++ l) (laid-append enc next dec k (suc i) (next σ (dec i)) rs)
     ∙ sym (append-assoc (enc σ (dec i)) (laid enc next (next σ (dec i)) (tab dec k (suc i))) (laid enc next (after next dec k (suc i) (next σ (dec i))) rs))
 
-pub after-sums : {R : Type 0} (next : ℕ → R → ℕ) (dec : ℕ → R) (c : ℕ → ℕ) → ((i n : ℕ) → next n (dec i) ≡ n + c i) → (k i n : ℕ) → after next dec k i n ≡ n + sums c k i
+pub after-sums : {R : Type 0} (next : ℕ → R → ℕ) (dec : ℕ → R) (c : ℕ → ℕ) → ((i n : ℕ) → next n (dec i) ≡ n + c i) → (k i n : ℕ)
+    → after next dec k i n ≡ n + sums c k i
 unfolding after sums
 after-sums next dec c e zero i n = omega arith
 after-sums next dec c e (suc k) i n = after-sums next dec c e k (suc i) (next n (dec i)) ∙ omega (arith, e i n)

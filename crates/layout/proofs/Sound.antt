@@ -95,5 +95,6 @@ module _ (w : ℕ → ℕ) (s : Sound w) where
       x = singletonAt w (outputFirstAt w i + k) .at
 
   -- in numbers
-  pub output-numbers : (i : ℕ) → i < w 3 → (i ≤ 5) × (outputCount w i ≤ 7) × (inputTermsIn w ≤ outputFirstAt w i) × (outputFirstAt w i - inputTermsIn w + outputCount w i ≤ 42)
+  pub output-numbers : (i : ℕ) → i < w 3
+      → (i ≤ 5) × (outputCount w i ≤ 7) × (inputTermsIn w ≤ outputFirstAt w i) × (outputFirstAt w i - inputTermsIn w + outputCount w i ≤ 42)
   output-numbers i h = omega (arith, outputs-few, terms-few i h, first-is w (s .frame) i h, before-few i h)

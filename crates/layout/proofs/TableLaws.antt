@@ -22,8 +22,10 @@ pub output-table : (n : ℕ) (vs : List Output) → outputTable n vs ≡ laid ou
 unfolding outputTable laid nameWords
 output-table n [] = refl
 output-table n (v ∷ vs) =
-    ap (λ (l : List ℕ). nameWords (v .name) ++ (n ∷ length (v .terms) ∷ (rangeWords (v .range) ++ (defaultWords (v .default) ++ l)))) (output-table (outputNext n v) vs)
-    ∙ ap (λ (l : List ℕ). nameWords (v .name) ++ (n ∷ length (v .terms) ∷ l)) (sym (append-assoc (rangeWords (v .range)) (defaultWords (v .default)) (laid outputRow outputNext (outputNext n v) vs)))
+    ap (λ (l : List ℕ). nameWords (v .name) ++ (n ∷ length (v .terms) ∷ (rangeWords (v .range) ++ (defaultWords (v .default) ++ l))))
+    (output-table (outputNext n v) vs)
+    ∙ ap (λ (l : List ℕ). nameWords (v .name) ++ (n ∷ length (v .terms) ∷ l))
+    (sym (append-assoc (rangeWords (v .range)) (defaultWords (v .default)) (laid outputRow outputNext (outputNext n v) vs)))
 
 pub term-table : (n : ℕ) (ts : List Term) → termTable n ts ≡ laid termRow termNext n ts
 unfolding termTable laid nameWords

@@ -58,7 +58,8 @@ module _ (w : ℕ → ℕ) where
         refl,
         (
           ap w (omega arith),
-          at-shift w (w 15 + suc i * 2) (suc (suc o)) (laid (alone conclusionWords) onward tt (tab (conclusionAt w) k (suc i))) (omega arith) (conclusions-stand k (suc i)),
+          at-shift w (w 15 + suc i * 2) (suc (suc o)) (laid (alone conclusionWords) onward tt (tab (conclusionAt w) k (suc i))) (omega arith)
+              (conclusions-stand k (suc i)),
         ),
       )
 
@@ -73,20 +74,24 @@ module _ (w : ℕ → ℕ) where
 
   -- the table of terms: those of the inputs, then those of the outputs
   terms-laid : inputRows w ≡ true → outputRows w ≡ true
-      → termTable 0 (terms (decode w)) ≡ laid termRow termNext 0 (tab (termAt w) (inputTermsIn w) 0) ++ laid termRow termNext (inputPointsIn w) (tab (outputTermAt w) (outputTermsIn w) (inputTermsIn w))
+      → termTable 0 (terms (decode w)) ≡ laid termRow termNext 0 (tab (termAt w) (inputTermsIn w) 0) ++ laid termRow termNext (inputPointsIn w)
+      (tab (outputTermAt w) (outputTermsIn w) (inputTermsIn w))
   terms-laid h g =
       ap (termTable 0) (terms-are w h g)
       ∙ term-table 0 (tab (termAt w) (inputTermsIn w) 0 ++ tab (outputTermAt w) (outputTermsIn w) (inputTermsIn w))
       ∙ laid-append termRow termNext (termAt w) (inputTermsIn w) 0 0 (tab (outputTermAt w) (outputTermsIn w) (inputTermsIn w))
-      ∙ ap (λ (n : ℕ). laid termRow termNext 0 (tab (termAt w) (inputTermsIn w) 0) ++ laid termRow termNext n (tab (outputTermAt w) (outputTermsIn w) (inputTermsIn w)))
+      ∙ ap (λ (n : ℕ). laid termRow termNext 0 (tab (termAt w) (inputTermsIn w) 0) ++ laid termRow termNext n
+      (tab (outputTermAt w) (outputTermsIn w) (inputTermsIn w)))
       (after-sums termNext (termAt w) (termCount w) term-next (inputTermsIn w) 0 0 ∙ omega arith)
 
   points-laid : inputRows w ≡ true → outputRows w ≡ true → inputTermRows w ≡ true → outputTermRows w ≡ true
-      → gather pointWords (points (decode w)) ≡ laid (alone pointWords) onward tt (tab (pointAt w) (inputPointsIn w) 0) ++ laid (alone pointWords) onward tt (tab (outputPointAt w) (outputTermsIn w) (inputPointsIn w))
+      → gather pointWords (points (decode w)) ≡ laid (alone pointWords) onward tt (tab (pointAt w) (inputPointsIn w) 0) ++ laid (alone pointWords) onward tt
+      (tab (outputPointAt w) (outputTermsIn w) (inputPointsIn w))
   points-laid h g k l =
       ap (gather pointWords) (points-are w h g k l)
       ∙ gather-append pointWords (tab (pointAt w) (inputPointsIn w) 0) (tab (outputPointAt w) (outputTermsIn w) (inputPointsIn w))
-      ∙ (λ j. gather-laid pointWords (tab (pointAt w) (inputPointsIn w) 0) j ++ gather-laid pointWords (tab (outputPointAt w) (outputTermsIn w) (inputPointsIn w)) j)
+      ∙ (λ j. gather-laid pointWords (tab (pointAt w) (inputPointsIn w) 0) j ++ gather-laid pointWords
+      (tab (outputPointAt w) (outputTermsIn w) (inputPointsIn w)) j)
 
   -- how long the tables are
   inputs-long : (n : ℕ) → length (inputTable n (decode w .inputs)) ≡ w 2 * 7
@@ -151,7 +156,8 @@ module _ (w : ℕ → ℕ) where
       ap length (terms-are w h g) ∙ length-append (tab (termAt w) (inputTermsIn w) 0) (tab (outputTermAt w) (outputTermsIn w) (inputTermsIn w))
       ∙ (λ j. length-tab (termAt w) (inputTermsIn w) 0 j + length-tab (outputTermAt w) (outputTermsIn w) (inputTermsIn w) j)
 
-  points-count : inputRows w ≡ true → outputRows w ≡ true → inputTermRows w ≡ true → outputTermRows w ≡ true → length (points (decode w)) ≡ inputPointsIn w + outputTermsIn w
+  points-count : inputRows w ≡ true → outputRows w ≡ true → inputTermRows w ≡ true → outputTermRows w ≡ true
+      → length (points (decode w)) ≡ inputPointsIn w + outputTermsIn w
   points-count h g k l =
       ap length (points-are w h g k l) ∙ length-append (tab (pointAt w) (inputPointsIn w) 0) (tab (outputPointAt w) (outputTermsIn w) (inputPointsIn w))
       ∙ (λ j. length-tab (pointAt w) (inputPointsIn w) 0 j + length-tab (outputPointAt w) (outputTermsIn w) (inputPointsIn w) j)
@@ -167,7 +173,8 @@ module _ (w : ℕ → ℕ) where
   codes = leb (w 16) 2 ∷ leb (w 17) 1 ∷ leb (w 18) 1 ∷ eqb (w 19) 0 ∷ nameExact w 20 ∷ nameExact w 24 ∷ []
 
   abbrev codeWords : List ℕ
-  codeWords = pairWord (decode w .pair) ∷ accuWord (decode w .accu) ∷ actWord (decode w .act) ∷ 0 ∷ (nameWords (decode w .name) ++ nameWords (decode w .ruleBlock))
+  codeWords =
+      pairWord (decode w .pair) ∷ accuWord (decode w .accu) ∷ actWord (decode w .act) ∷ 0 ∷ (nameWords (decode w .name) ++ nameWords (decode w .ruleBlock))
 
   tail-stands : Every codes → At w 16 codeWords
   unfolding decode nameExact nameWords
@@ -241,7 +248,8 @@ module _ (w : ℕ → ℕ) where
         ),
       )
 
-  offsets-from : headerOk w ≡ true → inputRows w ≡ true → outputRows w ≡ true → inputTermRows w ≡ true → outputTermRows w ≡ true → ruleRows w ≡ true → conditionRows w ≡ true
+  offsets-from : headerOk w ≡ true → inputRows w ≡ true → outputRows w ≡ true → inputTermRows w ≡ true → outputTermRows w ≡ true → ruleRows w ≡ true
+      → conditionRows w ≡ true
       → countsOk w ≡ true → Offsets
   unfolding headerOk countsOk
   offsets-from h ir or it ot rr cr co =
@@ -298,14 +306,16 @@ module _ (w : ℕ → ℕ) where
   inputs-stand : Offsets → inputRows w ≡ true → At w 28 I
   unfolding inputRows decode
   inputs-stand f h =
-      lay (w 9 + 0 * 7) 28 (laid inputRow inputNext 0 (tab (inputAt w) (w 2) 0)) (inputTable 0 (tab (inputAt w) (w 2) 0)) (omega (arith, f .at9)) (sym (input-table 0 (tab (inputAt w) (w 2) 0)))
+      lay (w 9 + 0 * 7) 28 (laid inputRow inputNext 0 (tab (inputAt w) (w 2) 0)) (inputTable 0 (tab (inputAt w) (w 2) 0)) (omega (arith, f .at9))
+      (sym (input-table 0 (tab (inputAt w) (w 2) 0)))
       (rows-out inputRow inputNext (inputAt w) w (w 9) 7 wide-input (w 2) 0 0 h)
 
   outputs-stand : Offsets → inputRows w ≡ true → outputRows w ≡ true → At w (28 + w 2 * 7) O
   unfolding outputRows decode
   outputs-stand f g h =
       let e : inputTermsIn w ≡ length (inputTerms (decode w)) = sym (ap length (inputTerms-are w g) ∙ length-tab (termAt w) (inputTermsIn w) 0) in
-      lay (w 10 + 0 * 11) (28 + w 2 * 7) (laid outputRow outputNext (inputTermsIn w) (tab (outputAt w) (w 3) 0)) (outputTable (length (inputTerms (decode w))) (tab (outputAt w) (w 3) 0))
+      lay (w 10 + 0 * 11) (28 + w 2 * 7) (laid outputRow outputNext (inputTermsIn w) (tab (outputAt w) (w 3) 0))
+      (outputTable (length (inputTerms (decode w))) (tab (outputAt w) (w 3) 0))
       (omega (arith, f .at10))
       (sym (output-table (inputTermsIn w) (tab (outputAt w) (w 3) 0)) ∙ ap (λ (n : ℕ). outputTable n (tab (outputAt w) (w 3) 0)) e)
       (rows-out outputRow outputNext (outputAt w) w (w 10) 11 wide-output (w 3) 0 (inputTermsIn w) h)
@@ -316,20 +326,23 @@ module _ (w : ℕ → ℕ) where
       let T1 = laid termRow termNext 0 (tab (termAt w) (inputTermsIn w) 0) in
       let T2 = laid termRow termNext (inputPointsIn w) (tab (outputTermAt w) (outputTermsIn w) (inputTermsIn w)) in
       let l1 : length T1 ≡ inputTermsIn w * 6 =
-      length-laid termRow termNext (termAt w) w 0 6 wide-term 0 (tab (termAt w) (inputTermsIn w) 0) ∙ ap (λ (x : ℕ). x * 6) (length-tab (termAt w) (inputTermsIn w) 0) in
+      length-laid termRow termNext (termAt w) w 0 6 wide-term 0 (tab (termAt w) (inputTermsIn w) 0)
+      ∙ ap (λ (x : ℕ). x * 6) (length-tab (termAt w) (inputTermsIn w) 0) in
       lay (w 11) (w 11) (T1 ++ T2) T refl (sym (terms-laid ir or))
       (at-join w (w 11) T1 T2
       (at-shift w (w 11 + 0 * 6) (w 11) T1 (omega arith) (rows-out termRow termNext (termAt w) w (w 11) 6 wide-term (inputTermsIn w) 0 0 it))
       (at-shift w (w 11 + inputTermsIn w * 6) (w 11 + length T1) T2 (omega arith)
       (rows-out termRow termNext (outputTermAt w) w (w 11) 6 wide-term (outputTermsIn w) (inputTermsIn w) (inputPointsIn w) ot)))
 
-  all-points-stand : ((k : ℕ) → w k ≤ 4294967295) → inputRows w ≡ true → outputRows w ≡ true → inputTermRows w ≡ true → outputTermRows w ≡ true → outputPointRows w ≡ true → At w (w 12) P
+  all-points-stand : ((k : ℕ) → w k ≤ 4294967295) → inputRows w ≡ true → outputRows w ≡ true → inputTermRows w ≡ true → outputTermRows w ≡ true
+      → outputPointRows w ≡ true → At w (w 12) P
   unfolding outputPointRows
   all-points-stand b ir or it ot op =
       let P1 = laid (alone pointWords) onward tt (tab (pointAt w) (inputPointsIn w) 0) in
       let P2 = laid (alone pointWords) onward tt (tab (outputPointAt w) (outputTermsIn w) (inputPointsIn w)) in
       let l1 : length P1 ≡ inputPointsIn w * 2 =
-      length-laid (alone pointWords) onward (pointAt w) w 0 2 (λ σ p. refl) tt (tab (pointAt w) (inputPointsIn w) 0) ∙ ap (λ (x : ℕ). x * 2) (length-tab (pointAt w) (inputPointsIn w) 0) in
+      length-laid (alone pointWords) onward (pointAt w) w 0 2 (λ σ p. refl) tt (tab (pointAt w) (inputPointsIn w) 0)
+      ∙ ap (λ (x : ℕ). x * 2) (length-tab (pointAt w) (inputPointsIn w) 0) in
       lay (w 12) (w 12) (P1 ++ P2) P refl (sym (points-laid ir or it ot))
       (at-join w (w 12) P1 P2
       (at-shift w (w 12 + 0 * 2) (w 12) P1 (omega arith) (points-stand b (inputPointsIn w) 0))
@@ -339,7 +352,8 @@ module _ (w : ℕ → ℕ) where
   rules-stand : ruleRows w ≡ true → At w (w 13) R
   unfolding ruleRows decode
   rules-stand h =
-      lay (w 13 + 0 * 6) (w 13) (laid ruleRow ruleNext (0, 0) (tab (ruleAt w) (w 6) 0)) (ruleTable 0 0 (tab (ruleAt w) (w 6) 0)) (omega arith) (sym (rule-table 0 0 (tab (ruleAt w) (w 6) 0)))
+      lay (w 13 + 0 * 6) (w 13) (laid ruleRow ruleNext (0, 0) (tab (ruleAt w) (w 6) 0)) (ruleTable 0 0 (tab (ruleAt w) (w 6) 0)) (omega arith)
+      (sym (rule-table 0 0 (tab (ruleAt w) (w 6) 0)))
       (rows-out ruleRow ruleNext (ruleAt w) w (w 13) 6 (λ σ r. refl) (w 6) 0 (0, 0) h)
 
   conditions-stand : ruleRows w ≡ true → conditionRows w ≡ true → At w (w 14) C
@@ -362,7 +376,8 @@ module _ (w : ℕ → ℕ) where
     pub words′ : length C ≡ w 7
     pub conclusions′ : length K ≡ w 8 * 2
 
-  lengths-from : length (terms (decode w)) ≡ w 4 → length (points (decode w)) ≡ w 5 → total (λ r. size (r .condition)) (decode w .rules) ≡ w 7 → length (conclusions (decode w)) ≡ w 8 → Lengths
+  lengths-from : length (terms (decode w)) ≡ w 4 → length (points (decode w)) ≡ w 5 → total (λ r. size (r .condition)) (decode w .rules) ≡ w 7
+      → length (conclusions (decode w)) ≡ w 8 → Lengths
   lengths-from t p c k = record {
     inputs = inputs-long 0;
     outputs = outputs-long (length (inputTerms (decode w)));
@@ -420,13 +435,22 @@ module _ (w : ℕ → ℕ) where
       let f : Offsets = offsets-from (t .0) ir or it ot rr cr (t .1 .1 .1 .1 .1 .1 .1 .1 .0) in
       let l : Lengths = lengths-from (f .terms′) (f .points′) (f .words′) (f .conclusions′) in
       let K′ : At w (w 14 + length C) K = at-shift w (w 15) (w 14 + length C) K (omega (arith, f .at14, f .at15, l .words′)) (all-conclusions-stand rr) in
-      let C′ : At w (w 13 + length R) (C ++ K) = at-shift w (w 14) (w 13 + length R) (C ++ K) (omega (arith, f .at13, f .at14, l .rules)) (at-join w (w 14) C K (conditions-stand rr cr) K′) in
-      let R′ : At w (w 12 + length P) (R ++ (C ++ K)) = at-shift w (w 13) (w 12 + length P) (R ++ (C ++ K)) (omega (arith, f .at12, f .at13, l .points′)) (at-join w (w 13) R (C ++ K) (rules-stand rr) C′) in
-      let P′ : At w (w 11 + length T) (P ++ (R ++ (C ++ K))) = at-shift w (w 12) (w 11 + length T) (P ++ (R ++ (C ++ K))) (omega (arith, f .at11, f .at12, l .terms′)) (at-join w (w 12) P (R ++ (C ++ K)) (all-points-stand b ir or it ot op) R′) in
-      let T′ : At w (28 + w 2 * 7 + length O) (T ++ (P ++ (R ++ (C ++ K)))) = at-shift w (w 11) (28 + w 2 * 7 + length O) (T ++ (P ++ (R ++ (C ++ K)))) (omega (arith, f .at11, l .outputs)) (at-join w (w 11) T (P ++ (R ++ (C ++ K))) (terms-stand f ir or it ot) P′) in
-      let O′ : At w (28 + length I) (O ++ (T ++ (P ++ (R ++ (C ++ K))))) = at-shift w (28 + w 2 * 7) (28 + length I) (O ++ (T ++ (P ++ (R ++ (C ++ K))))) (omega (arith, l .inputs)) (at-join w (28 + w 2 * 7) O (T ++ (P ++ (R ++ (C ++ K)))) (outputs-stand f ir or) T′) in
-      let I′ : At w (0 + length (header (decode w))) tables = at-shift w 28 (0 + length (header (decode w))) tables (omega (arith, header-long)) (at-join w 28 I (O ++ (T ++ (P ++ (R ++ (C ++ K))))) (inputs-stand f ir) O′) in
-      (lay 0 0 (header (decode w) ++ tables) (words (decode w)) refl (sym words-are) (at-join w 0 (header (decode w)) tables (header-stands f (t .0)) I′), words-long f l)
+      let C′ : At w (w 13 + length R) (C ++ K) = at-shift w (w 14) (w 13 + length R) (C ++ K) (omega (arith, f .at13, f .at14, l .rules))
+      (at-join w (w 14) C K (conditions-stand rr cr) K′) in
+      let R′ : At w (w 12 + length P) (R ++ (C ++ K)) = at-shift w (w 13) (w 12 + length P) (R ++ (C ++ K)) (omega (arith, f .at12, f .at13, l .points′))
+      (at-join w (w 13) R (C ++ K) (rules-stand rr) C′) in
+      let P′ : At w (w 11 + length T) (P ++ (R ++ (C ++ K))) = at-shift w (w 12) (w 11 + length T) (P ++ (R ++ (C ++ K)))
+      (omega (arith, f .at11, f .at12, l .terms′)) (at-join w (w 12) P (R ++ (C ++ K)) (all-points-stand b ir or it ot op) R′) in
+      let T′ : At w (28 + w 2 * 7 + length O) (T ++ (P ++ (R ++ (C ++ K)))) = at-shift w (w 11) (28 + w 2 * 7 + length O) (T ++ (P ++ (R ++ (C ++ K))))
+      (omega (arith, f .at11, l .outputs)) (at-join w (w 11) T (P ++ (R ++ (C ++ K))) (terms-stand f ir or it ot) P′) in
+      let O′ : At w (28 + length I) (O ++ (T ++ (P ++ (R ++ (C ++ K))))) = at-shift w (28 + w 2 * 7) (28 + length I) (O ++ (T ++ (P ++ (R ++ (C ++ K)))))
+      (omega (arith, l .inputs)) (at-join w (28 + w 2 * 7) O (T ++ (P ++ (R ++ (C ++ K)))) (outputs-stand f ir or) T′) in
+      let I′ : At w (0 + length (header (decode w))) tables = at-shift w 28 (0 + length (header (decode w))) tables (omega (arith, header-long))
+      (at-join w 28 I (O ++ (T ++ (P ++ (R ++ (C ++ K))))) (inputs-stand f ir) O′) in (
+        lay 0 0 (header (decode w) ++ tables) (words (decode w)) refl (sym words-are)
+            (at-join w 0 (header (decode w)) tables (header-stands f (t .0)) I′),
+        words-long f l,
+      )
 
   -- FROM THE WORDS TO THE TESTS
   codes-pass : At w 16 codeWords → Every codes
@@ -519,14 +543,16 @@ module _ (w : ℕ → ℕ) where
   unfolding inputRows decode
   inputs-pass f a =
       rows-in inputRow inputNext (inputAt w) w (w 9) 7 wide-input (w 2) 0 0
-      (lay 28 (w 9 + 0 * 7) (inputTable 0 (tab (inputAt w) (w 2) 0)) (laid inputRow inputNext 0 (tab (inputAt w) (w 2) 0)) (omega (arith, f .at9)) (input-table 0 (tab (inputAt w) (w 2) 0)) a)
+      (lay 28 (w 9 + 0 * 7) (inputTable 0 (tab (inputAt w) (w 2) 0)) (laid inputRow inputNext 0 (tab (inputAt w) (w 2) 0)) (omega (arith, f .at9))
+      (input-table 0 (tab (inputAt w) (w 2) 0)) a)
 
   outputs-pass : Offsets → inputRows w ≡ true → At w (28 + w 2 * 7) O → outputRows w ≡ true
   unfolding outputRows decode
   outputs-pass f g a =
       let e : length (inputTerms (decode w)) ≡ inputTermsIn w = ap length (inputTerms-are w g) ∙ length-tab (termAt w) (inputTermsIn w) 0 in
       rows-in outputRow outputNext (outputAt w) w (w 10) 11 wide-output (w 3) 0 (inputTermsIn w)
-      (lay (28 + w 2 * 7) (w 10 + 0 * 11) (outputTable (length (inputTerms (decode w))) (tab (outputAt w) (w 3) 0)) (laid outputRow outputNext (inputTermsIn w) (tab (outputAt w) (w 3) 0))
+      (lay (28 + w 2 * 7) (w 10 + 0 * 11) (outputTable (length (inputTerms (decode w))) (tab (outputAt w) (w 3) 0))
+      (laid outputRow outputNext (inputTermsIn w) (tab (outputAt w) (w 3) 0))
       (omega (arith, f .at10))
       (ap (λ (n : ℕ). outputTable n (tab (outputAt w) (w 3) 0)) e ∙ output-table (inputTermsIn w) (tab (outputAt w) (w 3) 0)) a)
 
@@ -536,7 +562,8 @@ module _ (w : ℕ → ℕ) where
       let T1 = laid termRow termNext 0 (tab (termAt w) (inputTermsIn w) 0) in
       let T2 = laid termRow termNext (inputPointsIn w) (tab (outputTermAt w) (outputTermsIn w) (inputTermsIn w)) in
       let l1 : length T1 ≡ inputTermsIn w * 6 =
-      length-laid termRow termNext (termAt w) w 0 6 wide-term 0 (tab (termAt w) (inputTermsIn w) 0) ∙ ap (λ (x : ℕ). x * 6) (length-tab (termAt w) (inputTermsIn w) 0) in
+      length-laid termRow termNext (termAt w) w 0 6 wide-term 0 (tab (termAt w) (inputTermsIn w) 0)
+      ∙ ap (λ (x : ℕ). x * 6) (length-tab (termAt w) (inputTermsIn w) 0) in
       let c = at-cut w (w 11) T1 T2 (lay (w 11) (w 11) T (T1 ++ T2) refl (terms-laid ir or) a) in (
         rows-in termRow termNext (termAt w) w (w 11) 6 wide-term (inputTermsIn w) 0 0 (at-shift w (w 11) (w 11 + 0 * 6) T1 (omega arith) (c .0)),
         rows-in termRow termNext (outputTermAt w) w (w 11) 6 wide-term (outputTermsIn w) (inputTermsIn w) (inputPointsIn w)
@@ -549,7 +576,8 @@ module _ (w : ℕ → ℕ) where
       let P1 = laid (alone pointWords) onward tt (tab (pointAt w) (inputPointsIn w) 0) in
       let P2 = laid (alone pointWords) onward tt (tab (outputPointAt w) (outputTermsIn w) (inputPointsIn w)) in
       let l1 : length P1 ≡ inputPointsIn w * 2 =
-      length-laid (alone pointWords) onward (pointAt w) w 0 2 (λ σ p. refl) tt (tab (pointAt w) (inputPointsIn w) 0) ∙ ap (λ (x : ℕ). x * 2) (length-tab (pointAt w) (inputPointsIn w) 0) in
+      length-laid (alone pointWords) onward (pointAt w) w 0 2 (λ σ p. refl) tt (tab (pointAt w) (inputPointsIn w) 0)
+      ∙ ap (λ (x : ℕ). x * 2) (length-tab (pointAt w) (inputPointsIn w) 0) in
       let c = at-cut w (w 12) P1 P2 (lay (w 12) (w 12) P (P1 ++ P2) refl (points-laid ir or it ot) a) in
       rows-in (alone pointWords) onward (outputPointAt w) w (w 12) 2 (λ σ p. refl) (outputTermsIn w) (inputPointsIn w) tt
       (at-shift w (w 12 + length P1) (w 12 + inputPointsIn w * 2) P2 (omega arith) (c .1))
@@ -558,7 +586,8 @@ module _ (w : ℕ → ℕ) where
   unfolding ruleRows decode
   rules-pass a =
       rows-in ruleRow ruleNext (ruleAt w) w (w 13) 6 (λ σ r. refl) (w 6) 0 (0, 0)
-      (lay (w 13) (w 13 + 0 * 6) (ruleTable 0 0 (tab (ruleAt w) (w 6) 0)) (laid ruleRow ruleNext (0, 0) (tab (ruleAt w) (w 6) 0)) (omega arith) (rule-table 0 0 (tab (ruleAt w) (w 6) 0)) a)
+      (lay (w 13) (w 13 + 0 * 6) (ruleTable 0 0 (tab (ruleAt w) (w 6) 0)) (laid ruleRow ruleNext (0, 0) (tab (ruleAt w) (w 6) 0)) (omega arith)
+      (rule-table 0 0 (tab (ruleAt w) (w 6) 0)) a)
 
   -- words counted from the start of their table
   at-plus : (o p : ℕ) (xs : List ℕ) → At w (o + p) xs → At (λ k. w (o + k)) p xs
@@ -570,7 +599,8 @@ module _ (w : ℕ → ℕ) where
   unfolding rowsOk gather tab all conditionExact
   conditions-exact zero i σ h a = refl
   conditions-exact (suc k) i σ h a =
-      let b = both (same (tab w 6 (w 13 + i * 6)) (ruleRow σ (ruleAt w i))) (rowsOk ruleRow ruleNext (ruleAt w) w (w 13) 6 k (suc i) (ruleNext σ (ruleAt w i))) h in
+      let b = both (same (tab w 6 (w 13 + i * 6)) (ruleRow σ (ruleAt w i)))
+      (rowsOk ruleRow ruleNext (ruleAt w) w (w 13) 6 k (suc i) (ruleNext σ (ruleAt w i))) h in
       let q = rule-words-row w i σ (b .0) in
       let c = ruleAt w i .condition in
       let rest = gather (λ r. postfix (r .condition)) (tab (ruleAt w) k (suc i)) in
@@ -584,9 +614,11 @@ module _ (w : ℕ → ℕ) where
 
   conditions-pass : ruleRows w ≡ true → At w (w 14) C → conditionRows w ≡ true
   unfolding ruleRows conditionRows decode
-  conditions-pass h a = conditions-exact (w 6) 0 (0, 0) h (at-shift w (w 14) (w 14 + 0) (gather (λ r. postfix (r .condition)) (tab (ruleAt w) (w 6) 0)) (omega arith) a)
+  conditions-pass h a =
+      conditions-exact (w 6) 0 (0, 0) h (at-shift w (w 14) (w 14 + 0) (gather (λ r. postfix (r .condition)) (tab (ruleAt w) (w 6) 0)) (omega arith) a)
 
-  counts-pass : Offsets → inputRows w ≡ true → outputRows w ≡ true → inputTermRows w ≡ true → outputTermRows w ≡ true → ruleRows w ≡ true → conditionRows w ≡ true → countsOk w ≡ true
+  counts-pass : Offsets → inputRows w ≡ true → outputRows w ≡ true → inputTermRows w ≡ true → outputTermRows w ≡ true → ruleRows w ≡ true
+      → conditionRows w ≡ true → countsOk w ≡ true
   unfolding countsOk
   counts-pass f ir or it ot rr cr =
       pass _ (
@@ -607,10 +639,14 @@ module _ (w : ℕ → ℕ) where
       let h : Header = header-facts (c0 .0) in
       let f = h .offsets′ in
       let l : Lengths = lengths-from (f .terms′) (f .points′) (f .words′) (f .conclusions′) in
-      let c1 = at-cut w 28 I (O ++ (T ++ (P ++ (R ++ (C ++ K))))) (at-shift w (0 + length (header (decode w))) 28 tables (omega (arith, header-long)) (c0 .1)) in
-      let c2 = at-cut w (28 + w 2 * 7) O (T ++ (P ++ (R ++ (C ++ K)))) (at-shift w (28 + length I) (28 + w 2 * 7) (O ++ (T ++ (P ++ (R ++ (C ++ K))))) (omega (arith, l .inputs)) (c1 .1)) in
-      let c3 = at-cut w (w 11) T (P ++ (R ++ (C ++ K))) (at-shift w (28 + w 2 * 7 + length O) (w 11) (T ++ (P ++ (R ++ (C ++ K)))) (omega (arith, f .at11, l .outputs)) (c2 .1)) in
-      let c4 = at-cut w (w 12) P (R ++ (C ++ K)) (at-shift w (w 11 + length T) (w 12) (P ++ (R ++ (C ++ K))) (omega (arith, f .at11, f .at12, l .terms′)) (c3 .1)) in
+      let c1 = at-cut w 28 I (O ++ (T ++ (P ++ (R ++ (C ++ K)))))
+      (at-shift w (0 + length (header (decode w))) 28 tables (omega (arith, header-long)) (c0 .1)) in
+      let c2 = at-cut w (28 + w 2 * 7) O (T ++ (P ++ (R ++ (C ++ K))))
+      (at-shift w (28 + length I) (28 + w 2 * 7) (O ++ (T ++ (P ++ (R ++ (C ++ K))))) (omega (arith, l .inputs)) (c1 .1)) in
+      let c3 = at-cut w (w 11) T (P ++ (R ++ (C ++ K)))
+      (at-shift w (28 + w 2 * 7 + length O) (w 11) (T ++ (P ++ (R ++ (C ++ K)))) (omega (arith, f .at11, l .outputs)) (c2 .1)) in
+      let c4 = at-cut w (w 12) P (R ++ (C ++ K))
+      (at-shift w (w 11 + length T) (w 12) (P ++ (R ++ (C ++ K))) (omega (arith, f .at11, f .at12, l .terms′)) (c3 .1)) in
       let c5 = at-cut w (w 13) R (C ++ K) (at-shift w (w 12 + length P) (w 13) (R ++ (C ++ K)) (omega (arith, f .at12, f .at13, l .points′)) (c4 .1)) in
       let c6 = at-cut w (w 14) C K (at-shift w (w 13 + length R) (w 14) (C ++ K) (omega (arith, f .at13, f .at14, l .rules)) (c5 .1)) in
       let ir = inputs-pass f (c1 .0) in

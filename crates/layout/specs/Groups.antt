@@ -11,7 +11,7 @@ use Rattle.model.specs.Bounds.{inputLimit, outputLimit, ruleLimit, wordLimit, c
 use Rattle.model.specs.Tokens.{isName, sameName}
 use Rattle.model.specs.Block.{conclusions, size}
 use Rattle.model.specs.WellFormed.{inputOk, outputOk, ruleOk}
-use Rattle.model.specs.Image.{decode}
+use Rattle.model.specs.Image.{decode, TERMS, POINTS, WORDS, CONCLUSIONS}
 use Rattle.layout.specs.Tables.{inputTermsIn, outputTermsIn, inputPointsIn, wordsIn, conclusionsIn, inputRows, outputRows, inputTermRows, outputTermRows, outputPointRows, ruleRows, conditionRows, headerOk}
 
 -- the header and the tables of variables, terms and points are laid out as a block's
@@ -23,8 +23,8 @@ tablesOk w = every (
     ∷ inputTermRows w
     ∷ outputTermRows w
     ∷ outputPointRows w
-    ∷ eqb (w 4) (inputTermsIn w + outputTermsIn w)
-    ∷ eqb (w 5) (inputPointsIn w + outputTermsIn w)
+    ∷ eqb (w TERMS) (inputTermsIn w + outputTermsIn w)
+    ∷ eqb (w POINTS) (inputPointsIn w + outputTermsIn w)
     ∷ [])
 
 -- names, counts, terms and points of the variables
@@ -44,8 +44,8 @@ unfoldable pub rulesOk : (ℕ → ℕ) → Bool
 rulesOk w = every (
     ruleRows w
     ∷ conditionRows w
-    ∷ eqb (w 7) (wordsIn w)
-    ∷ eqb (w 8) (conclusionsIn w)
+    ∷ eqb (w WORDS) (wordsIn w)
+    ∷ eqb (w CONCLUSIONS) (conclusionsIn w)
     ∷ between 1 ruleLimit (length (decode w .rules))
     ∷ all (ruleOk (decode w)) (decode w .rules)
     ∷ distinct eqb (map (λ r. r .number) (decode w .rules))

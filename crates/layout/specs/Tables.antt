@@ -8,7 +8,7 @@ use lib.ListN.{length}
 use Rattle.model.specs.Basic.{every, all, same}
 use Rattle.model.specs.Bounds.{M}
 use Rattle.model.specs.Block.{Point, Term, Input, Output, Rule, size}
-use Rattle.model.specs.Image.{nameWords, nameAt, typeWord, rangeWords, defaultWords, pointWords, postfix, singletonTerm, tab, pointAt, termAt, singletonAt, inputAt, outputAt, ruleAt}
+use Rattle.model.specs.Image.{nameWords, nameAt, typeWord, rangeWords, defaultWords, pointWords, postfix, singletonTerm, tab, pointAt, termAt, singletonAt, inputAt, outputAt, ruleAt, headerSize, inputWidth, outputWidth, termWidth, pointWidth, ruleWidth, conclusionWidth, INPUTS, OUTPUTS, TERMS, POINTS, RULES, WORDS, CONCLUSIONS, INPUT-TABLE, OUTPUT-TABLE, TERM-TABLE, POINT-TABLE, RULE-TABLE, WORD-TABLE, CONCLUSION-TABLE, PAIR-WORD, ACCU-WORD, ACT-WORD, BLOCK-NAME, RULE-BLOCK-NAME, inputPlace, outputPlace, termPlace, rulePlace, wordPlace}
 use Rattle.layout.specs.Rows.{rowsOk}
 
 -- ROWS, n being the first term, point or word of the next one
@@ -57,67 +57,67 @@ outputPointAt w i = record { at = pointAt w i .at; degree = M }
 
 -- COUNTS of a row's terms, points, condition words and conclusions
 abbrev pub inputCount : (ℕ → ℕ) → ℕ → ℕ
-inputCount w i = w (w 9 + i * 7 + 6)
+inputCount w i = w (inputPlace w i + 6)
 
 abbrev pub outputCount : (ℕ → ℕ) → ℕ → ℕ
-outputCount w i = w (w 10 + i * 11 + 5)
+outputCount w i = w (outputPlace w i + 5)
 
 -- the first term of output i
 abbrev pub outputFirstAt : (ℕ → ℕ) → ℕ → ℕ
-outputFirstAt w i = w (w 10 + i * 11 + 4)
+outputFirstAt w i = w (outputPlace w i + 4)
 
 abbrev pub termCount : (ℕ → ℕ) → ℕ → ℕ
-termCount w i = w (w 11 + i * 6 + 5)
+termCount w i = w (termPlace w i + 5)
 
 abbrev pub wordCount : (ℕ → ℕ) → ℕ → ℕ
-wordCount w i = w (w 13 + i * 6 + 2)
+wordCount w i = w (rulePlace w i + 2)
 
 abbrev pub conclusionCount : (ℕ → ℕ) → ℕ → ℕ
-conclusionCount w i = w (w 13 + i * 6 + 4)
+conclusionCount w i = w (rulePlace w i + 4)
 
 -- input terms, output terms, points of input terms
 abbrev pub inputTermsIn : (ℕ → ℕ) → ℕ
-inputTermsIn w = sums (inputCount w) (w 2) 0
+inputTermsIn w = sums (inputCount w) (w INPUTS) 0
 
 abbrev pub outputTermsIn : (ℕ → ℕ) → ℕ
-outputTermsIn w = sums (outputCount w) (w 3) 0
+outputTermsIn w = sums (outputCount w) (w OUTPUTS) 0
 
 abbrev pub inputPointsIn : (ℕ → ℕ) → ℕ
 inputPointsIn w = sums (termCount w) (inputTermsIn w) 0
 
 abbrev pub wordsIn : (ℕ → ℕ) → ℕ
-wordsIn w = sums (wordCount w) (w 6) 0
+wordsIn w = sums (wordCount w) (w RULES) 0
 
 abbrev pub conclusionsIn : (ℕ → ℕ) → ℕ
-conclusionsIn w = sums (conclusionCount w) (w 6) 0
+conclusionsIn w = sums (conclusionCount w) (w RULES) 0
 
 -- TABLES
 unfoldable pub inputRows : (ℕ → ℕ) → Bool
-inputRows w = rowsOk inputRow inputNext (inputAt w) w (w 9) 7 (w 2) 0 0
+inputRows w = rowsOk inputRow inputNext (inputAt w) w (w INPUT-TABLE) inputWidth (w INPUTS) 0 0
 
 unfoldable pub outputRows : (ℕ → ℕ) → Bool
-outputRows w = rowsOk outputRow outputNext (outputAt w) w (w 10) 11 (w 3) 0 (inputTermsIn w)
+outputRows w = rowsOk outputRow outputNext (outputAt w) w (w OUTPUT-TABLE) outputWidth (w OUTPUTS) 0 (inputTermsIn w)
 
 unfoldable pub inputTermRows : (ℕ → ℕ) → Bool
-inputTermRows w = rowsOk termRow termNext (termAt w) w (w 11) 6 (inputTermsIn w) 0 0
+inputTermRows w = rowsOk termRow termNext (termAt w) w (w TERM-TABLE) termWidth (inputTermsIn w) 0 0
 
 unfoldable pub outputTermRows : (ℕ → ℕ) → Bool
 outputTermRows w =
-    rowsOk termRow termNext (outputTermAt w) w (w 11) 6 (outputTermsIn w) (inputTermsIn w) (inputPointsIn w)
+    rowsOk termRow termNext (outputTermAt w) w (w TERM-TABLE) termWidth (outputTermsIn w) (inputTermsIn w) (inputPointsIn w)
 
 unfoldable pub outputPointRows : (ℕ → ℕ) → Bool
-outputPointRows w = rowsOk (alone pointWords) onward (outputPointAt w) w (w 12) 2 (outputTermsIn w) (inputPointsIn w) tt
+outputPointRows w = rowsOk (alone pointWords) onward (outputPointAt w) w (w POINT-TABLE) pointWidth (outputTermsIn w) (inputPointsIn w) tt
 
 unfoldable pub ruleRows : (ℕ → ℕ) → Bool
-ruleRows w = rowsOk ruleRow ruleNext (ruleAt w) w (w 13) 6 (w 6) 0 (0, 0)
+ruleRows w = rowsOk ruleRow ruleNext (ruleAt w) w (w RULE-TABLE) ruleWidth (w RULES) 0 (0, 0)
 
 -- a rule's condition words are the postfix of the tree that they stand for
 unfoldable pub conditionExact : (ℕ → ℕ) → ℕ → Bool
 conditionExact w i =
-    same (tab (λ k. w (w 14 + k)) (wordCount w i) (w (w 13 + i * 6 + 1))) (postfix (ruleAt w i .condition))
+    same (tab (λ k. w (wordPlace w k)) (wordCount w i) (w (rulePlace w i + 1))) (postfix (ruleAt w i .condition))
 
 unfoldable pub conditionRows : (ℕ → ℕ) → Bool
-conditionRows w = all (conditionExact w) (tab (λ i. i) (w 6) 0)
+conditionRows w = all (conditionExact w) (tab (λ i. i) (w RULES) 0)
 
 -- THE HEADER
 -- a name's four words, zero padded
@@ -128,29 +128,29 @@ nameExact w o = same (tab w 4 o) (nameWords (nameAt w o))
 unfoldable pub headerOk : (ℕ → ℕ) → Bool
 headerOk w = every (
     eqb (w 0) 1
-    ∷ eqb (w 9) 28
-    ∷ eqb (w 10) (w 9 + w 2 * 7)
-    ∷ eqb (w 11) (w 10 + w 3 * 11)
-    ∷ eqb (w 12) (w 11 + w 4 * 6)
-    ∷ eqb (w 13) (w 12 + w 5 * 2)
-    ∷ eqb (w 14) (w 13 + w 6 * 6)
-    ∷ eqb (w 15) (w 14 + w 7)
-    ∷ eqb (w 1) (w 15 + w 8 * 2)
-    ∷ leb (w 16) 2
-    ∷ leb (w 17) 1
-    ∷ leb (w 18) 1
+    ∷ eqb (w INPUT-TABLE) headerSize
+    ∷ eqb (w OUTPUT-TABLE) (w INPUT-TABLE + w INPUTS * inputWidth)
+    ∷ eqb (w TERM-TABLE) (w OUTPUT-TABLE + w OUTPUTS * outputWidth)
+    ∷ eqb (w POINT-TABLE) (w TERM-TABLE + w TERMS * termWidth)
+    ∷ eqb (w RULE-TABLE) (w POINT-TABLE + w POINTS * pointWidth)
+    ∷ eqb (w WORD-TABLE) (w RULE-TABLE + w RULES * ruleWidth)
+    ∷ eqb (w CONCLUSION-TABLE) (w WORD-TABLE + w WORDS)
+    ∷ eqb (w 1) (w CONCLUSION-TABLE + w CONCLUSIONS * conclusionWidth)
+    ∷ leb (w PAIR-WORD) 2
+    ∷ leb (w ACCU-WORD) 1
+    ∷ leb (w ACT-WORD) 1
     ∷ eqb (w 19) 0
-    ∷ nameExact w 20
-    ∷ nameExact w 24
+    ∷ nameExact w BLOCK-NAME
+    ∷ nameExact w RULE-BLOCK-NAME
     ∷ [])
 
 -- the counts of terms, points, condition words and conclusions are the sums of the rows' counts
 unfoldable pub countsOk : (ℕ → ℕ) → Bool
 countsOk w = every (
-    eqb (w 4) (inputTermsIn w + outputTermsIn w)
-    ∷ eqb (w 5) (inputPointsIn w + outputTermsIn w)
-    ∷ eqb (w 7) (wordsIn w)
-    ∷ eqb (w 8) (conclusionsIn w)
+    eqb (w TERMS) (inputTermsIn w + outputTermsIn w)
+    ∷ eqb (w POINTS) (inputPointsIn w + outputTermsIn w)
+    ∷ eqb (w WORDS) (wordsIn w)
+    ∷ eqb (w CONCLUSIONS) (conclusionsIn w)
     ∷ [])
 
 -- the words are those of the block that they stand for

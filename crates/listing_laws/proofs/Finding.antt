@@ -205,7 +205,7 @@ unfolding gather
 gather-cut {A} {B} h {xs} {n} {m} c k d =
     ap (λ (l : List B). getD l (length front + m) d) whole
     ∙ getD-at (front ++ k .before) (k .mid) (k .after ++ back) d (length front + m)
-      (length-append front (k .before) ∙ ap (λ (i : ℕ). length front + i) (k .counted))
+    (length-append front (k .before) ∙ ap (λ (i : ℕ). length front + i) (k .counted))
   where
     front : List B
     front = gather h (c .before)

@@ -43,7 +43,7 @@ Cuts w xs s = CutsTo w xs s (cut 0 s)
 module _ {v : List ℕ} {ys : List Item} {s : List ℕ} {zs : List Item} where
   part : (w : List ℕ) (xs : List Item) → Cuts w xs (v ++ s) → CutsTo v ys s zs → CutsTo (w ++ v) (xs ++ ys) s zs
   part w xs a b = record {
-    cuts = ap (cut 0) (append-assoc w v s) ∙ a .cuts ∙ ap (λ (l : List Item). xs ++ l) (b .cuts) ∙ sym (append-assoc xs ys zs)
+    cuts = ap (cut 0) (append-assoc w v s) ∙ a .cuts ∙ ap (λ (l : List Item). xs ++ l) (b .cuts) ∙ sym (append-assoc xs ys zs);
   }
 
   text : (w : String) (xs : List Item) → ((s : List ℕ) → cut 0 (bytes w ++ s) ≡ xs ++ cut 0 s) → CutsTo v ys s zs → CutsTo (bytes w ++ v) (xs ++ ys) s zs

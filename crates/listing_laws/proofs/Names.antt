@@ -106,5 +106,10 @@ module _ (b : Block) (h : wellFormed b ≡ true) where
     conclusion-named =
         let l = conclusion-facts b k o .most in
         all-getD isName (map (λ t. t .name) (terms b)) [] (k .term) all-named
-        (omega (arith, length-map (terms b) (λ t. t .name), length-append (inputTerms b) (map singletonTerm (outputTerms b)),
-        length-map (outputTerms b) singletonTerm, output-terms (k .output) (b .outputs)))
+        (omega (
+          arith,
+          length-map (terms b) (λ t. t .name),
+          length-append (inputTerms b) (map singletonTerm (outputTerms b)),
+          length-map (outputTerms b) singletonTerm,
+          output-terms (k .output) (b .outputs),
+        ))

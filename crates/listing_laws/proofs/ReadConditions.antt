@@ -207,7 +207,7 @@ module _ (f : ℕ → ℕ) (b : Block) (g : ℕ → TermNames) where
       let e′ : deep 4 c ≡ depth c = rw (bare c) in
       ap (λ (l : List Item). chain (ands d) OR or (at f (l ++ rest) b w)) (sym e)
       ∙ chain-reads (ands d) OR or (shown 4 c ++ rest) w (length (shown 4 c)) x (omega (arith, length-append (shown 4 c) rest))
-        (λ n l. o d w 0 rest x u (omega arith) hw (λ m k. chain-stop (ands d) OR or m rest (w + size c) c v) n (omega arith))
+      (λ n l. o d w 0 rest x u (omega arith) hw (λ m k. chain-stop (ands d) OR or m rest (w + size c) c v) n (omega arith))
 
   -- IN PARENTHESES
   module _ (l : ℕ) (c : Condition) (loose : ltb l (form c) ≡ true) (o : COk c) where
@@ -302,7 +302,7 @@ module _ (f : ℕ → ℕ) (b : Block) (g : ℕ → TermNames) where
         q d w j rest x hd hw go n h =
             ap (λ (k : List Item). chainOn n (op d) AND and (op d (at f k b w))) (append-assoc (shown 3 a) (keyword "AND" ∷ shown 2 e) rest)
             ∙ oa .aOk d w (suc j) (keyword "AND" ∷ (shown 2 e ++ rest)) x (omega arith) (omega arith) step n
-              (omega (arith, length-append (shown 3 a) (keyword "AND" ∷ shown 2 e)))
+            (omega (arith, length-append (shown 3 a) (keyword "AND" ∷ shown 2 e)))
           where
             step : (n : ℕ) → suc j ≤ n → chainOn n (op d) AND and (read (keyword "AND" ∷ (shown 2 e ++ rest)) (w + size a) a) ≡ x
             step zero l = absurd (omega arith)
@@ -325,7 +325,7 @@ module _ (f : ℕ → ℕ) (b : Block) (g : ℕ → TermNames) where
         o d w j rest x t hd hw go n h =
             ap (λ (k : List Item). chainOn n (ands d) OR or (ands d (at f k b w))) (append-assoc (shown 4 a) (keyword "OR" ∷ shown 3 e) rest)
             ∙ oa .oOk d w (suc j) (keyword "OR" ∷ (shown 3 e ++ rest)) x refl (omega arith) (omega arith) step n
-              (omega (arith, length-append (shown 4 a) (keyword "OR" ∷ shown 3 e)))
+            (omega (arith, length-append (shown 4 a) (keyword "OR" ∷ shown 3 e)))
           where
             step : (n : ℕ) → suc j ≤ n → chainOn n (ands d) OR or (read (keyword "OR" ∷ (shown 3 e ++ rest)) (w + size a) a) ≡ x
             step zero l = absurd (omega arith)

@@ -81,8 +81,8 @@ module _ (f : ℕ → ℕ) where
         let d = staged (b .name) (is ++ (bareInput v ∷ [])) [] in
         input-start (b .name) is [] (name (v .name) ∷ colon ∷ x₁) w
         ∙ ap (λ (p : Parse). expect SEMICOLON (inputType (length is) (expect COLON p)))
-          (listed-one (variable addInput inputCount inputLimit) (at f (name (v .name) ∷ colon ∷ x₁) (staged (b .name) is []) w) f (colon ∷ x₁) c w
-          (input-name ds v es e (colon ∷ x₁) w) refl)
+        (listed-one (variable addInput inputCount inputLimit) (at f (name (v .name) ∷ colon ∷ x₁) (staged (b .name) is []) w) f (colon ∷ x₁) c w
+        (input-name ds v es e (colon ∷ x₁) w) refl)
         ∙ ap (λ (p : Parse). expect SEMICOLON (inputType (length is) p)) (expects COLON f _ x₁ c w)
         ∙ ap (expect SEMICOLON) (type-read (b .name) (v .name) is [] (v .type) (semicolon ∷ xs) w)
         ∙ expects SEMICOLON f _ xs d w
@@ -107,7 +107,7 @@ module _ (f : ℕ → ℕ) where
       new-name =
           distinct-fresh (names ++ map (λ u. u .name) ds) (v .name) (map (λ u. u .name) es)
           (ap (distinct sameName) (append-assoc names (map (λ u. u .name) ds) (v .name ∷ map (λ u. u .name) es)
-            ∙ ap (λ (l : List (List ℕ)). names ++ l) (sym (ap (map (λ u. u .name)) e ∙ map-append (λ u. u .name) ds (v ∷ es))))
+          ∙ ap (λ (l : List (List ℕ)). names ++ l) (sym (ap (map (λ u. u .name)) e ∙ map-append (λ u. u .name) ds (v ∷ es))))
           ∙ h .apart)
 
       new-parts : (fresh (v .name) names ≡ true) × (fresh (v .name) (map (λ u. u .name) ds) ≡ true)
@@ -135,8 +135,8 @@ module _ (f : ℕ → ℕ) where
           let c = staged (b .name) ins (map bareOutput ds) in
           let d = staged (b .name) ins (map bareOutput ds ++ (bareOutput v ∷ [])) in
           ap (λ (p : Parse). expect SEMICOLON (expect REAL (expect COLON p)))
-            (listed-one (variable addOutput outputCount outputLimit) (at f (name (v .name) ∷ colon ∷ x₁) c w) f (colon ∷ x₁) d w
-            (output-name (colon ∷ x₁) w) refl)
+          (listed-one (variable addOutput outputCount outputLimit) (at f (name (v .name) ∷ colon ∷ x₁) c w) f (colon ∷ x₁) d w
+          (output-name (colon ∷ x₁) w) refl)
           ∙ ap (λ (p : Parse). expect SEMICOLON (expect REAL p)) (expects COLON f _ x₁ d w)
           ∙ ap (expect SEMICOLON) (expects REAL f _ (semicolon ∷ xs) d w)
           ∙ expects SEMICOLON f _ xs d w
@@ -144,7 +144,7 @@ module _ (f : ℕ → ℕ) where
 
     pub outputs-read : (rest : List Item) (w : ℕ) → eqb (headKind rest) NAME ≡ false
         → repeated NAME outputDeclaration
-          (outputDeclaration (at f (gather outputItems (b .outputs) ++ rest) (staged (b .name) (map bareInput (b .inputs)) []) w))
+        (outputDeclaration (at f (gather outputItems (b .outputs) ++ rest) (staged (b .name) (map bareInput (b .inputs)) []) w))
         ≡ at f rest (staged (b .name) (map bareInput (b .inputs)) (map bareOutput (b .outputs))) w
     outputs-read rest w stops =
         let first = filled (b .outputs) (h .outputs .0) in

@@ -134,9 +134,14 @@ module _ (f : ℕ → ℕ) (n : List ℕ) (is : List Input) (ds rest : List Outp
       term-read : outputTerm i (at f (singletonItems s ++ xs) (holding (having ss)) w) ≡ at f xs (holding (having (ss ++ (s ∷ [])))) w
       unfolding outputTerm singletonItems at kind advance
       term-read =
-          judged-pass _ _ _
-          (refl, (ap (λ (l : List Singleton). ltb (length l) termLimit) (singletons-here (having ss))
-            ∙ lt-ltb (length ss) termLimit (omega (arith, ap length e, length-append ss (s ∷ es), h .count .1)), tt))
+          judged-pass _ _ _ (
+            refl,
+            (
+              ap (λ (l : List Singleton). ltb (length l) termLimit) (singletons-here (having ss))
+                  ∙ lt-ltb (length ss) termLimit (omega (arith, ap length e, length-append ss (s ∷ es), h .count .1)),
+              tt,
+            ),
+          )
           ∙ body-read
 
     terms-read : (xs : List Item) (w : ℕ) → eqb (headKind xs) TERM ≡ false
@@ -184,7 +189,7 @@ module _ (f : ℕ → ℕ) (n : List ℕ) (is : List Input) (ds rest : List Outp
 
     method-read : (xs : List Item) (c : Block) (w : ℕ)
         → expect ASSIGN (expect DEFAULT (expect SEMICOLON (expect CoGS (expect COLON (expect METHOD
-          (at f (word "METHOD" ∷ colon ∷ word "CoGS" ∷ semicolon ∷ word "DEFAULT" ∷ assign ∷ xs) c w)))))) ≡ at f xs c w
+        (at f (word "METHOD" ∷ colon ∷ word "CoGS" ∷ semicolon ∷ word "DEFAULT" ∷ assign ∷ xs) c w)))))) ≡ at f xs c w
     method-read xs c w = simp expects
 
     body : (xs : List Item) (w : ℕ)
@@ -196,10 +201,10 @@ module _ (f : ℕ → ℕ) (n : List ℕ) (is : List Input) (ds rest : List Outp
         let x₁ = semicolon ∷ word "END_DEFUZZIFY" ∷ xs in
         let x₂ = defaultItem (v .default) ∷ x₁ in
         let method : Part = λ p. expect END-DEFUZZIFY (expect SEMICOLON (defaultValue i
-          (expect ASSIGN (expect DEFAULT (expect SEMICOLON (expect CoGS (expect COLON (expect METHOD p)))))))) in
+        (expect ASSIGN (expect DEFAULT (expect SEMICOLON (expect CoGS (expect COLON (expect METHOD p)))))))) in
         judged-pass _ _ _ (refl, (h .name, (ap isEmpty (singletons-here (bareOutput v)), (declared, tt))))
         ∙ ap (λ (p : Parse). method (repeated TERM (outputTerm i) (outputTerm i p)))
-          (range-read (v .range) (h .range) (v .name) (gather singletonItems (v .terms) ++ behind xs) (terms-head xs) w)
+        (range-read (v .range) (h .range) (v .name) (gather singletonItems (v .terms) ++ behind xs) (terms-head xs) w)
         ∙ ap method (terms-read (behind xs) w refl)
         ∙ ap (λ (p : Parse). expect END-DEFUZZIFY (expect SEMICOLON (defaultValue i p))) (method-read x₂ c w)
         ∙ ap (λ (p : Parse). expect END-DEFUZZIFY (expect SEMICOLON p)) (default-read x₁ w)
@@ -214,7 +219,7 @@ module _ (f : ℕ → ℕ) (n : List ℕ) (is : List Input) (ds rest : List Outp
         let g = gather singletonItems (v .terms) in
         let more = r ++ (g ++ behind xs) in
         ap (λ (l : List Item). defuzzify (at f (word "DEFUZZIFY" ∷ name (v .name) ∷ l) c w))
-          (append-assoc r (g ++ behind []) xs ∙ ap (λ (l : List Item). r ++ l) (append-assoc g (behind []) xs))
+        (append-assoc r (g ++ behind []) xs ∙ ap (λ (l : List Item). r ++ l) (append-assoc g (behind []) xs))
         ∙ ap defuzzifyVariable (expects DEFUZZIFY f _ (name (v .name) ∷ more) c w)
         ∙ variable-start more c w
         ∙ ap (λ (o : ℕ). defuzzifyOf o (at f (name (v .name) ∷ more) c w)) output-here

@@ -103,9 +103,13 @@ module _ (f : ℕ → ℕ) (n : List ℕ) (os : List Output) (ds rest : List Inp
       position-read : (xs : List Item) (w : ℕ) → pointPosition i (at f (number (crispText (p .at)) ∷ xs) (drawn ps) w) ≡ at f xs (drawn ps) w
       unfolding pointPosition at kind text advance
       position-read xs w =
-          judged-pass _ _ _
-          (refl, (is-crisp (p .at) (ok .0),
-            ((λ j. mayFollow (map (λ q. q .at) (points-here ts (record { name = t .name; points = ps }) j)) (value-crisp (p .at) j)) ∙ follows, tt)))
+          judged-pass _ _ _ (
+            refl,
+            (
+              is-crisp (p .at) (ok .0),
+              ((λ j. mayFollow (map (λ q. q .at) (points-here ts (record { name = t .name; points = ps }) j)) (value-crisp (p .at) j)) ∙ follows, tt),
+            ),
+          )
 
       degree-read : (xs : List Item) (w : ℕ)
           → pointDegree i (p .at) (at f (number (unitText (p .degree)) ∷ xs) (drawn ps) w) ≡ at f xs (drawn (ps ++ (p ∷ []))) w
@@ -157,15 +161,20 @@ module _ (f : ℕ → ℕ) (n : List ℕ) (os : List Output) (ds rest : List Inp
         let x₁ = k ++ (semicolon ∷ xs) in
         let first = filled (t .points) (omega (arith, facts .count .0)) in
         let parts : Part = λ r. endOfPoints i (listed (point i) r) in
-        judged-pass _ _ _
-        (refl, (ap (λ (l : List Term). ltb (length l) termLimit) (terms-here ts)
-          ∙ lt-ltb (length ts) termLimit (omega (arith, ap length e, length-append ts (t ∷ es), h .count .1)), tt))
+        judged-pass _ _ _ (
+          refl,
+          (
+            ap (λ (l : List Term). ltb (length l) termLimit) (terms-here ts)
+                ∙ lt-ltb (length ts) termLimit (omega (arith, ap length e, length-append ts (t ∷ es), h .count .1)),
+            tt,
+          ),
+        )
         ∙ ap (λ (l : List Item). parts (expect ASSIGN (termName i (at f (name (t .name) ∷ assign ∷ l) (having ts) w)))) (append-assoc k (semicolon ∷ []) xs)
         ∙ ap (λ (r : Parse). parts (expect ASSIGN r)) (name-read (assign ∷ x₁) w)
         ∙ ap parts (expects ASSIGN f _ x₁ (drawn []) w)
         ∙ ap (endOfPoints i)
-          (listed-reads (point i) pointItems drawn (λ ps. w) f (t .points) (λ ps p qs ys z. point-read ps p qs z ys w) (semicolon ∷ xs) refl
-          (first .0) (first .1) (first .2))
+        (listed-reads (point i) pointItems drawn (λ ps. w) f (t .points) (λ ps p qs ys z. point-read ps p qs z ys w) (semicolon ∷ xs) refl
+        (first .0) (first .1) (first .2))
         ∙ end-read xs w
 
   -- THE INPUT

@@ -42,7 +42,7 @@ module _ (f : ℕ → ℕ) (b : Block) (h : BlockFacts b) where
   fuzzify-next ds v es xs e w =
       ap (λ (l : List Input). fuzzify (at f (fuzzifyItems v ++ xs) (staged (b .name) l bareOutputs) w)) (partly-at bareInput (b .inputs) ds (v ∷ es) e)
       ∙ fuzzify-read f (b .name) bareOutputs ds (map bareInput es) v
-        (input-at b h ds v es e) (input-new b h ds v es e) xs w
+      (input-at b h ds v es e) (input-new b h ds v es e) xs w
       ∙ ap (λ (l : List Input). at f xs (staged (b .name) l bareOutputs) w) (sym (partly-next bareInput (b .inputs) ds v es e))
 
   fuzzifies-read : (rest : List Item) (w : ℕ) → eqb (headKind rest) FUZZIFY ≡ false
@@ -62,7 +62,7 @@ module _ (f : ℕ → ℕ) (b : Block) (h : BlockFacts b) where
   defuzzify-next ds v es xs e w =
       ap (λ (l : List Output). defuzzify (at f (defuzzifyItems v ++ xs) (staged (b .name) (b .inputs) l) w)) (partly-at bareOutput (b .outputs) ds (v ∷ es) e)
       ∙ defuzzify-read f (b .name) (b .inputs) ds (map bareOutput es) v
-        (output-at b h ds v es e) (output-new b h ds v es e) xs w
+      (output-at b h ds v es e) (output-new b h ds v es e) xs w
       ∙ ap (λ (l : List Output). at f xs (staged (b .name) (b .inputs) l) w) (sym (partly-next bareOutput (b .outputs) ds v es e))
 
   defuzzifies-read : (rest : List Item) (w : ℕ) → eqb (headKind rest) DEFUZZIFY ≡ false
@@ -148,5 +148,5 @@ unfolding at
 items-read b h ts e =
     let f = placesOf ts in
     ap (λ (l : List Token). outcomeOf (functionBlock (record { rest = l; why = 0; place = 0; block = emptyBlock; words = 0 })))
-      (sym (laid-back ts) ∙ ap (laid f) e)
+    (sym (laid-back ts) ∙ ap (laid f) e)
     ∙ listing-read f b (block-facts b h)

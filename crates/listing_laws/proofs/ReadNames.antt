@@ -122,8 +122,8 @@ module _ (b : Block) (oks : all inputOk (b .inputs) ≡ true) (apart : distinct 
         declared = declared-here;
         has = ap (λ (i : ℕ). isTerm i (a .name) b) input-here ∙ has-here;
         place =
-          ap (λ (i : ℕ). inputFirst i b + termOf i (a .name) b) input-here
-          ∙ (λ j. first-here j + term-here j) ∙ sym (p .counted);
+            ap (λ (i : ℕ). inputFirst i b + termOf i (a .name) b) input-here
+            ∙ (λ j. first-here j + term-here j) ∙ sym (p .counted);
       }
 
 pub named-term : (b : Block) → all inputOk (b .inputs) ≡ true → distinct sameName (map (λ v. v .name) (b .inputs)) ≡ true
@@ -182,7 +182,7 @@ module _ (b : Block) (oks : all outputOk (b .outputs) ≡ true) (apart : distinc
       let n = length-gather (λ v. v .terms) (λ v. length (v .terms)) (λ v. refl) (c .before) in
       ap (λ (l : List (List ℕ)). getD l (k .term) []) (map-append (λ t. t .name) (inputTerms b) (map singletonTerm (outputTerms b)))
       ∙ ap (λ (i : ℕ). getD (map (λ t. t .name) (inputTerms b) ++ map (λ t. t .name) (map singletonTerm (outputTerms b))) i [])
-        (omega (arith, z, first-output, length-map (inputTerms b) (λ t. t .name)))
+      (omega (arith, z, first-output, length-map (inputTerms b) (λ t. t .name)))
       ∙ getD-append-add (map (λ t. t .name) (inputTerms b)) (map (λ t. t .name) (map singletonTerm (outputTerms b))) u []
       ∙ List·getD-map (λ (t : Term). t .name) (map singletonTerm (outputTerms b)) u (singletonTerm nothing)
       ∙ ap (λ (t : Term). t .name) (List·getD-map singletonTerm (outputTerms b) u nothing)
@@ -199,8 +199,8 @@ module _ (b : Block) (oks : all outputOk (b .outputs) ≡ true) (apart : distinc
         has = ap (λ (i : ℕ). isSingleton i (s .mid .name) b) output-here ∙ singleton-declared;
         output = output-here;
         term =
-          ap (λ (i : ℕ). outputFirst i b + singletonOf i (s .mid .name) b) output-here
-          ∙ ap (λ (i : ℕ). outputFirst (k .output) b + i) singleton-here ∙ sym z;
+            ap (λ (i : ℕ). outputFirst i b + singletonOf i (s .mid .name) b) output-here
+            ∙ ap (λ (i : ℕ). outputFirst (k .output) b + i) singleton-here ∙ sym z;
       }
 
 pub concluded : (b : Block) → all outputOk (b .outputs) ≡ true → distinct sameName (map (λ v. v .name) (b .outputs)) ≡ true

@@ -118,14 +118,18 @@ module _ (f : ℕ → ℕ) (b : Block) (h : BlockFacts b) where
     new-number =
         sym (all-map (λ m. not (eqb m (r .number))) (λ q. q .number) ds)
         ∙ distinct-earlier eqb (map (λ q. q .number) ds) (r .number) (map (λ q. q .number) es)
-          (sym (ap (distinct eqb) (ap (map (λ q. q .number)) e ∙ map-append (λ q. q .number) ds (r ∷ es))) ∙ h .numbers)
+        (sym (ap (distinct eqb) (ap (map (λ q. q .number)) e ∙ map-append (λ q. q .number) ds (r ∷ es))) ∙ h .numbers)
 
     number-read : (xs : List Item) (w : ℕ) → ruleNumber (at f (number (digits (r .number)) ∷ xs) (ruled ds) w) ≡ at f xs (ruled ds) w
     unfolding ruleNumber at kind text advance
     number-read xs w =
-        judged-pass _ _ _
-        (refl, (is-rule-number (r .number) (facts .number),
-          (ap (λ (m : ℕ). all (λ q. not (eqb (q .number) m)) ds) (decimal-digits (r .number)) ∙ new-number, tt)))
+        judged-pass _ _ _ (
+          refl,
+          (
+            is-rule-number (r .number) (facts .number),
+            (ap (λ (m : ℕ). all (λ q. not (eqb (q .number) m)) ds) (decimal-digits (r .number)) ∙ new-number, tt),
+          ),
+        )
 
     -- fewer conclusions than the limit, before one more
     room : (kds : List Conclusion) (k : Conclusion) (kes : List Conclusion) → r .conclusions ≡ kds ++ (k ∷ kes)
@@ -135,8 +139,8 @@ module _ (f : ℕ → ℕ) (b : Block) (h : BlockFacts b) where
         let of : List Rule → List Conclusion = λ rs. gather (λ q. q .conclusions) rs in
         let l₁ = ap length (gather-last (λ q. q .conclusions) ds (given kds)) ∙ length-append (of ds) kds in
         let l₂ =
-          ap (λ (rs : List Rule). length (of rs)) e
-          ∙ ap length (gather-append (λ q. q .conclusions) ds (r ∷ es)) ∙ length-append (of ds) (r .conclusions ++ of es) in
+        ap (λ (rs : List Rule). length (of rs)) e
+        ∙ ap length (gather-append (λ q. q .conclusions) ds (r ∷ es)) ∙ length-append (of ds) (r .conclusions ++ of es) in
         omega (arith, l₁, l₂, length-append (r .conclusions) (of es), ap length z, length-append kds (k ∷ kes), h .conclusions)
 
     module _ (kds : List Conclusion) (k : Conclusion) (kes : List Conclusion) (z : r .conclusions ≡ kds ++ (k ∷ kes)) (ys : List Item) (w : ℕ) where
@@ -188,8 +192,8 @@ module _ (f : ℕ → ℕ) (b : Block) (h : BlockFacts b) where
         ∙ ap (λ (p : Parse). expect SEMICOLON (weighted (listed conclusion (expect THEN p)))) (change-at f (word "THEN" ∷ items) (ruled ds) w _)
         ∙ ap (λ (p : Parse). expect SEMICOLON (weighted (listed conclusion p))) (expects THEN f _ items (concluding []) w)
         ∙ ap (λ (p : Parse). expect SEMICOLON (weighted p))
-          (listed-reads conclusion (conclusionItems b) concluding (λ cs. w) f ks (λ kds k kes xs y. conclusion-read kds k kes y xs w)
-          more (weight-stops (r .weight) ys) (first .0) (first .1) (first .2))
+        (listed-reads conclusion (conclusionItems b) concluding (λ cs. w) f ks (λ kds k kes xs y. conclusion-read kds k kes y xs w)
+        more (weight-stops (r .weight) ys) (first .0) (first .1) (first .2))
         ∙ ap (expect SEMICOLON) (weight-read ys w)
         ∙ expects SEMICOLON f _ ys (ruled (ds ++ (r ∷ []))) w
 
@@ -223,7 +227,7 @@ module _ (f : ℕ → ℕ) (b : Block) (h : BlockFacts b) where
         let w = wordsOf ds in
         let xs = colon ∷ word "IF" ∷ (c ++ behind ys) in
         ap (λ (l : List Item). rule (at f (word "RULE" ∷ number n ∷ colon ∷ word "IF" ∷ l) (ruled ds) w))
-          (regroup c k (weightItems (r .weight)) ys (word "THEN") semicolon)
+        (regroup c k (weightItems (r .weight)) ys (word "THEN") semicolon)
         ∙ rule-start (number n ∷ xs) w
         ∙ from-read n xs w
         ∙ ap (λ (p : Parse). ruleGiven (decimal n) (condition (expect IF (expect COLON p)))) (number-read xs w)
@@ -259,9 +263,9 @@ module _ (f : ℕ → ℕ) (b : Block) (h : BlockFacts b) where
       let all-rules : Parse → Parse = λ p. expect END-RULEBLOCK (repeated RULE rule (rule p)) in
       let accu : Parse → Parse = λ p. all-rules (expect SEMICOLON (accumulation (expect COLON (expect ACCU p)))) in
       ap (λ (l : List Item). ruleBlock (at f (word "RULEBLOCK" ∷ name (b .ruleBlock)
-        ∷ word "AND" ∷ colon ∷ wordOf (andText (b .pair)) ∷ semicolon ∷ word "OR" ∷ colon ∷ wordOf (orText (b .pair)) ∷ semicolon
-        ∷ word "ACT" ∷ colon ∷ wordOf (actText (b .act)) ∷ semicolon ∷ word "ACCU" ∷ colon ∷ wordOf (accuText (b .accu)) ∷ semicolon ∷ l) varied 0))
-        (append-assoc (gather (ruleItems b) (b .rules)) (word "END_RULEBLOCK" ∷ []) rest)
+      ∷ word "AND" ∷ colon ∷ wordOf (andText (b .pair)) ∷ semicolon ∷ word "OR" ∷ colon ∷ wordOf (orText (b .pair)) ∷ semicolon
+      ∷ word "ACT" ∷ colon ∷ wordOf (actText (b .act)) ∷ semicolon ∷ word "ACCU" ∷ colon ∷ wordOf (accuText (b .accu)) ∷ semicolon ∷ l) varied 0))
+      (append-assoc (gather (ruleItems b) (b .rules)) (word "END_RULEBLOCK" ∷ []) rest)
       ∙ ap (λ (p : Parse). accu (activationLine (algorithms (ownName withRuleBlock p)))) (expects RULEBLOCK f _ (name (b .ruleBlock) ∷ x₁) varied 0)
       ∙ ap (λ (p : Parse). accu (activationLine (algorithms p))) (own-name withRuleBlock f (b .ruleBlock) x₁ varied 0 (h .ruleBlock))
       ∙ ap (λ (p : Parse). accu (activationLine p)) (pairs-read f x₂ b₁ 0 (b .pair))

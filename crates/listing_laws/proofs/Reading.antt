@@ -158,7 +158,7 @@ unfolding listed
 listed-reads {X} part items B W f xs walks rest stops x es e =
     ap (λ (l : List X). again (part (at f (commas (map items l) ++ rest) (B []) (W [])))) e
     ∙ ap (λ (l : List Item). again (part (at f l (B []) (W []))))
-      (ap (λ (l : List Item). l ++ rest) (commas-gather items x es) ∙ append-assoc (items x) (gather more es) rest)
+    (ap (λ (l : List Item). l ++ rest) (commas-gather items x es) ∙ append-assoc (items x) (gather more es) rest)
     ∙ ap again (walks [] x es (gather more es ++ rest) e)
     ∙ repeated-reads Keywords.COMMA each more B W f xs (λ y. (_, _, refl)) after rest stops (x ∷ []) es e
   where

@@ -50,7 +50,7 @@ weaken m n h p = record { small = p .small; short = omega (arith, p .short) }
 join : {v w : List ℕ} (m n : ℕ) → Fits m v → Fits n w → Fits (m + n) (v ++ w)
 join {v} {w} m n p q = record {
   small = rw (all-append isByte v w, p .small, q .small);
-  short = omega (arith, length-append v w, p .short, q .short)
+  short = omega (arith, length-append v w, p .short, q .short);
 }
 
 -- NAMES AND NUMBERS
@@ -129,7 +129,7 @@ module _ {A : Type 0} (f : A → List ℕ) (ok : A → Bool) (n : ℕ) (k : (x :
       record {
         small = rw (all-append isByte (f x) (bytes ", " ++ commaed (map f (y ∷ xs))), p .small, q .small);
         short =
-          omega (arith, length-append (f x) (bytes ", " ++ commaed (map f (y ∷ xs))), mul-suc (n + 2) (length (y ∷ xs)), p .short, q .short);
+            omega (arith, length-append (f x) (bytes ", " ++ commaed (map f (y ∷ xs))), mul-suc (n + 2) (length (y ∷ xs)), p .short, q .short);
       }
 
 -- DECLARATIONS
@@ -339,8 +339,8 @@ module _ (b : Block) (h : wellFormed b ≡ true) where
       record {
         small = simp (all-append, n .small, p .small, q .small, a .small, c .small, r .small);
         short =
-          simp length-append
-          (omega (arith, n .short, p .short, q .short, a .short, c .short, r .short, rules-size (b .rules), f .rules .1, f .words, f .conclusions));
+            simp length-append
+            (omega (arith, n .short, p .short, q .short, a .short, c .short, r .short, rules-size (b .rules), f .rules .1, f .words, f .conclusions));
       }
 
   listing-room : Fits 32013 (listing b)

@@ -16,7 +16,8 @@ use Rattle.model.specs.Listing.{listing}
 use Rattle.model.proofs.Opened.{opened}
 
 abbrev pub exampleText : List ℕ
-exampleText = bytes "FUNCTION_BLOCK trust VAR_INPUT sharp: REAL; END_VAR VAR_OUTPUT grade: REAL; END_VAR FUZZIFY sharp TERM clear := (20,0),(60.0,1); END_FUZZIFY DEFUZZIFY grade TERM low := 0; TERM high := 100; METHOD : CoGS; DEFAULT := NC; END_DEFUZZIFY RULEBLOCK r ACCU : MAX; RULE 1: IF sharp IS clear THEN grade IS high; RULE 2: IF NOT sharp IS clear THEN grade IS low; END_RULEBLOCK END_FUNCTION_BLOCK\n"
+exampleText =
+    bytes "FUNCTION_BLOCK trust VAR_INPUT sharp: REAL; END_VAR VAR_OUTPUT grade: REAL; END_VAR FUZZIFY sharp TERM clear := (20,0),(60.0,1); END_FUZZIFY DEFUZZIFY grade TERM low := 0; TERM high := 100; METHOD : CoGS; DEFAULT := NC; END_DEFUZZIFY RULEBLOCK r ACCU : MAX; RULE 1: IF sharp IS clear THEN grade IS high; RULE 2: IF NOT sharp IS clear THEN grade IS low; END_RULEBLOCK END_FUNCTION_BLOCK\n"
 
 abbrev pub clear : List Point
 clear = record { at = pos 20000; degree = 0 } ∷ record { at = pos 60000; degree = 1000000 } ∷ []

@@ -78,7 +78,8 @@ after given held = accepted (record { answers = padded noAnswer given; held = he
 
 call-1 : on (real 1741667632 ∷ []) (pos 0 ∷ pos 0 ∷ pos 0 ∷ pos 0 ∷ pos 0 ∷ pos 0 ∷ [])
     ≡ after
-    (answer Default (pos 17000) 0 4625478292286210048 ∷ answer Fired (negsuc 89892) 185974 13859398111312008446 ∷ answer Fired (pos 72000) 128 4634766966517661696 ∷ [])
+    (answer Default (pos 17000) 0 4625478292286210048 ∷ answer Fired (negsuc 89892) 185974 13859398111312008446 ∷ answer Fired
+    (pos 72000) 128 4634766966517661696 ∷ [])
     (pos 17000 ∷ negsuc 89892 ∷ pos 72000 ∷ pos 0 ∷ pos 0 ∷ pos 0 ∷ [])
 unfolding opened
 call-1 = refl
@@ -90,28 +91,32 @@ call-2 = refl
 
 call-3 : on (real 1091906181 ∷ []) (pos 17000 ∷ negsuc 89892 ∷ pos 72000 ∷ pos 0 ∷ pos 0 ∷ pos 0 ∷ [])
     ≡ after
-    (answer Default (pos 17000) 0 4625478292286210048 ∷ answer Fired (negsuc 89892) 979 13859398111312008446 ∷ answer Fired (pos 72000) 979 4634766966517661696 ∷ [])
+    (answer Default (pos 17000) 0 4625478292286210048 ∷ answer Fired (negsuc 89892) 979 13859398111312008446 ∷ answer Fired
+    (pos 72000) 979 4634766966517661696 ∷ [])
     (pos 17000 ∷ negsuc 89892 ∷ pos 72000 ∷ pos 0 ∷ pos 0 ∷ pos 0 ∷ [])
 unfolding opened
 call-3 = refl
 
 call-4 : on (real 1101483818 ∷ []) (pos 17000 ∷ negsuc 89892 ∷ pos 72000 ∷ pos 0 ∷ pos 0 ∷ pos 0 ∷ [])
     ≡ after
-    (answer Default (pos 17000) 0 4625478292286210048 ∷ answer Fired (negsuc 89892) 3303 13859398111312008446 ∷ answer Fired (pos 72000) 753 4634766966517661696 ∷ [])
+    (answer Default (pos 17000) 0 4625478292286210048 ∷ answer Fired (negsuc 89892) 3303 13859398111312008446 ∷ answer Fired
+    (pos 72000) 753 4634766966517661696 ∷ [])
     (pos 17000 ∷ negsuc 89892 ∷ pos 72000 ∷ pos 0 ∷ pos 0 ∷ pos 0 ∷ [])
 unfolding opened
 call-4 = refl
 
 call-5 : on (real 1107765864 ∷ []) (pos 17000 ∷ negsuc 89892 ∷ pos 72000 ∷ pos 0 ∷ pos 0 ∷ pos 0 ∷ [])
     ≡ after
-    (answer Default (pos 17000) 0 4625478292286210048 ∷ answer Fired (negsuc 89892) 53407 13859398111312008446 ∷ answer Fired (pos 72000) 467 4634766966517661696 ∷ [])
+    (answer Default (pos 17000) 0 4625478292286210048 ∷ answer Fired (negsuc 89892) 53407 13859398111312008446 ∷ answer Fired
+    (pos 72000) 467 4634766966517661696 ∷ [])
     (pos 17000 ∷ negsuc 89892 ∷ pos 72000 ∷ pos 0 ∷ pos 0 ∷ pos 0 ∷ [])
 unfolding opened
 call-5 = refl
 
 call-6 : on (real 1090693104 ∷ []) (pos 17000 ∷ negsuc 89892 ∷ pos 72000 ∷ pos 0 ∷ pos 0 ∷ pos 0 ∷ [])
     ≡ after
-    (answer Default (pos 17000) 0 4625478292286210048 ∷ answer Fired (negsuc 89892) 1000 13859398111312008446 ∷ answer Fired (pos 72000) 1000 4634766966517661696 ∷ [])
+    (answer Default (pos 17000) 0 4625478292286210048 ∷ answer Fired (negsuc 89892) 1000 13859398111312008446 ∷ answer Fired
+    (pos 72000) 1000 4634766966517661696 ∷ [])
     (pos 17000 ∷ negsuc 89892 ∷ pos 72000 ∷ pos 0 ∷ pos 0 ∷ pos 0 ∷ [])
 unfolding opened
 call-6 = refl

@@ -117,8 +117,9 @@ valuesOf i [] rs = accepted []
 valuesOf i (v ∷ vs) [] = refused 14 (some i)
 valuesOf i (v ∷ vs) (r ∷ rs) =
     elim (valueIn (taken (v .type) r)) [
-      none ↦ refused 14 (some i)
-    | some x ↦ andThen (valuesOf (suc i) vs rs) (λ xs. accepted (x ∷ xs)) ]
+      | none ↦ refused 14 (some i)
+      | some x ↦ andThen (valuesOf (suc i) vs rs) (λ xs. accepted (x ∷ xs))
+    ]
 
 pub record CallResult : Type 0 where
   pub answers : List Answer

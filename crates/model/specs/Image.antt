@@ -303,8 +303,8 @@ outputAt w i =
       name = nameAt w o;
       terms = tab (singletonAt w) (w (o + 5)) (w (o + 4));
       range =
-        if eqb (w (o + 6)) 0 then none
-        else some (record { least = crispOf (w (o + 7)); most = crispOf (w (o + 8)) });
+          if eqb (w (o + 6)) 0 then none
+          else some (record { least = crispOf (w (o + 7)); most = crispOf (w (o + 8)) });
       default = if eqb (w (o + 9)) 0 then none else some (crispOf (w (o + 10)));
     }
 
@@ -370,5 +370,6 @@ decode w = record {
 unfoldable pub isImageOf : List ℕ → Block → Bool
 isImageOf img b = wellFormed b && same img (image b)
 
+-- `image_laws/proofs/Loads.loads-iff`: accepted as b exactly where b is well formed and the bytes are its image
 unfoldable pub loads : List ℕ → Outcome Block
 loads img = if isImageOf img (decode (wordAt img)) then accepted (decode (wordAt img)) else refused 11 none

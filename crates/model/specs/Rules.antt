@@ -128,9 +128,9 @@ algorithmLine second k pairOf r =
 unfoldable pub algorithms : Part
 algorithms r =
     if is AND r then
-      algorithmLine false AND andPair r ▸ (λ q. if is OR q then algorithmLine true OR orPair q else q) else
+    algorithmLine false AND andPair r ▸ (λ q. if is OR q then algorithmLine true OR orPair q else q) else
     if is OR r then
-      algorithmLine false OR orPair r ▸ (λ q. if is AND q then algorithmLine true AND andPair q else q) else r
+    algorithmLine false OR orPair r ▸ (λ q. if is AND q then algorithmLine true AND andPair q else q) else r
 
 unfoldable pub activation : Part
 activation r =

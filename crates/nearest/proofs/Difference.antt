@@ -86,5 +86,7 @@ diff-nearest a k s p =
     let p2 : 0 < 2 * s = omega arith in
     ap (λ (z : ℤ). shrZ (z +ℤ pos s) (2 * s)) (diff-scale a (k * s) 2)
     ∙ ap (λ (z : ℤ). shrZ (subℕ (a * 2) (k * s * 2) +ℤ z) (2 * s)) (pos-is s)
-    ∙ ap (λ (z : ℤ). shrZ z (2 * s)) (diff-add (a * 2) (k * s * 2) s 0 ∙ same (a * 2 + s) (k * s * 2 + 0) (2 * a + s) (k * (2 * s)) (omega (arith, mul-assoc k s 2, ap (λ (x : ℕ). k * x) (mul-comm s 2))))
+    ∙ ap (λ (z : ℤ). shrZ z (2 * s))
+    (diff-add (a * 2) (k * s * 2) s 0
+    ∙ same (a * 2 + s) (k * s * 2 + 0) (2 * a + s) (k * (2 * s)) (omega (arith, mul-assoc k s 2, ap (λ (x : ℕ). k * x) (mul-comm s 2))))
     ∙ diff-floor (2 * a + s) k (2 * s) p2

@@ -1,11 +1,13 @@
 -- The tree of postfix words.
-use mathlib.Core.Path.{_≡_, refl, ap, _∙_}
+use mathlib.Core.Path.{_≡_, refl, sym, ap, _∙_}
 use mathlib.Core.List.{List, [], _∷_, _++_, append-assoc, append-nil}
 use Prim.Native.Nat.{ℕ, _+_, _-_}
 use native.Mathlib.Omega.{arith}
 use borrow.Author.Tests.{le-leb}
-use Rattle.model.specs.Block.{Op, and, or, Condition, term, neg, two}
-use Rattle.model.specs.Image.{postfix, opWord, joinTop, grown, trees, treeOf}
+use Rattle.model.specs.Block.{Op, and, or, Condition, term, neg, two, size}
+use Rattle.model.specs.Image.{tab, postfix, opWord, joinTop, grown, trees, treeOf}
+use Rattle.laws.proofs.Places.{At, tab-at}
+use Rattle.laws.proofs.Conditions.{length-postfix}
 
 grown-term : (t : ℕ) (st : List Condition) → grown (16 + t) st ≡ term t ∷ st
 unfolding grown
@@ -27,3 +29,7 @@ trees-postfix (two o a b) rest st =
 pub tree-postfix : (c : Condition) → treeOf (postfix c) ≡ c
 unfolding treeOf trees
 tree-postfix c = let q = rw (append-nil (postfix c)) at (trees-postfix c [] []) in rw q refl
+
+-- words that are the postfix of a condition stand for it
+pub tree-at : (w : ℕ → ℕ) (d : ℕ) (c : Condition) → At w d (postfix c) → treeOf (tab w (size c) d) ≡ c
+tree-at w d c h = ap treeOf (ap (λ (n : ℕ). tab w n d) (sym (length-postfix c)) ∙ tab-at w d (postfix c) h) ∙ tree-postfix c

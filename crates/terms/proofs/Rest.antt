@@ -33,16 +33,19 @@ module _ (ps : List Point) (n : ℕ) (all : n ≤ length ps) where
   unfolding termDegree
   at-first x h t = rw (rest-next 0 h, t)
 
-  pub after-first : (x : ℤ) → 1 ≤ n → leZ x (pointAt ps 0 .at .0) ≡ false → termDegree (pointViews ps n) x ≡ degreeFrom x (pointView (pointAt ps 0)) (rest ps n (0 + 1))
+  pub after-first : (x : ℤ) → 1 ≤ n → leZ x (pointAt ps 0 .at .0) ≡ false
+      → termDegree (pointViews ps n) x ≡ degreeFrom x (pointView (pointAt ps 0)) (rest ps n (0 + 1))
   unfolding termDegree
   after-first x h t = rw (rest-next 0 h, t)
 
   -- below the next point, at or above it, and with no next
-  pub below-next : (x : ℤ) (p : BlockPoint) (i : ℕ) → i < n → ltZ x (pointAt ps i .at .0) ≡ true → degreeFrom x p (rest ps n i) ≡ onLine x p (pointView (pointAt ps i))
+  pub below-next : (x : ℤ) (p : BlockPoint) (i : ℕ) → i < n → ltZ x (pointAt ps i .at .0) ≡ true
+      → degreeFrom x p (rest ps n i) ≡ onLine x p (pointView (pointAt ps i))
   unfolding degreeFrom
   below-next x p i h t = rw (rest-next i h, t)
 
-  pub after-next : (x : ℤ) (p : BlockPoint) (i : ℕ) → i < n → ltZ x (pointAt ps i .at .0) ≡ false → degreeFrom x p (rest ps n i) ≡ degreeFrom x (pointView (pointAt ps i)) (rest ps n (i + 1))
+  pub after-next : (x : ℤ) (p : BlockPoint) (i : ℕ) → i < n → ltZ x (pointAt ps i .at .0) ≡ false
+      → degreeFrom x p (rest ps n i) ≡ degreeFrom x (pointView (pointAt ps i)) (rest ps n (i + 1))
   unfolding degreeFrom
   after-next x p i h t = rw (rest-next i h, t)
 

@@ -96,11 +96,19 @@ loop-less c = search needs
 
 loop-again : tie.Need-loop-again Inv-loop μ-loop
 loop-again c =
-    let l = c .before .before .before .before .before in
+    let c5 = c .before .before .before .before .before in
+    let l = c5 in
     let s = l .before in
     let a = s .args in
     let w = whole s in
-    omega (arith, turn c, sum-next (a .t2) (l .loop .i) (omega (arith, w)), lifted-next (a .t1) (a .t2) (l .loop .i) (omega (arith, w)) (omega (arith, w)), ap (λ (x : ℕ). x * heightAt (a .t2) (l .loop .i)) (turn c .0))
+    omega (
+      arith,
+      turn c,
+      sum-next (a .t2) (l .loop .i) (omega (arith, w)),
+      lifted-next (a .t1) (a .t2) (l .loop .i) (omega (arith, w))
+          (omega (arith, w)),
+      ap (λ (x : ℕ). x * heightAt (a .t2) (l .loop .i)) (turn c .0),
+    )
 
 returns : tie.Need-returns Inv-loop μ-loop
 returns c =
@@ -132,7 +140,8 @@ returns-2 c =
     let some : 0 < sumOf hs = omega (arith, f .0, q .before .if1 .left) in
     let even : length ps ≡ length hs = positions-length (s .args .t1) (s .args .n) (w .0) ∙ sym (heights-length (s .args .t2) (s .args .n) (w .1)) in
     let e : c .lower .result .0 ≡ nearestℤ (moment ps hs) (sumOf hs) =
-    c .lower .ensures .0 ∙ ap (λ (x : ℕ). subℕ x crispLimit) (q .nearest-quotient .ensures ∙ ap (λ (x : ℕ). nearest x (t .before .loop .sum)) (f .1) ∙ ap (λ (x : ℕ). nearest (lifted ps hs) x) (f .0))
+    c .lower .ensures .0 ∙ ap (λ (x : ℕ). subℕ x crispLimit)
+    (q .nearest-quotient .ensures ∙ ap (λ (x : ℕ). nearest x (t .before .loop .sum)) (f .1) ∙ ap (λ (x : ℕ). nearest (lifted ps hs) x) (f .0))
     ∙ sym (nearest-is ps hs even (positions-crisp (s .args .t1) (s .args .n) (w .0) (s .pre .1)) some) in
     ((f .0, omega arith), (rw (lt-ltb 0 (sumOf hs) some) e, c .lower .ensures .1))
 

@@ -18,8 +18,10 @@ not-above-requires-2 c κs = search needs
 
 returns : tie.Need-returns
 returns c =
-    let z = c .before .before .before .args .x .0 in
-    c .not-above2 .ensures ∙ sym (bounds z ∙ ap (λ (b : Bool). b && leZ z (pos 1000000000)) (sym (c .before .before .not-above .ensures) ∙ c .before .if1 .taken))
+    let c2 = c .before .before in
+    let c3 = c2 .before in
+    let z = c3 .args .x .0 in
+    c .not-above2 .ensures ∙ sym (bounds z ∙ ap (λ (b : Bool). b && leZ z (pos 1000000000)) (sym (c2 .not-above .ensures) ∙ c .before .if1 .taken))
 
 returns-2 : tie.Need-returns-2
 returns-2 c =

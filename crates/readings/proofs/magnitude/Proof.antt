@@ -61,13 +61,21 @@ quotient c =
 
 returns-3 : tie.Need-returns-3
 returns-3 c =
-    let a = c .before .before .before .before .args in
-    (min-low (c .before .nearest-quotient .result) (magnitudeOf (a .down) (1000 * (a .q * 2 ^ a .k)) (2 ^ 149)) crispLimit (quotient (c .before)) (le-of-lt (c .if3 .taken)), le-of-lt (c .if3 .taken))
+    let c4 = c .before .before .before .before in
+    let a = c4 .args in (
+      min-low (c .before .nearest-quotient .result) (magnitudeOf (a .down) (1000 * (a .q * 2 ^ a .k)) (2 ^ 149)) crispLimit (quotient (c .before))
+          (le-of-lt (c .if3 .taken)),
+      le-of-lt (c .if3 .taken),
+    )
 
 returns-4 : tie.Need-returns-4
 returns-4 c =
-    let a = c .before .before .before .before .args in
-    (min-high (c .before .nearest-quotient .result) (magnitudeOf (a .down) (1000 * (a .q * 2 ^ a .k)) (2 ^ 149)) crispLimit (quotient (c .before)) (c .if3 .left), lit≤ tt)
+    let c4 = c .before .before .before .before in
+    let a = c4 .args in (
+      min-high (c .before .nearest-quotient .result) (magnitudeOf (a .down) (1000 * (a .q * 2 ^ a .k)) (2 ^ 149)) crispLimit (quotient (c .before))
+          (c .if3 .left),
+      lit≤ tt,
+    )
 
 pub magnitude-spec : {M : Type 1} → statement M
 magnitude-spec =

@@ -92,10 +92,12 @@ returns-3 c =
 
 returns-4 : tie.Need-returns-4
 returns-4 c =
+    let c5 = c .before .before .before .before .before in
     let v = c .before .magnitude in
-    let s = c .before .before .before .before .before in
+    let s = c5 in
     let n = toBits binary32 (s .before .args .x) in
-    answered (c .before) true (le-leb 2147483648 n (c .if3 .left)) _ (v .ensures .0) (omega (arith, toBits-lt binary32 (s .before .args .x) (fits-x s))) _ (negated (v .result) (v .ensures .1))
+    answered (c .before) true (le-leb 2147483648 n (c .if3 .left)) _ (v .ensures .0) (omega (arith, toBits-lt binary32 (s .before .args .x) (fits-x s))) _
+    (negated (v .result) (v .ensures .1))
 
 pub real-spec : {M : Type 1} → statement M
 real-spec =

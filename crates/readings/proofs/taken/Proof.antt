@@ -42,7 +42,10 @@ enum-told-6 c = search needs
 
 returns : tie.Need-returns
 unfolding taken
-returns c = rw (c .before .before .before .before .enum-told .given .1, c .before .before .reading .given .1) (c .real .ensures, at-value (c .real .result) (rw (c .real .ensures) (real-bounded _)))
+returns c =
+    let c2 = c .before .before in
+    let c4 = c2 .before .before in
+    rw (c4 .enum-told .given .1, c2 .reading .given .1) (c .real .ensures, at-value (c .real .result) (rw (c .real .ensures) (real-bounded _)))
 
 returns-2 : tie.Need-returns-2
 unfolding taken
@@ -62,9 +65,14 @@ fits-int c = search needs
 returns-5 : tie.Need-returns-5
 unfolding taken
 returns-5 c =
-    let n = c .before .before .reading2 .given .0 .0 in
-    rw (c .before .before .before .before .enum-told4 .given .1, c .before .before .reading2 .given .1)
-    (value-is (c .int .result) (n *ℤ pos 1000) (c .int .ensures .0 ∙ ap (λ (z : ℤ). z *ℤ pos 1000) (toZ-ofZ w16 n (fits-int c))), at-value (Value (c .int .result)) (c .int .ensures .1))
+    let c2 = c .before .before in
+    let c4 = c2 .before .before in
+    let n = c2 .reading2 .given .0 .0 in
+    rw (c4 .enum-told4 .given .1, c2 .reading2 .given .1) (
+      value-is (c .int .result) (n *ℤ pos 1000) (c .int .ensures .0 ∙ ap (λ (z : ℤ). z *ℤ pos 1000) (toZ-ofZ w16 n (fits-int c))),
+      at-value
+          (Value (c .int .result)) (c .int .ensures .1),
+    )
 
 returns-6 : tie.Need-returns-6
 unfolding taken

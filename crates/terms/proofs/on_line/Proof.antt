@@ -57,13 +57,20 @@ facts c =
     )
 
 module _ (c : tie.After-nearest-quotient) where
-  is-line : let a = c .before .before .before .before .before .before .args in c .nearest-quotient .result ≡ onLine (a .x .0) (pointView (a .p)) (pointView (a .q))
+  is-line : let a = c .before .before .before .before .before .before .args in c .nearest-quotient .result ≡ onLine (a .x .0) (pointView (a .p))
+      (pointView (a .q))
   is-line =
       let l = c .before .before .before in
       let s = l .before .before .before in
       let a = s .args in
       let i = s .pre .0 in
-      rw (naturals (a .x .0) (pointView (a .p)) (pointView (a .q)) (i .0) (i .1 .0) (i .2 .0) (s .pre .1 .0) (s .pre .1 .1), ← l .before .before .lift .ensures .0, ← l .before .lift2 .ensures .0, ← l .lift3 .ensures .0)
+      rw (
+        naturals (a .x .0) (pointView (a .p)) (pointView (a .q)) (i .0) (i .1 .0) (i .2 .0) (s .pre .1 .0)
+            (s .pre .1 .1),
+        ← l .before .before .lift .ensures .0,
+        ← l .before .lift2 .ensures .0,
+        ← l .lift3 .ensures .0,
+      )
       (c .nearest-quotient .ensures)
 
   result-le : c .nearest-quotient .result ≤ M

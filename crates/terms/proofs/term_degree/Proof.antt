@@ -31,9 +31,11 @@ not-above-requires c κs = search needs
 
 returns : tie.Need-returns Inv-loop μ-loop
 returns c =
-    let s = c .before .before .before .before in
+    let c2 = c .before .before in
+    let c4 = c2 .before .before in
+    let s = c4 in
     let a = s .args in
-    (sym (at-first (a .t1) (a .n) (whole s) (a .x .0) (s .pre .0) (sym (c .before .before .not-above .ensures) ∙ c .before .if1 .taken)), s .pre .3 0 (omega arith) .1)
+    (sym (at-first (a .t1) (a .n) (whole s) (a .x .0) (s .pre .0) (sym (c2 .not-above .ensures) ∙ c .before .if1 .taken)), s .pre .3 0 (omega arith) .1)
 
 loop-holds : tie.Need-loop-holds Inv-loop μ-loop
 loop-holds c =
@@ -65,17 +67,28 @@ less-requires c κs = search needs
 
 on-line-requires : tie.Need-on-line-requires Inv-loop μ-loop
 on-line-requires c κs =
-    let s = c .before .before .before .before .before .before .before .before .before in
+    let c5 = c .before .before .before .before .before in
+    let c9 = c5 .before .before .before .before in
+    let s = c9 in
     let a = s .args in
-    let l = c .before .before .before .before .before .loop in
-    ((s .pre .2, s .pre .3 (l .i) (omega arith), s .pre .3 (l .i + 1) (omega arith)), (l .inv .1, ltZ-yes (subst T (sym (sym (c .before .less .ensures) ∙ c .if2 .taken)) tt)))
+    let l = c5 .loop in (
+      (s .pre .2, s .pre .3 (l .i) (omega arith), s .pre .3 (l .i + 1) (omega arith)),
+      (l .inv .1, ltZ-yes (subst T (sym (sym (c .before .less .ensures) ∙ c .if2 .taken)) tt)),
+    )
 
 returns-2 : tie.Need-returns-2 Inv-loop μ-loop
 returns-2 c =
-    let s = c .before .before .before .before .before .before .before .before .before .before in
+    let c2 = c .before .before in
+    let c6 = c2 .before .before .before .before in
+    let c10 = c6 .before .before .before .before in
+    let s = c10 in
     let a = s .args in
-    let l = c .before .before .before .before .before .before .loop in
-    (c .on-line .ensures .0 ∙ sym (l .inv .2 ∙ below-next (a .t1) (a .n) (whole s) (a .x .0) (pointView (pointAt (a .t1) (l .i))) (l .i + 1) (omega arith) (sym (c .before .before .less .ensures) ∙ c .before .if2 .taken)), c .on-line .ensures .1)
+    let l = c6 .loop in (
+      c .on-line .ensures .0
+          ∙ sym (l .inv .2 ∙ below-next (a .t1) (a .n) (whole s) (a .x .0) (pointView (pointAt (a .t1) (l .i))) (l .i + 1) (omega arith)
+          (sym (c2 .less .ensures) ∙ c .before .if2 .taken)),
+      c .on-line .ensures .1,
+    )
 
 add-i : tie.Need-add-i Inv-loop μ-loop
 add-i c = search needs
@@ -85,11 +98,17 @@ loop-less c = search needs
 
 loop-again : tie.Need-loop-again Inv-loop μ-loop
 loop-again c =
-    let s = c .before .before .before .before .before .before .before .before .before in
+    let c5 = c .before .before .before .before .before in
+    let c9 = c5 .before .before .before .before in
+    let s = c9 in
     let a = s .args in
-    let l = c .before .before .before .before .before .loop in
-    let e : ltZ (a .x .0) (pointAt (a .t1) (l .i + 1) .at .0) ≡ false = sym (c .before .less .ensures) ∙ c .if2 .left in
-    (omega arith, ltZ-no (subst (λ (b : Bool). T (not b)) (sym e) tt), l .inv .2 ∙ after-next (a .t1) (a .n) (whole s) (a .x .0) (pointView (pointAt (a .t1) (l .i))) (l .i + 1) (omega arith) e)
+    let l = c5 .loop in
+    let e : ltZ (a .x .0) (pointAt (a .t1) (l .i + 1) .at .0) ≡ false = sym (c .before .less .ensures) ∙ c .if2 .left in (
+      omega arith,
+      ltZ-no (subst (λ (b : Bool). T (not b)) (sym e) tt),
+      l .inv .2
+          ∙ after-next (a .t1) (a .n) (whole s) (a .x .0) (pointView (pointAt (a .t1) (l .i))) (l .i + 1) (omega arith) e,
+    )
 
 mul-last : tie.Need-mul-last Inv-loop μ-loop
 mul-last c = search needs
@@ -99,10 +118,15 @@ array-copy-out-last c = search needs
 
 returns-3 : tie.Need-returns-3 Inv-loop μ-loop
 returns-3 c =
-    let s = c .before .before .before .before .before .before .before in
+    let c3 = c .before .before .before in
+    let c7 = c3 .before .before .before .before in
+    let s = c7 in
     let a = s .args in
-    let l = c .before .before .before .loop in
-    (sym (l .inv .2 ∙ at-last (a .t1) (a .n) (whole s) (a .x .0) (pointView (pointAt (a .t1) (l .i))) (l .i + 1) (omega arith)), s .pre .3 (l .i) (omega arith) .1)
+    let l = c3 .loop in (
+      sym (l .inv .2 ∙ at-last (a .t1) (a .n) (whole s) (a .x .0) (pointView (pointAt (a .t1) (l .i))) (l .i + 1) (omega arith)),
+      s .pre .3 (l .i)
+          (omega arith) .1,
+    )
 
 pub term-degree-spec : {M : Type 1} → statement M
 term-degree-spec =
