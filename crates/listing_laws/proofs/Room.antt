@@ -1,9 +1,9 @@
--- A listing is bytes, and at most 32,013 of them.
+-- A listing is bytes, and at most 31,485 of them.
 use mathlib.Core.Path.{_≡_, refl}
 use mathlib.Core.List.{List, [], _∷_, _++_, map}
-use mathlib.Core.Bool.{Bool, true, false, _&&_, and-false}
+use mathlib.Core.Bool.{Bool, true, false, _&&_, not, and-false}
 use mathlib.Core.Option.{Option, none, some}
-use Prim.Native.Nat.{ℕ, zero, suc, _+_, _*_, _/_, _≤_, _<_}
+use Prim.Native.Nat.{ℕ, zero, suc, _+_, _*_, _-_, _/_, _≤_, _<_}
 use Prim.Native.String.{String}
 use native.Mathlib.Omega.{arith}
 use native.Mathlib.Nat.{mul-suc}
@@ -12,7 +12,7 @@ use lib.Dec.{leb, ltb, eqb}
 use lib.IntN.{ℤ, pos, negsuc}
 use lib.ListN.{length, getD, length-append}
 use lib.Signed.{ltZ}
-use Rattle.model.specs.Basic.{bytes, all, total, gather}
+use Rattle.model.specs.Basic.{bytes, isEmpty, all, total, gather}
 use Rattle.model.specs.Bounds.{M, crispLimit, ruleNumberLeast, ruleNumberLimit}
 use Rattle.model.specs.Tokens.{isDigit, isNameByte, isName, inCrisp}
 use Rattle.model.specs.Block.{Point, Term, Singleton, Input, Range, Output, Op, and, or, Condition, term, neg, two, Conclusion, Rule, Block, inputTerms, size, inRange}
@@ -116,7 +116,7 @@ module _ {A : Type 0} (f : A → List ℕ) (ok : A → Bool) (n : ℕ) (k : (x :
   lines-room : (xs : List A) → all ok xs ≡ true → Fits (n * length xs) (gather f xs)
   lines-room xs h = rw (total-same n xs) at (gather-room f ok (λ x. n) k xs h)
 
-  commaed-room : (xs : List A) → all ok xs ≡ true → Fits ((n + 2) * length xs) (commaed (map f xs))
+  commaed-room : (xs : List A) → all ok xs ≡ true → Fits ((n + 2) * length xs - 2) (commaed (map f xs))
   unfolding all commaed
   commaed-room [] h = record { small = refl; short = omega arith }
   commaed-room (x ∷ []) h =
@@ -129,7 +129,8 @@ module _ {A : Type 0} (f : A → List ℕ) (ok : A → Bool) (n : ℕ) (k : (x :
       record {
         small = rw (all-append isByte (f x) (bytes ", " ++ commaed (map f (y ∷ xs))), p .small, q .small);
         short =
-          omega (arith, length-append (f x) (bytes ", " ++ commaed (map f (y ∷ xs))), mul-suc (n + 2) (length (y ∷ xs)), p .short, q .short);
+          omega (arith, p .short, q .short,
+          length-append (f x) (bytes ", " ++ commaed (map f (y ∷ xs))), mul-suc (n + 2) (suc (length xs)), mul-suc (n + 2) (length xs));
       }
 
 -- DECLARATIONS
@@ -160,7 +161,7 @@ point-text-room p h =
     let u = unit-room (p .degree) (b .1) in
     record { small = simp (all-append, c .small, u .small); short = simp length-append (omega (arith, c .short, u .short)) }
 
-term-room : (t : Term) → termOk t ≡ true → Fits 117 (termLine t)
+term-room : (t : Term) → termOk t ≡ true → Fits 115 (termLine t)
 unfolding all termOk termLine
 term-room t h =
     let f = term-facts t h in
@@ -168,12 +169,12 @@ term-room t h =
     let p = commaed-room pointText pointOk 20 point-text-room (t .points) (f .points) in
     record { small = simp (all-append, n .small, p .small); short = simp length-append (omega (arith, n .short, p .short, f .count .1)) }
 
-fuzzify-room : (v : Input) → inputOk v ≡ true → Fits 856 (fuzzifyText v)
+fuzzify-room : (v : Input) → inputOk v ≡ true → Fits 842 (fuzzifyText v)
 unfolding all inputOk fuzzifyText
 fuzzify-room v h =
     let f = input-facts v h in
     let n = name-room (v .name) (passed _ h .0) in
-    let t = lines-room termLine termOk 117 term-room (v .terms) (f .terms) in
+    let t = lines-room termLine termOk 115 term-room (v .terms) (f .terms) in
     record { small = simp (all-append, n .small, t .small); short = simp length-append (omega (arith, n .short, t .short, f .count .1)) }
 
 -- SINGLETONS
@@ -233,17 +234,19 @@ unfolding all
 operator-room and = record { small = refl; short = omega arith }
 operator-room or = record { small = refl; short = omega arith }
 
+-- room for a condition, wherever it stands
+abbrev conditionSize : Condition → ℕ
+conditionSize c = (43 * size c + 29) / 2
+
 module _ (f : ℕ → TermNames) (n : ℕ) (ok : Named f n) where
-  negated-room : (l : ℕ) (c : Condition) (k : ℕ) → Fits (22 * size c + 14) (wrapped bareBehindNot (form c) (conditionText f c))
-      → Fits (22 * (size c + 1) + 14) (wrapped l k (bytes "NOT " ++ wrapped bareBehindNot (form c) (conditionText f c)))
-  unfolding all
+  negated-room : (l : ℕ) (c : Condition) (k : ℕ) → Fits (conditionSize c) (wrapped bareBehindNot (form c) (conditionText f c))
+      → Fits (conditionSize (neg c)) (wrapped l k (bytes "NOT " ++ wrapped bareBehindNot (form c) (conditionText f c)))
+  unfolding all size
   negated-room l c k p =
       let q : Fits 4 (bytes "NOT ") = record { small = refl; short = omega arith } in
-      weaken (4 + (22 * size c + 14) + 2) (22 * (size c + 1) + 14) (omega arith)
-      (wrapped-room l k (4 + (22 * size c + 14)) _ (join 4 (22 * size c + 14) q p))
+      weaken (4 + conditionSize c + 2) (conditionSize (neg c)) (omega arith) (wrapped-room l k (4 + conditionSize c) _ (join 4 (conditionSize c) q p))
 
-  -- wherever it stands
-  condition-room : (l : ℕ) (c : Condition) → termsBelow n c ≡ true → Fits (22 * size c + 14) (wrapped l (form c) (conditionText f c))
+  condition-room : (l : ℕ) (c : Condition) → termsBelow n c ≡ true → Fits (conditionSize c) (wrapped l (form c) (conditionText f c))
   unfolding all conditionText termsBelow size form
   condition-room l (term t) h =
       let o = ok t (ltb-true t n h) in
@@ -251,18 +254,18 @@ module _ (f : ℕ → TermNames) (n : ℕ) (ok : Named f n) where
   condition-room l (neg (term t)) h =
       let o = ok t (ltb-true t n h) in
       let p = names-room (f t .variable) (f t .term) " IS NOT " 8 (o .0) (o .1) (record { small = refl; short = omega arith }) in
-      weaken 42 58 (omega arith) (wrapped-room l 1 40 (f t .variable ++ (bytes " IS NOT " ++ f t .term)) p)
+      weaken 42 57 (omega arith) (wrapped-room l 1 40 (f t .variable ++ (bytes " IS NOT " ++ f t .term)) p)
   condition-room l (neg (neg c)) h = negated-room l (neg c) (form (neg (neg c))) (condition-room bareBehindNot (neg c) h)
   condition-room l (neg (two o a b)) h = negated-room l (two o a b) (form (neg (two o a b))) (condition-room bareBehindNot (two o a b) h)
   condition-room l (two o a b) h =
       let c = both (termsBelow n a) (termsBelow n b) h in
       let p = condition-room (bareLeft o) a (c .0) in
       let q = condition-room (bareRight o) b (c .1) in
-      weaken (22 * size a + 14 + (5 + (22 * size b + 14)) + 2) (22 * (size a + size b + 1) + 14) (omega arith)
-      (wrapped-room l (rank o) (22 * size a + 14 + (5 + (22 * size b + 14))) _
-      (join (22 * size a + 14) (5 + (22 * size b + 14)) p (join 5 (22 * size b + 14) (operator-room o) q)))
+      let m = conditionSize a + (5 + conditionSize b) in
+      weaken (m + 2) (conditionSize (two o a b)) (omega arith)
+      (wrapped-room l (rank o) m _ (join (conditionSize a) (5 + conditionSize b) p (join 5 (conditionSize b) (operator-room o) q)))
 
-  bare-room : (c : Condition) → termsBelow n c ≡ true → Fits (22 * size c + 14) (conditionText f c)
+  bare-room : (c : Condition) → termsBelow n c ≡ true → Fits (conditionSize c) (conditionText f c)
   bare-room c h = rw (le-ltb (form c) (form c) (omega arith)) at (condition-room (form c) c h)
 
 -- RULES
@@ -276,10 +279,10 @@ weight-room w h = go (eqb w M) refl
 
 -- a rule, by the words of its condition and its conclusions
 abbrev ruleSize : Rule → ℕ
-ruleSize r = 51 + 22 * size (r .condition) + 38 * length (r .conclusions)
+ruleSize r = 35 + conditionSize (r .condition) + 38 * length (r .conclusions)
 
 rules-size : (rs : List Rule)
-    → total ruleSize rs ≡ 51 * length rs + 22 * total (λ r. size (r .condition)) rs + 38 * length (gather (λ r. r .conclusions) rs)
+    → 2 * total ruleSize rs ≤ 99 * length rs + 43 * total (λ r. size (r .condition)) rs + 76 * length (gather (λ r. r .conclusions) rs)
 unfolding total gather
 rules-size [] = omega arith
 rules-size (r ∷ rs) = omega (arith, rules-size rs, length-append (r .conclusions) (gather (λ r. r .conclusions) rs))
@@ -306,6 +309,10 @@ unfolding all
 accu-room by-max = record { small = refl; short = omega arith }
 accu-room by-bsum = record { small = refl; short = omega arith }
 
+some-there : {A : Type 0} (xs : List A) → not (isEmpty xs) ≡ true → 1 ≤ length xs
+some-there [] e = clash e
+some-there (x ∷ xs) e = omega arith
+
 module _ (b : Block) (h : wellFormed b ≡ true) where
   conclusion-room : (k : Conclusion) → conclusionOk b k ≡ true → Fits 36 (conclusionText b k)
   unfolding all conclusionText
@@ -323,10 +330,10 @@ module _ (b : Block) (h : wellFormed b ≡ true) where
       let w = weight-room (r .weight) (f .weight) in
       record {
         small = simp (all-append, n .small, c .small, k .small, w .small);
-        short = simp length-append (omega (arith, n .short, c .short, k .short, w .short));
+        short = simp length-append (omega (arith, n .short, c .short, k .short, w .short, some-there (r .conclusions) (f .some)));
       }
 
-  rule-block-room : Fits 22305 (ruleBlockText b)
+  rule-block-room : Fits 21889 (ruleBlockText b)
   unfolding all wellFormed ruleBlockText
   rule-block-room =
       let f = block-facts b h in
@@ -343,14 +350,14 @@ module _ (b : Block) (h : wellFormed b ≡ true) where
           (omega (arith, n .short, p .short, q .short, a .short, c .short, r .short, rules-size (b .rules), f .rules .1, f .words, f .conclusions));
       }
 
-  listing-room : Fits 32013 (listing b)
+  listing-room : Fits 31485 (listing b)
   unfolding all wellFormed listing
   listing-room =
       let f = block-facts b h in
       let n = name-room (b .name) (passed _ h .0) in
       let i = lines-room inputLine inputOk 27 input-room (b .inputs) (f .inputs-ok) in
       let o = lines-room outputLine outputOk 27 output-room (b .outputs) (f .outputs-ok) in
-      let u = lines-room fuzzifyText inputOk 856 fuzzify-room (b .inputs) (f .inputs-ok) in
+      let u = lines-room fuzzifyText inputOk 842 fuzzify-room (b .inputs) (f .inputs-ok) in
       let d = lines-room defuzzifyText outputOk 399 defuzzify-room (b .outputs) (f .outputs-ok) in
       let r = rule-block-room in
       record {
@@ -361,7 +368,7 @@ module _ (b : Block) (h : wellFormed b ≡ true) where
   pub listing-bytes : all isByte (listing b) ≡ true
   listing-bytes = listing-room .small
 
-  pub listing-short : length (listing b) ≤ 32013
+  pub listing-short : length (listing b) ≤ 31485
   listing-short = listing-room .short
 
 -- each byte by its place
