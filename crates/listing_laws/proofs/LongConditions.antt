@@ -55,11 +55,11 @@ module _ (f : ℕ → TermNames) where
   bare : (l : ℕ) (c : Condition) → form c ≤ l → Any c → (d : ℕ) → opened l (form c) (depth c) < d → Bound d (at l c) (size c) 0
   bare l c g k d h = rw (le-ltb l (form c) g) (k d (rw (le-ltb l (form c) g) at h))
 
-  in-parentheses : (l : ℕ) (c : Condition) → l < form c → (at l c ≡ bytesOf c + 2) × (opened l (form c) (depth c) ≡ suc (depth c))
-  in-parentheses l c g = rw (lt-ltb l (form c) g) (omega (arith, length-append (conditionText f c) (bytes ")")), refl)
+  in-parentheses : (l : ℕ) (c : Condition) → l < form c → at l c ≡ bytesOf c + 2
+  in-parentheses l c g = rw (lt-ltb l (form c) g) (omega (arith, length-append (conditionText f c) (bytes ")")))
 
   wider : (l : ℕ) (c : Condition) → l < form c → (d : ℕ) → d * at l c ≡ d * bytesOf c + d * 2
-  wider l c g d = ap (λ (m : ℕ). d * m) (in-parentheses l c g .0) ∙ mul-add d (bytesOf c) 2
+  wider l c g d = ap (λ (m : ℕ). d * m) (in-parentheses l c g) ∙ mul-add d (bytesOf c) 2
 
   -- where AND stands bare
   at-and : (c : Condition) → Known c → (d : ℕ) → opened 3 (form c) (depth c) < d → Bound d (at 3 c) (size c) 0
