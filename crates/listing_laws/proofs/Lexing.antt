@@ -9,10 +9,9 @@ use borrow.Author.Tests.{ltb-true}
 use lib.Dec.{ltb, eqb}
 use lib.IntN.{ℤ}
 use lib.ListN.{length}
-use Rattle.model.specs.Basic.{bytes, all, run, gather}
+use Rattle.model.specs.Basic.{bytes, all, gather}
 use Rattle.model.specs.Bounds.{M}
-use Rattle.model.specs.Keywords.{isKeyword}
-use Rattle.model.specs.Tokens.{isNameByte, starts, tidy, isName, wordKind, wordPiece, pieceAt, tokens}
+use Rattle.model.specs.Tokens.{isNameByte, starts, isName, tokens}
 use Rattle.model.specs.Block.{Point, Term, Singleton, Input, Range, Output, Op, and, or, Condition, term, neg, two, Conclusion, Rule, Block, inputTerms}
 use Rattle.model.specs.declared.InputType.{InputType}
 use Rattle.model.specs.declared.InputType.the-variants.{Real as real, Int as int}
@@ -28,7 +27,7 @@ use Rattle.model.specs.WellFormed.{pointOk, termOk, inputOk, singletonOk, outpu
 use Rattle.laws.proofs.Tests.{both, passed}
 use Rattle.listing_laws.proofs.Items
 use Rattle.listing_laws.proofs.Items.{Item, itemOf, name, number, word, wordOf, colon, comma, semicolon, assign, dots, closing, opening, commas, within, conditionItems, typeItem, inputItems, outputItems, pointItems, termItems, fuzzifyItems, rangeItems, singletonItems, defaultItem, defuzzifyItems, conclusionItems, weightItems, ruleItems, ruleBlockItems, listingItems}
-use Rattle.listing_laws.proofs.Pieces.{cut, cut-is, Ends, Keyword, spelt, keyword, name-cut, keyword-cut, digits-cut, thousandths-cut, crisp-cut, opening-cut, crisp-start, name-start}
+use Rattle.listing_laws.proofs.Pieces.{cut, cut-is, cutting, Ends, Keyword, spelt, keyword, name-cut, keyword-cut, digits-cut, thousandths-cut, crisp-cut, opening-cut, crisp-start, name-start}
 use Rattle.listing_laws.proofs.Facts.{term-facts, input-facts, output-facts, rule-facts, block-facts}
 use Rattle.listing_laws.proofs.Names.{input-named, output-named, conclusion-named}
 
@@ -83,7 +82,7 @@ module _ {A : Type 0} (f : A → List ℕ) (g : A → List Item) (ok : A → Boo
 
   commaed-cuts : ((x : A) (s : List ℕ) → ok x ≡ true → Ends s → Cuts (f x) (g x) s)
       → (xs : List A) (s : List ℕ) → all ok xs ≡ true → Ends s → Cuts (commaed (map f xs)) (commas (map g xs)) s
-  unfolding commaed commas all cut pieceAt
+  unfolding commaed commas all cutting
   commaed-cuts k [] s h e = record { cuts = refl }
   commaed-cuts k (x ∷ []) s h e = k x s (both (ok x) true h .0) e
   commaed-cuts k (x ∷ y ∷ xs) s h e =
@@ -102,7 +101,7 @@ type-item real = refl
 type-item int = refl
 
 pub input-cuts : (v : Input) (s : List ℕ) → inputOk v ≡ true → Cuts (inputLine v) (inputItems v) s
-unfolding cut pieceAt wordPiece wordKind run tidy isKeyword inputOk
+unfolding cutting inputOk
 input-cuts v s h =
     rw (← type-item (v .type))
     (text "  " [] (λ s. refl)
@@ -112,7 +111,7 @@ input-cuts v s h =
     (last ";\n" (semicolon ∷ []) (λ s. refl))))))
 
 pub output-cuts : (v : Output) (s : List ℕ) → outputOk v ≡ true → Cuts (outputLine v) (outputItems v) s
-unfolding cut pieceAt wordPiece wordKind run tidy isKeyword outputOk
+unfolding cutting outputOk
 output-cuts v s h =
     text "  " [] (λ s. refl)
     (named (v .name) (passed _ h .0) refl
@@ -120,7 +119,7 @@ output-cuts v s h =
 
 -- TERMS
 point-cuts : (p : Point) (s : List ℕ) → Cuts (pointText p) (pointItems p) s
-unfolding cut pieceAt
+unfolding cutting
 point-cuts p s =
     opened "(" (opening ∷ []) opening-cut (crisp-start (p .at) _ s)
     (crisp (p .at) (refl, refl)
@@ -129,7 +128,7 @@ point-cuts p s =
     (last ")" (closing ∷ []) (λ s. refl)))))
 
 term-cuts : (t : Term) (s : List ℕ) → termOk t ≡ true → Cuts (termLine t) (termItems t) s
-unfolding cut pieceAt wordPiece wordKind run tidy isKeyword termOk termLine termItems
+unfolding cutting termOk termLine termItems
 term-cuts t s h =
     text "  TERM " (word "TERM" ∷ []) (λ s. refl)
     (named (t .name) (passed _ h .0) refl
@@ -139,7 +138,7 @@ term-cuts t s h =
     (last ";\n" (semicolon ∷ []) (λ s. refl)))))
 
 pub fuzzify-cuts : (v : Input) (s : List ℕ) → inputOk v ≡ true → Cuts (fuzzifyText v) (fuzzifyItems v) s
-unfolding cut pieceAt wordPiece wordKind run tidy isKeyword inputOk fuzzifyText fuzzifyItems
+unfolding cutting inputOk fuzzifyText fuzzifyItems
 fuzzify-cuts v s h =
     text "FUZZIFY " (word "FUZZIFY" ∷ []) (λ s. refl)
     (named (v .name) (passed _ h .0) refl
@@ -150,7 +149,7 @@ fuzzify-cuts v s h =
 
 -- SINGLETONS
 range-cuts : (g : Option Range) (s : List ℕ) → Cuts (rangeLine g) (rangeItems g) s
-unfolding cut pieceAt wordPiece wordKind run tidy isKeyword
+unfolding cutting
 range-cuts none s = record { cuts = refl }
 range-cuts (some g) s =
     opened "  RANGE(" (word "RANGE" ∷ opening ∷ []) (λ s e. ap (λ (l : List Item). word "RANGE" ∷ l) (opening-cut s e)) (crisp-start (g .least) _ s)
@@ -160,7 +159,7 @@ range-cuts (some g) s =
     (last ");\n" (closing ∷ semicolon ∷ []) (λ s. refl)))))
 
 singleton-cuts : (g : Option Range) (t : Singleton) (s : List ℕ) → singletonOk g t ≡ true → Cuts (singletonLine t) (singletonItems t) s
-unfolding cut pieceAt wordPiece wordKind run tidy isKeyword singletonOk singletonLine singletonItems
+unfolding cutting singletonOk singletonLine singletonItems
 singleton-cuts g t s h =
     text "  TERM " (word "TERM" ∷ []) (λ s. refl)
     (named (t .name) (both (isName (t .name)) (figureOk g (t .at)) h .0) refl
@@ -174,7 +173,7 @@ default-cuts none s e = record { cuts = keyword-cut (bytes "NC") s (keyword (byt
 default-cuts (some x) s e = record { cuts = crisp-cut x s e }
 
 pub defuzzify-cuts : (v : Output) (s : List ℕ) → outputOk v ≡ true → Cuts (defuzzifyText v) (defuzzifyItems v) s
-unfolding cut pieceAt wordPiece wordKind run tidy isKeyword outputOk defuzzifyText defuzzifyItems
+unfolding cutting outputOk defuzzifyText defuzzifyItems
 defuzzify-cuts v s h =
     text "DEFUZZIFY " (word "DEFUZZIFY" ∷ []) (λ s. refl)
     (named (v .name) (passed _ h .0) refl
@@ -190,7 +189,7 @@ defuzzify-cuts v s h =
 wrapped-cuts : (l k : ℕ) (w : List ℕ) (xs : List Item) (s : List ℕ) → starts isNameByte s ≡ false
     → ((s : List ℕ) → starts isNameByte s ≡ false → Cuts w xs s) → ((s : List ℕ) → starts (eqb 42) (w ++ s) ≡ false)
     → Cuts (wrapped l k w) (within l k xs) s
-unfolding cut pieceAt
+unfolding cutting
 wrapped-cuts l k w xs s e f g = go (ltb l k) refl
   where
     go : (b : Bool) → ltb l k ≡ b → Cuts (wrapped l k w) (within l k xs) s
@@ -202,7 +201,7 @@ wrapped-cuts l k w xs s e f g = go (ltb l k) refl
     go false q = rw q (f s e)
 
 operator-cuts : (o : Op) (s : List ℕ) → Cuts (operator o) (Items.operator o ∷ []) s
-unfolding cut pieceAt wordPiece wordKind run tidy isKeyword
+unfolding cutting
 operator-cuts and s = record { cuts = refl }
 operator-cuts or s = record { cuts = refl }
 
@@ -246,7 +245,7 @@ module _ (f : ℕ → TermNames) (n : ℕ) (ok : Named f n) where
   placed-cuts l c s h e k = wrapped-cuts l (form c) (conditionText f c) (conditionItems f c) s e k (λ s. condition-start c s h)
 
   condition-cuts : (c : Condition) (s : List ℕ) → termsBelow n c ≡ true → starts isNameByte s ≡ false → Cuts (conditionText f c) (conditionItems f c) s
-  unfolding cut pieceAt wordPiece wordKind run tidy isKeyword conditionText conditionItems termsBelow
+  unfolding cutting conditionText conditionItems termsBelow
   condition-cuts (term t) s h e =
       let o = ok t (ltb-true t n h) in
       names-cut (f t .variable) (f t .term) " IS " (word "IS" ∷ []) s (o .0) (o .1) e refl (λ s. refl)
@@ -291,7 +290,7 @@ accu-keyword by-bsum = keyword (bytes "BSUM") refl
 
 module _ (b : Block) (h : wellFormed b ≡ true) where
   conclusion-cuts : (k : Conclusion) (s : List ℕ) → conclusionOk b k ≡ true → Ends s → Cuts (conclusionText b k) (conclusionItems b k) s
-  unfolding cut pieceAt wordPiece wordKind run tidy isKeyword conclusionText conclusionItems
+  unfolding cutting conclusionText conclusionItems
   conclusion-cuts k s o e = names-cut _ _ " IS " (word "IS" ∷ []) s (output-named b h k o) (conclusion-named b h k o) (e .0) refl (λ s. refl)
 
   weight-ends : (w : ℕ) (s : List ℕ) → Ends ((weightText w ++ bytes ";\n") ++ s)
@@ -302,7 +301,7 @@ module _ (b : Block) (h : wellFormed b ≡ true) where
       go false q = rw q (refl, refl)
 
   weight-cuts : (w : ℕ) (s : List ℕ) → Ends s → Cuts (weightText w) (weightItems w) s
-  unfolding cut pieceAt wordPiece wordKind run tidy isKeyword
+  unfolding cutting
   weight-cuts w s e = go (eqb w M) refl
     where
       go : (q : Bool) → eqb w M ≡ q → Cuts (weightText w) (weightItems w) s
@@ -310,7 +309,7 @@ module _ (b : Block) (h : wellFormed b ≡ true) where
       go false q = rw q (text " WITH " (word "WITH" ∷ []) (λ s. refl) (record { cuts = thousandths-cut (w / 1000) s e }))
 
   rule-cuts : (r : Rule) (s : List ℕ) → ruleOk b r ≡ true → Cuts (ruleLine b r) (ruleItems b r) s
-  unfolding cut pieceAt wordPiece wordKind run tidy isKeyword ruleLine ruleItems
+  unfolding cutting ruleLine ruleItems
   rule-cuts r s o =
       let f = rule-facts b r o in
       text "  RULE " (word "RULE" ∷ []) (λ s. refl)
@@ -325,7 +324,7 @@ module _ (b : Block) (h : wellFormed b ≡ true) where
       (last ";\n" (semicolon ∷ []) (λ s. refl))))))))
 
   rule-block-cuts : (s : List ℕ) → Cuts (ruleBlockText b) (ruleBlockItems b) s
-  unfolding cut pieceAt wordPiece wordKind run tidy isKeyword wellFormed ruleBlockText ruleBlockItems
+  unfolding cutting wellFormed ruleBlockText ruleBlockItems
   rule-block-cuts s =
       text "RULEBLOCK " (word "RULEBLOCK" ∷ []) (λ s. refl)
       (named (b .ruleBlock) (passed _ h .1 .0) refl
@@ -343,7 +342,7 @@ module _ (b : Block) (h : wellFormed b ≡ true) where
       (last "END_RULEBLOCK\n" (word "END_RULEBLOCK" ∷ []) (λ s. refl)))))))))))))
 
   whole-cuts : CutsTo (listing b) (listingItems b) [] []
-  unfolding cut pieceAt wordPiece wordKind run tidy isKeyword wellFormed listing listingItems
+  unfolding cutting wellFormed listing listingItems
   whole-cuts =
       let is = block-facts b h .inputs-ok in
       let os = block-facts b h .outputs-ok in

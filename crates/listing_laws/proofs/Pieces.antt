@@ -9,7 +9,7 @@ use lib.IntN.{ℤ, pos, negsuc}
 use lib.ListN.{length, take, length-append}
 use lib.Seq.{take-append-seam, drop-append-seam}
 use borrow.Author.Tests.{leb-true, leb-false, not-true, lt-leb, ne-eqb}
-use Rattle.model.specs.Basic.{if_then_else_, all}
+use Rattle.model.specs.Basic.{if_then_else_, all, run}
 use Rattle.model.specs.Bounds.{nameLimit}
 use Rattle.model.specs.Keywords.{END, NAME, NUMBER, BLANK, OPEN, keywordAt, isKeyword}
 use Rattle.model.specs.Tokens.{isBlank, isDigit, startsName, isNameByte, starts, tidy, isName, Piece, piece, wordKind, pointPart, numberPart, wordPiece, pieceAt, placed, scan}
@@ -27,6 +27,11 @@ unfoldable pub cut : ℕ → List ℕ → List Item
 cut n [] = item END [] ∷ []
 cut (suc n) (c ∷ s) = cut n s
 cut zero (c ∷ s) = kept (pieceAt c s) (c ∷ s) (cut (pieceAt c s .more) s)
+
+-- unfolding this unfolds what cuts a written text
+unfoldable pub cutting : ℕ
+unfolding cut pieceAt wordPiece wordKind run tidy isKeyword
+cutting = 0
 
 pub cut-is : (n p : ℕ) (s : List ℕ) → map itemOf (scan n p s) ≡ cut n s
 unfolding scan cut

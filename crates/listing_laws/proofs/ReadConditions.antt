@@ -12,7 +12,7 @@ use Rattle.model.specs.Bounds.{nameLimit, wordLimit, depthLimit}
 use Rattle.model.specs.Keywords.{AND, OR, NOT, IS, CLOSE}
 use Rattle.model.specs.Block.{Block, Op, and, or, Condition, term, neg, two, size, inputFirst}
 use Rattle.model.specs.Parentheses.{form, depth, opened}
-use Rattle.model.specs.Parse.{Parse, kind, text, is, advance, expect}
+use Rattle.model.specs.Parse.{Parse, kind, text, advance, expect}
 use Rattle.model.specs.Declarations.{inputOf, isInput, termOf, isTerm}
 use Rattle.model.specs.Rules.{ConditionRead, conditionRead, negatedRead, closed, word, conditionTerm, termOrNot, subcondition, chainOn, chain, plain, operand, conditionWith, parenthesis, condition}
 use Rattle.model.specs.WellFormed.{termsBelow}

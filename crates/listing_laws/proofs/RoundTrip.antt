@@ -13,7 +13,7 @@ use Rattle.model.specs.Reader.{reads}
 use Rattle.model.specs.WellFormed.{wellFormed}
 use Rattle.listing_laws.proofs.Lexing.{listing-lexes}
 use Rattle.listing_laws.proofs.ReadListing.{items-read}
-use Rattle.listing_laws.proofs.Room.{listing-short}
+use Rattle.listing_laws.proofs.Longest.{listing-short}
 
 pub listing-reads : (b : Block) → wellFormed b ≡ true → reads (listing b) ≡ accepted b
 unfolding reads
