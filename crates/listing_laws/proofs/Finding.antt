@@ -84,7 +84,7 @@ unfolding sameName
 name-self w = same-refl w
 
 -- of two names neither is the other
-differ : (v w : List ℕ) → not (sameName v w) ≡ true → not (sameName w v) ≡ true
+pub differ : (v w : List ℕ) → not (sameName v w) ≡ true → not (sameName w v) ≡ true
 differ v w h = go (sameName w v) refl
   where
     go : (b : Bool) → sameName w v ≡ b → not (sameName w v) ≡ true

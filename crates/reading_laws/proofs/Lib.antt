@@ -1,3 +1,5 @@
 pub mod Names
 pub mod Steps
 pub mod Conditions
+pub mod Focus
+pub mod Declarations
