@@ -7,7 +7,7 @@ use native.Mathlib.Omega.{arith}
 use borrow.Author.Tests.{ltb-false, le-ltb}
 use lib.Dec.{ltb}
 use lib.ListN.{length, getD}
-use Rattle.model.specs.Basic.{all, distinct, indexOf, update}
+use Rattle.model.specs.Basic.{all, distinct, indexOf, update, updateLast}
 use Rattle.model.specs.Tokens.{sameName}
 use Rattle.laws.proofs.Tests.{both, and-i}
 use Rattle.laws.proofs.Each.{Each}
@@ -55,6 +55,12 @@ module _ {A : Type 0} where
   map-update g f m i [] = refl
   map-update {B} g f m zero (x ∷ xs) = ap (λ (y : B). y ∷ map g xs) (m x)
   map-update {B} g f m (suc i) (x ∷ xs) = ap (λ (l : List B). g x ∷ l) (map-update g f m i xs)
+
+  pub map-updateLast : {B : Type 0} (g : A → B) (f : A → A) → ((x : A) → g (f x) ≡ g x) → (xs : List A) → map g (updateLast f xs) ≡ map g xs
+  unfolding updateLast
+  map-updateLast g f m [] = refl
+  map-updateLast {B} g f m (x ∷ []) = ap (λ (y : B). y ∷ []) (m x)
+  map-updateLast {B} g f m (x ∷ z ∷ xs) = ap (λ (l : List B). g x ∷ l) (map-updateLast g f m (z ∷ xs))
 
   pub all-last : (p : A → Bool) (xs : List A) (x : A) → all p xs ≡ true → p x ≡ true → all p (xs ++ (x ∷ [])) ≡ true
   unfolding all

@@ -3,3 +3,5 @@ pub mod Steps
 pub mod Conditions
 pub mod Focus
 pub mod Declarations
+pub mod Numbers
+pub mod Fuzzify
