@@ -5,3 +5,4 @@ pub mod Focus
 pub mod Declarations
 pub mod Numbers
 pub mod Fuzzify
+pub mod Defuzzify
