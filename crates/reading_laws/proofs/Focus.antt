@@ -2,12 +2,12 @@
 use mathlib.Core.Path.{_≡_, refl, sym, ap, _∙_}
 use mathlib.Core.Bool.{Bool, true, false, _&&_, not}
 use mathlib.Core.List.{List, [], _∷_, _++_, map, map-append}
-use Prim.Native.Nat.{ℕ, zero, suc}
+use Prim.Native.Nat.{ℕ, zero, suc, _+_}
 use native.Mathlib.Omega.{arith}
 use borrow.Author.Tests.{ltb-false, le-ltb}
 use lib.Dec.{ltb}
 use lib.ListN.{length, getD}
-use Rattle.model.specs.Basic.{all, distinct, indexOf, update, updateLast}
+use Rattle.model.specs.Basic.{all, total, distinct, indexOf, update, updateLast}
 use Rattle.model.specs.Tokens.{sameName}
 use Rattle.laws.proofs.Tests.{both, and-i}
 use Rattle.laws.proofs.Each.{Each}
@@ -61,6 +61,12 @@ module _ {A : Type 0} where
   map-updateLast g f m [] = refl
   map-updateLast {B} g f m (x ∷ []) = ap (λ (y : B). y ∷ []) (m x)
   map-updateLast {B} g f m (x ∷ z ∷ xs) = ap (λ (l : List B). g x ∷ l) (map-updateLast g f m (z ∷ xs))
+
+  pub total-updateLast : (g : A → ℕ) (f : A → A) → ((x : A) → g (f x) ≡ g x) → (xs : List A) → total g (updateLast f xs) ≡ total g xs
+  unfolding total updateLast
+  total-updateLast g f m [] = refl
+  total-updateLast g f m (x ∷ []) = ap (λ (n : ℕ). n + 0) (m x)
+  total-updateLast g f m (x ∷ z ∷ xs) = ap (λ (n : ℕ). g x + n) (total-updateLast g f m (z ∷ xs))
 
   pub all-last : (p : A → Bool) (xs : List A) (x : A) → all p xs ≡ true → p x ≡ true → all p (xs ++ (x ∷ [])) ≡ true
   unfolding all

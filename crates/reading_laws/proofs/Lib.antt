@@ -6,3 +6,4 @@ pub mod Declarations
 pub mod Numbers
 pub mod Fuzzify
 pub mod Defuzzify
+pub mod RuleBlock
