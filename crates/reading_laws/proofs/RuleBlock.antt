@@ -12,8 +12,10 @@ use Rattle.model.specs.Basic.{if_then_else_, between, isEmpty, all, total, gath
 use Rattle.model.specs.Bounds.{M, ruleLimit, wordLimit, conclusionLimit, ruleNumberLeast, ruleNumberLimit, depthLimit}
 use Rattle.model.specs.Keywords.{COLON, SEMICOLON, ACCU, ACT, AND, BSUM, END-RULEBLOCK, IF, IS, MAX, MIN, OR, PROD, RULE, RULEBLOCK, THEN, WITH}
 use Rattle.model.specs.Tokens.{isName, decimal, unitOf}
-use Rattle.model.specs.Block.{Input, Output, Condition, Conclusion, Rule, Block, emptyBlock, conclusions, size, inputTerms, outputFirst, singletonsOf, withInputs, withOutputs, withRuleBlock, withConclusion, withWeight}
+use Rattle.model.specs.Block.{Input, Output, Condition, Conclusion, Rule, Block, emptyBlock, blockOf, conclusions, size, inputTerms, outputFirst, singletonsOf, withInputs, withOutputs, withRuleBlock, withConclusion, withWeight}
 use Rattle.model.specs.declared.Pair.{Pair}
+use Rattle.model.specs.declared.Activation.{Activation}
+use Rattle.model.specs.declared.Accumulation.{Accumulation}
 use Rattle.model.specs.Parentheses.{depth}
 use Rattle.model.specs.WellFormed.{unitOk, termsBelow, conditionOk, conclusionOk, ruleOk}
 use Rattle.model.specs.Parse.{Parse, Part, text, is, refuse, advance, change, expect, ownName}
@@ -22,7 +24,7 @@ use Rattle.model.specs.Rules.{ConditionRead, condition, addRule, changeRule, an
 use Rattle.laws.proofs.Tests.{pass, and-i}
 use Rattle.laws.proofs.Each.{Each}
 use Rattle.laws.proofs.Lists.{gather-last, total-last}
-use Rattle.listing_laws.proofs.Finding.{update-last}
+use Rattle.listing_laws.proofs.Finding.{update-last, all-map}
 use Rattle.reading_laws.proofs.Steps.{Fact, Holds, Good, Leads, _▹_, good-so, either, good-refuse, good-advance, good-change, good-judged, name-here, good-expect, good-repeated, good-listed}
 use Rattle.reading_laws.proofs.Numbers.{unit-value, rule-number}
 use Rattle.reading_laws.proofs.Focus.{map-updateLast, total-updateLast, all-last, distinct-last}
@@ -131,3 +133,188 @@ module _ {f : Block} {w : ℕ} {rs : List Rule} where
         room = g .room;
         conclusions = omega arith;
       }
+
+-- READING RULES
+abbrev pub Rules : ℕ → Fact
+Rules m = Ruled (RulesFine m)
+
+abbrev Last : ℕ → Fact
+Last k = Ruled (RuleOpen k)
+
+ruled-so : {Y Z : Block → ℕ → List Rule → Type 0} {w : ℕ} {b : Block}
+    → (Y (frame (b .inputs) (b .outputs)) w (b .rules) → Z (frame (b .inputs) (b .outputs)) w (b .rules)) → Ruled Y w b → Ruled Z w b
+ruled-so f s = record { variables = s .variables; called = s .called; rules = f (s .rules) }
+
+-- there is room for a rule, then one of the number n
+abbrev Space : ℕ → Fact
+Space m w b = Rules m w b × (ltb (length (b .rules)) ruleLimit ≡ true)
+
+record Numbered (m n w : ℕ) (b : Block) : Type 0 where
+  space : Space m w b
+  number : between ruleNumberLeast ruleNumberLimit n ≡ true
+  new : all (λ q. not (eqb (q .number) n)) (b .rules) ≡ true
+
+good-number : {m : ℕ} (r : Parse) → Good (Space m) r → Good (Numbered m (decimal (text r))) (ruleNumber r)
+unfolding ruleNumber
+good-number r k = good-judged _ r refl (λ c. good-advance r (good-so (λ g. record { space = g .fact; number = rule-number (text r) (c .1 .0); new = c .1 .1 .0 }) k))
+
+other-number : (n : ℕ) (rs : List Rule) → all (λ q. not (eqb (q .number) n)) rs ≡ true → all (λ x. not (eqb x n)) (map (λ r. r .number) rs) ≡ true
+other-number n rs h = all-map (λ x. not (eqb x n)) (λ r. r .number) rs ∙ h
+
+rule-begun : (c : Condition) {m w w′ n : ℕ} {b b′ : Block} → After w b (Numbered m n w b) (λ c. depth c ≤ depthLimit) c w′ b′ → Last 0 w′ (addRule n c b′)
+unfolding addRule all conditionOk unitOk
+rule-begun c {m} {w} {w′} {n} {b} {b′} s = subst (λ (x : Block). Last 0 w′ (addRule n c x)) (sym (s .block)) begun
+  where
+    new : Rule
+    new = record { number = n; condition = c; conclusions = []; weight = M }
+
+    begun : Last 0 w′ (addRule n c b)
+    begun =
+        let p = s .kept .0 .space .0 in
+        let q = p .rules in
+        let l = ltb-true (length (b .rules)) ruleLimit (s .kept .0 .space .1) in
+        let a = length-append (b .rules) (new ∷ []) in
+        let v = q .conclusions in
+        record {
+          variables = p .variables;
+          called = p .called;
+          rules = record {
+            before = b .rules;
+            last = new;
+            split = refl;
+            most = omega arith;
+            numbers =
+                ap (distinct eqb) (map-append (λ r. r .number) (b .rules) (new ∷ []))
+                ∙ distinct-last eqb (map (λ r. r .number) (b .rules)) n (q .numbers) (other-number n (b .rules) (s .kept .0 .new));
+            words = s .words ∙ ap (λ (k : ℕ). k + size c) (q .words) ∙ sym (total-last (λ r. size (r .condition)) (b .rules) new);
+            room = s .room;
+            rules = q .rules;
+            number = s .kept .0 .number;
+            condition = and-i _ _ (s .kept .1) (le-leb (depth c) depthLimit (s .kept .2));
+            concluded = refl;
+            weighed = refl;
+            least = omega arith;
+            all-conclusions = omega arith;
+          };
+        }
+
+-- an output o for one more conclusion
+abbrev Concluding : ℕ → ℕ → Fact
+Concluding k o w b = Last k w b × ((ltb o (length (b .outputs)) ≡ true) × (ltb (length (conclusions b)) conclusionLimit ≡ true))
+
+conclusion-fine : (o s : ℕ) (b : Block) → ltb o (length (b .outputs)) ≡ true → ltb s (length (singletonsOf o b)) ≡ true
+    → conclusionOk (frame (b .inputs) (b .outputs)) (record { output = o; term = outputFirst o b + s }) ≡ true
+unfolding conclusionOk outputFirst singletonsOf
+conclusion-fine o s b h l =
+    let j = ltb-true s (length (singletonsOf o b)) l in
+    pass _ (h, (le-leb (outputFirst o b) (outputFirst o b + s) (omega arith), (lt-ltb (outputFirst o b + s) (outputFirst o b + length (singletonsOf o b)) (omega arith), tt)))
+
+good-concluded : {k : ℕ} (o : ℕ) → Leads (Concluding k o) (Last 1) (concludedTerm o)
+unfolding concludedTerm changeRule
+good-concluded o r k =
+    good-judged _ r refl (λ c.
+    good-advance _ (good-change _ r (λ g.
+    let s = g .fact .0 in
+    record {
+      variables = s .variables;
+      called = s .called;
+      rules = conclusion-more _ (conclusion-fine o _ (r .block) (g .fact .1 .0) (c .1 .1 .0)) (g .fact .1 .1) (s .rules);
+    }) k))
+
+good-conclusion : {k : ℕ} → Leads (Last k) (Last 1) conclusion
+unfolding conclusion
+good-conclusion r k =
+    good-judged _ r refl (λ c.
+    good-advance r (good-so (λ g. (g .fact, (c .1 .1 .0, c .1 .1 .1 .0))) k) ▹ good-expect IS ▹ good-concluded (outputOf (text r) (r .block)))
+
+good-weight : {k : ℕ} → Leads (Last k) (Last k) weight
+unfolding weight changeRule
+good-weight r k =
+    good-judged _ r refl (λ c.
+    good-advance _ (good-change _ r (λ g.
+    let s = g .fact in
+    record { variables = s .variables; called = s .called; rules = weight-set (unitOf (text r)) (unit-value (text r) (c .1 .0)) (s .rules) }) k))
+
+good-weighted : {k : ℕ} → Leads (Last k) (Last k) weighted
+unfolding weighted
+good-weighted r k = either (is WITH r) (λ h. good-weight (advance r) (good-advance r k)) k
+
+good-given : {m w n : ℕ} {b : Block} (g : ConditionRead) → GoodRead w b (Numbered m n w b) (λ c. depth c ≤ depthLimit) g → Good (Rules 1) (ruleGiven n g)
+unfolding ruleGiven
+good-given {m} {w} {n} {b} g k =
+    good-so (λ h. ruled-so rule-done (h .fact))
+    (good-change (addRule n (g .tree)) (g .parse) (λ h. rule-begun (g .tree) (h .fact)) (k .read)
+    ▹ good-expect THEN ▹ good-listed good-conclusion good-conclusion ▹ good-weighted ▹ good-expect SEMICOLON)
+
+-- the words and the block as they are
+still : {m n : ℕ} (r : Parse) → Good (Numbered m n) r → Good (Still (r .words) (r .block) (Numbered m n (r .words) (r .block))) r
+still r k = good-so (λ g. record { words = refl; block = refl; room = g .fact .space .0 .rules .room; kept = g .fact }) k
+
+good-ruleFrom : {m : ℕ} → Leads (Space m) (Rules 1) ruleFrom
+unfolding ruleFrom
+good-ruleFrom {m} r k =
+    let q : Parse = expect IF (expect COLON (ruleNumber r)) in
+    let l : Good (Numbered m (decimal (text r))) q = good-number r k ▹ good-expect COLON ▹ good-expect IF in
+    good-given (condition q) (good-condition (q .words) (q .block) (Numbered m (decimal (text r)) (q .words) (q .block)) q (still q l))
+
+pub good-rule : {m : ℕ} → Leads (Rules m) (Rules 1) rule
+unfolding rule
+good-rule r k = good-judged _ r refl (λ c. good-ruleFrom (advance r) (good-advance r (good-so (λ g. (g .fact, c .1 .0)) k)))
+
+-- THE WHOLE OF IT
+-- other parts of the block changed
+as-it-is : {Z : Block → ℕ → List Rule → Type 0} {w : ℕ} {n v : List ℕ} {is : List Input} {os : List Output} {p q : Pair} {a c : Activation} {x y : Accumulation} {rs : List Rule}
+    → Ruled Z w (blockOf n is os v p a x rs) → Ruled Z w (blockOf n is os v q c y rs)
+as-it-is s = record { variables = s .variables; called = s .called; rules = s .rules }
+
+good-own : Leads (Outputs 1) (Rules 0) (ownName withRuleBlock)
+unfolding ownName
+good-own r k =
+    good-judged _ r refl (λ c.
+    good-advance _ (good-change _ r (λ g.
+    let s = g .fact in
+    record {
+      variables = s .variables;
+      called = name-here g (c .0) (c .1 .0);
+      rules = none-yet _ (r .words) (r .block .rules) (s .words) (s .rules);
+    }) k))
+
+module _ {m : ℕ} where
+  good-algorithm : (second : Bool) (p : Option Pair) → Leads (Rules m) (Rules m) (algorithm second p)
+  unfolding algorithm
+  good-algorithm second none r k = good-refuse 2 r (omega arith)
+  good-algorithm second (some p) r k = good-judged _ r refl (λ c. good-advance _ (good-change _ r (λ g. as-it-is (g .fact)) k))
+
+  good-line : (second : Bool) (t : ℕ) (pairOf : ℕ → Option Pair) → Leads (Rules m) (Rules m) (algorithmLine second t pairOf)
+  unfolding algorithmLine
+  good-line second t pairOf r k = k ▹ good-expect t ▹ good-expect COLON ▹ good-algorithm second _ ▹ good-expect SEMICOLON
+
+  good-algorithms : Leads (Rules m) (Rules m) algorithms
+  unfolding algorithms
+  good-algorithms r k =
+      either (is AND r) (λ e. k ▹ good-line false AND andPair ▹ (λ q l. either (is OR q) (λ e. good-line true OR orPair q l) l))
+      (either (is OR r) (λ e. k ▹ good-line false OR orPair ▹ (λ q l. either (is AND q) (λ e. good-line true AND andPair q l) l)) k)
+
+  good-activation : Leads (Rules m) (Rules m) activation
+  unfolding activation
+  good-activation r k =
+      either (is MIN r) (λ e. good-advance _ (good-change _ r (λ g. as-it-is (g .fact)) k))
+      (either (is PROD r) (λ e. good-advance _ (good-change _ r (λ g. as-it-is (g .fact)) k)) (good-refuse 2 r (omega arith)))
+
+  good-activationLine : Leads (Rules m) (Rules m) activationLine
+  unfolding activationLine
+  good-activationLine r k = either (is ACT r) (λ e. k ▹ good-advance ▹ good-expect COLON ▹ good-activation ▹ good-expect SEMICOLON) k
+
+  good-accumulation : Leads (Rules m) (Rules m) accumulation
+  unfolding accumulation
+  good-accumulation r k =
+      either (is MAX r) (λ e. good-advance _ (good-change _ r (λ g. as-it-is (g .fact)) k))
+      (either (is BSUM r) (λ e. good-advance _ (good-change _ r (λ g. as-it-is (g .fact)) k)) (good-refuse 2 r (omega arith)))
+
+pub good-ruleBlock : Leads (Outputs 1) (Rules 1) ruleBlock
+unfolding ruleBlock
+good-ruleBlock r k =
+    k ▹ good-expect RULEBLOCK ▹ good-own
+    ▹ good-algorithms ▹ good-activationLine
+    ▹ good-expect ACCU ▹ good-expect COLON ▹ good-accumulation ▹ good-expect SEMICOLON
+    ▹ good-rule ▹ good-repeated RULE good-rule ▹ good-expect END-RULEBLOCK
