@@ -7,3 +7,4 @@ pub mod Numbers
 pub mod Fuzzify
 pub mod Defuzzify
 pub mod RuleBlock
+pub mod WellRead

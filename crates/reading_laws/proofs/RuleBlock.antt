@@ -73,9 +73,9 @@ none-yet f w rs e z =
     subst (λ (l : List Rule). RulesFine 0 f w l) (sym z)
     (record { least = omega arith; most = omega arith; rules = refl; numbers = refl; words = e; room = omega arith; conclusions = omega arith })
 
-not-empty : {A : Type 0} (xs : List A) → 1 ≤ length xs → not (isEmpty xs) ≡ true
-not-empty [] h = absurd (omega arith)
-not-empty (x ∷ xs) h = refl
+some-there : {A : Type 0} (xs : List A) → 1 ≤ length xs → not (isEmpty xs) ≡ true
+some-there [] h = absurd (omega arith)
+some-there (x ∷ xs) h = refl
 
 module _ {f : Block} {w : ℕ} {rs : List Rule} where
   rule-changed : {k : ℕ} (g : RuleOpen k f w rs) (h : Rule → Rule) (j : ℕ) → ((r : Rule) → h r .number ≡ r .number)
@@ -123,7 +123,7 @@ module _ {f : Block} {w : ℕ} {rs : List Rule} where
           ∙ ap length (gather-last (λ r. r .conclusions) (g .before) (g .last)) ∙ length-append (gather (λ r. r .conclusions) (g .before)) (g .last .conclusions) in
       let q = g .all-conclusions in
       let o : ruleOk f (g .last) ≡ true =
-      pass _ (g .number, (g .condition, (not-empty (g .last .conclusions) (g .least), (g .concluded, (g .weighed, tt))))) in
+      pass _ (g .number, (g .condition, (some-there (g .last .conclusions) (g .least), (g .concluded, (g .weighed, tt))))) in
       record {
         least = omega arith;
         most = g .most;
