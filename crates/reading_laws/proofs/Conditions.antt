@@ -1,26 +1,24 @@
 -- A condition that was read: its terms are there, it needs no more parentheses than were allowed, and each word of it was counted.
 use mathlib.Core.Path.{_≡_, refl, sym, ap, _∙_, subst}
-use mathlib.Core.Bool.{Bool, true, false, _&&_}
-use mathlib.Core.List.{List, [], _∷_, _++_, map}
-use Prim.Native.Nat.{ℕ, zero, suc, _+_, _≤_, _<_, max}
+use mathlib.Core.Bool.{Bool, true, false}
+use mathlib.Core.List.{List, [], _∷_, map}
+use Prim.Native.Nat.{ℕ, zero, suc, _+_, _≤_, _<_}
 use native.Mathlib.Omega.{arith}
 use borrow.Author.Tests.{ltb-true, ltb-false, lt-ltb}
-use lib.Dec.{leb, ltb, eqb}
+use lib.Dec.{ltb, eqb}
 use lib.ListN.{length, getD, take, length-append}
 use Rattle.model.specs.Basic.{if_then_else_, total, gather}
 use Rattle.model.specs.Bounds.{wordLimit, depthLimit}
-use Rattle.model.specs.Block.{Term, Input, Block, Op, and, or, Condition, term, neg, two, size, inputTerms, inputFirst, termsOf}
-use Rattle.model.specs.Parentheses.{form, depth, opened, negatedForm, rank, bareLeft, bareRight, bareBehindNot, NOT-TERM-FORM, NOT-FORM, AND-FORM, OR-FORM}
+use Rattle.model.specs.Block.{Input, Block, Op, and, or, Condition, term, neg, two, size, inputTerms, inputFirst, termsOf}
+use Rattle.model.specs.Parentheses.{form, depth, opened, negatedForm, rank, bareLeft, bareRight, bareBehindNot, NOT-TERM-FORM, NOT-FORM, OR-FORM}
 use Rattle.model.specs.WellFormed.{termsBelow}
 use Rattle.model.specs.Keywords.{OPEN, CLOSE, NOT, AND, OR, IS}
-use Rattle.model.specs.Parse.{Parse, Part, restOf, text, is, refuse, advance, judged, expect}
-use Rattle.model.specs.Declarations.{inputOf, termOf, isTerm}
-use Rattle.model.specs.Rules.{ConditionRead, conditionRead, word, conditionTerm, negatedRead, termOrNot, subcondition, chainOn, chain, plain, operand, conditionWith, closed, parenthesis, condition}
+use Rattle.model.specs.Parse.{Parse, restOf, text, is, advance}
+use Rattle.model.specs.Declarations.{termOf, isTerm}
+use Rattle.model.specs.Rules.{ConditionRead, word, conditionTerm, negatedRead, termOrNot, subcondition, chainOn, chain, plain, operand, conditionWith, closed, parenthesis, condition}
 use Rattle.laws.proofs.Tests.{and-i}
-use Rattle.laws.proofs.Each.{Each}
 use Rattle.laws.proofs.Repetition.{joined}
-use Rattle.reading_laws.proofs.Names.{Named}
-use Rattle.reading_laws.proofs.Steps.{Fact, Holds, Good, Leads, _▹_, good-so, good-refuse, good-advance, good-judged, good-expect, either}
+use Rattle.reading_laws.proofs.Steps.{Fact, Good, Leads, _▹_, good-so, good-refuse, good-advance, good-judged, good-expect, either}
 
 -- PARENTHESES
 -- with forms up to l bare, d parentheses are enough

@@ -1,27 +1,27 @@
 -- VAR_INPUT and VAR_OUTPUT: names are names, each declared once, and no more variables than there may be.
 use mathlib.Core.Path.{_≡_, refl, sym, ap, _∙_, subst}
-use mathlib.Core.Bool.{Bool, true, false, _&&_, _||_, not}
+use mathlib.Core.Bool.{Bool, true, false, _||_, not}
 use mathlib.Core.List.{List, [], _∷_, _++_, map, map-append, append-assoc, append-nil}
-use mathlib.Core.Option.{Option, none, some}
+use mathlib.Core.Option.{none}
 use Prim.Native.Nat.{ℕ, zero, suc, _+_, _≤_}
 use native.Mathlib.Omega.{arith}
-use borrow.Author.Tests.{ltb-true, not-true}
+use borrow.Author.Tests.{ltb-true}
 use lib.Dec.{ltb}
 use lib.ListN.{length, length-append, length-map, take, drop}
 use Rattle.model.specs.Basic.{isEmpty, all, distinct}
 use Rattle.model.specs.Bounds.{inputLimit, outputLimit, termLimit}
 use Rattle.model.specs.Keywords.{INT, REAL, COLON, SEMICOLON}
 use Rattle.model.specs.Tokens.{isName, sameName}
-use Rattle.model.specs.Block.{Term, Input, Output, Block, asInt, withName, emptyBlock}
+use Rattle.model.specs.Block.{Input, Output, Block, asInt}
 use Rattle.model.specs.declared.InputType.the-variants.{Real as real}
 use Rattle.model.specs.WellFormed.{termOk, rangeOk, singletonOk, defaultOk}
-use Rattle.model.specs.Parse.{Parse, Part, text, is, advance, change, ownName}
+use Rattle.model.specs.Parse.{text, is}
 use Rattle.model.specs.Declarations.{inputOf, outputOf, isInput, isOutput, addInput, addOutput, intFrom, variable, inputCount, outputCount, inputType, inputDeclaration, outputDeclaration}
 use Rattle.laws.proofs.Tests.{and-i, clash}
 use Rattle.laws.proofs.Each.{Each, each-append}
 use Rattle.laws.proofs.Lists.{all-append}
 use Rattle.listing_laws.proofs.Finding.{fresh}
-use Rattle.reading_laws.proofs.Steps.{Fact, Holds, Good, Leads, _▹_, good-so, either, good-advance, good-change, good-judged, name-here, good-expect, good-listed}
+use Rattle.reading_laws.proofs.Steps.{Fact, Leads, _▹_, either, good-advance, good-change, good-judged, name-here, good-expect, good-listed}
 use Rattle.reading_laws.proofs.Focus.{absent, names-last, not-named}
 
 -- an input, with terms or without them

@@ -1,31 +1,30 @@
 -- DEFUZZIFY: the terms of an output have names of their own, and these and the default lie in its RANGE.
 use mathlib.Core.Path.{_≡_, refl, sym, ap, _∙_}
-use mathlib.Core.Bool.{Bool, true, false, _&&_, not}
+use mathlib.Core.Bool.{true, false}
 use mathlib.Core.List.{List, [], _∷_, _++_}
 use mathlib.Core.Option.{Option, none, some}
-use Prim.Native.Nat.{ℕ, _+_, _≤_}
+use Prim.Native.Nat.{ℕ}
 use native.Mathlib.Omega.{arith}
 use borrow.Author.Tests.{ltb-true, not-true}
 use lib.Dec.{ltb}
 use lib.IntN.{ℤ}
-use lib.ListN.{length, length-append, getD}
+use lib.ListN.{length, length-append}
 use lib.Signed.{ltZ}
-use mathlib.Core.List.{map}
 use Rattle.model.specs.Basic.{isEmpty, all, update}
 use Rattle.model.specs.Bounds.{termLimit}
 use Rattle.model.specs.Keywords.{OPEN, CLOSE, COLON, SEMICOLON, ASSIGN, DOTS, CoGS, DEFAULT, DEFUZZIFY, END-DEFUZZIFY, METHOD, NC, RANGE, TERM}
 use Rattle.model.specs.Tokens.{isName, inCrisp}
 use Rattle.model.specs.Block.{Singleton, Range, Output, Block, singletonsOf, rangeOf, inRange, withOutputs, withSingleton, withRange, withDefault}
-use Rattle.model.specs.WellFormed.{rangeOk, figureOk, defaultOk, singletonOk}
-use Rattle.model.specs.Parse.{Parse, Part, text, is, advance, valueHere}
-use Rattle.model.specs.Declarations.{singletonOf, isSingleton, changeOutput, lowerEnd, upperEnd, rangeBody, rangePart, figure, singletonBody, outputTerm, defaultValue, defuzzifyOf, defuzzifyVariable, defuzzify}
+use Rattle.model.specs.WellFormed.{defaultOk, singletonOk}
+use Rattle.model.specs.Parse.{Parse, text, is, advance, valueHere}
+use Rattle.model.specs.Declarations.{singletonOf, changeOutput, lowerEnd, upperEnd, rangeBody, rangePart, figure, singletonBody, outputTerm, defaultValue, defuzzifyOf, defuzzifyVariable, defuzzify}
 use Rattle.laws.proofs.Tests.{and-i, clash}
 use Rattle.laws.proofs.Each.{Each}
 use Rattle.listing_laws.proofs.Finding.{none-of, named}
-use Rattle.reading_laws.proofs.Steps.{Fact, Holds, Good, Leads, _▹_, good-so, either, good-advance, good-change, good-judged, name-here, good-expect, good-repeated}
+use Rattle.reading_laws.proofs.Steps.{Fact, Good, Leads, _▹_, good-so, either, good-advance, good-change, good-judged, name-here, good-expect, good-repeated}
 use Rattle.reading_laws.proofs.Numbers.{crisp-value}
 use Rattle.reading_laws.proofs.Focus.{Except, focus, unfocus, except-update, except-so, except-at, map-update, all-last, absent, named-last}
-use Rattle.reading_laws.proofs.Declarations.{InputFine, OutputFine, Variables, Declared, Outputs, renamed}
+use Rattle.reading_laws.proofs.Declarations.{InputFine, OutputFine, Declared, Outputs, renamed}
 
 empty-is : {A : Type 0} (xs : List A) → isEmpty xs ≡ true → xs ≡ []
 empty-is [] h = refl

@@ -1,6 +1,6 @@
 -- A list with another fact at one place, an element more at its end, and names that are not there yet.
-use mathlib.Core.Path.{_≡_, refl, sym, ap, _∙_}
-use mathlib.Core.Bool.{Bool, true, false, _&&_, not}
+use mathlib.Core.Path.{_≡_, refl, ap, _∙_}
+use mathlib.Core.Bool.{Bool, true, false, not}
 use mathlib.Core.List.{List, [], _∷_, _++_, map, map-append}
 use Prim.Native.Nat.{ℕ, zero, suc, _+_}
 use native.Mathlib.Omega.{arith}
@@ -11,7 +11,6 @@ use Rattle.model.specs.Basic.{all, total, distinct, indexOf, update, updateLast
 use Rattle.model.specs.Tokens.{sameName}
 use Rattle.laws.proofs.Tests.{both, and-i}
 use Rattle.laws.proofs.Each.{Each}
-use Rattle.laws.proofs.Lists.{all-append}
 use Rattle.listing_laws.proofs.Finding.{all-map, all-imp, none-of, named, fresh, differ}
 
 -- P of every element but the i-th, which has R

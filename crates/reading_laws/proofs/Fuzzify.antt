@@ -1,8 +1,8 @@
 -- FUZZIFY: the terms of an input have names of their own, and points in their order, as many as there may be.
 use mathlib.Core.Path.{_≡_, refl, sym, ap, _∙_}
-use mathlib.Core.Bool.{Bool, true, false, _&&_, not}
+use mathlib.Core.Bool.{true}
 use mathlib.Core.List.{List, [], _∷_, _++_, map, map-append}
-use Prim.Native.Nat.{ℕ, zero, suc, _+_, _≤_}
+use Prim.Native.Nat.{ℕ, _≤_}
 use native.Mathlib.Omega.{arith}
 use borrow.Author.Tests.{ltb-true, not-true, le-leb}
 use lib.Dec.{leb, ltb}
@@ -13,16 +13,16 @@ use Rattle.model.specs.Bounds.{termLimit, pointLeast, pointLimit}
 use Rattle.model.specs.Keywords.{ASSIGN, COMMA, CLOSE, TERM, FUZZIFY, END-FUZZIFY}
 use Rattle.model.specs.Tokens.{isName, sameName, inCrisp, unitOf}
 use Rattle.model.specs.Block.{Point, Term, Input, Block, termsOf, mayFollow, withInputs, withTerms, withPoint}
-use Rattle.model.specs.WellFormed.{pointOk, unitOk, rising, termOk}
-use Rattle.model.specs.Parse.{Parse, Part, text, advance, valueHere}
-use Rattle.model.specs.Declarations.{termOf, isTerm, addTerm, addPoint, lastPoints, pointsOf, pointPosition, pointDegree, pointBody, point, endOfPoints, termName, inputTerm, fuzzifyOf, fuzzifyVariable, fuzzify}
+use Rattle.model.specs.WellFormed.{pointOk, rising, termOk}
+use Rattle.model.specs.Parse.{Parse, text, advance, valueHere}
+use Rattle.model.specs.Declarations.{termOf, addTerm, addPoint, lastPoints, pointsOf, pointPosition, pointDegree, pointBody, point, endOfPoints, termName, inputTerm, fuzzifyOf, fuzzifyVariable, fuzzify}
 use Rattle.laws.proofs.Tests.{pass, and-i}
 use Rattle.laws.proofs.Each.{Each}
 use Rattle.listing_laws.proofs.Finding.{update-last, none-of, named}
-use Rattle.reading_laws.proofs.Steps.{Fact, Holds, Good, Leads, _▹_, good-so, good-advance, good-change, good-judged, name-here, good-expect, good-repeated, good-listed}
+use Rattle.reading_laws.proofs.Steps.{Fact, Good, Leads, _▹_, good-so, good-advance, good-change, good-judged, name-here, good-expect, good-repeated, good-listed}
 use Rattle.reading_laws.proofs.Numbers.{crisp-value, unit-value, rising-last}
 use Rattle.reading_laws.proofs.Focus.{Except, focus, unfocus, except-update, except-so, except-at, map-update, map-updateLast, all-last, absent, named-last}
-use Rattle.reading_laws.proofs.Declarations.{InputFine, OutputFine, Variables, Declared, Outputs, renamed, inputNames}
+use Rattle.reading_laws.proofs.Declarations.{InputFine, OutputFine, Declared, Outputs, renamed}
 
 -- an input whose last term has its points so far
 record Growing (v : Input) : Type 0 where

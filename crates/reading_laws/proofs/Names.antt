@@ -3,15 +3,14 @@ use mathlib.Core.Path.{_≡_, refl, sym, ap, _∙_}
 use mathlib.Core.Bool.{Bool, true, false, _&&_, not}
 use mathlib.Core.List.{List, [], _∷_}
 use mathlib.Core.Option.{Option, none, some}
-use Prim.Native.Nat.{ℕ, zero, suc, _+_}
+use Prim.Native.Nat.{ℕ, zero, suc}
 use native.Mathlib.Omega.{arith}
-use borrow.Author.Tests.{not-true}
 use lib.Dec.{leb, eqb}
 use lib.ListN.{length, take, drop}
 use Rattle.model.specs.Basic.{if_then_else_, all, run}
 use Rattle.model.specs.Bounds.{nameLimit}
-use Rattle.model.specs.Keywords.{isKeyword, keywordAt, NAME, BLANK}
-use Rattle.model.specs.Tokens.{isBlank, isDigit, startsName, isNameByte, isSign, isMark, starts, tidy, isName, Token, Piece, wordKind, commentPart, commentPiece, wordPiece, numberPart, pieceAt, placed, scan, tokens}
+use Rattle.model.specs.Keywords.{isKeyword, NAME, BLANK}
+use Rattle.model.specs.Tokens.{isBlank, isDigit, startsName, isNameByte, isSign, isMark, starts, tidy, isName, Token, Piece, wordKind, commentPart, commentPiece, wordPiece, pieceAt, scan, tokens}
 use Rattle.laws.proofs.Tests.{and-i, clash}
 use Rattle.laws.proofs.Each.{Each}
 

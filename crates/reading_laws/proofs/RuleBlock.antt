@@ -1,34 +1,34 @@
 -- RULEBLOCK: rules have numbers of their own, conditions over the terms that are there, and conclusions, no more of each than there may be.
 use mathlib.Core.Path.{_≡_, refl, sym, ap, _∙_, subst}
-use mathlib.Core.Bool.{Bool, true, false, _&&_, not}
+use mathlib.Core.Bool.{Bool, true, false, not}
 use mathlib.Core.List.{List, [], _∷_, _++_, map, map-append}
 use mathlib.Core.Option.{Option, none, some}
 use Prim.Native.Nat.{ℕ, _+_, _≤_}
 use native.Mathlib.Omega.{arith}
-use borrow.Author.Tests.{ltb-true, le-leb, lt-ltb, eqb-true, ne-eqb, eqb-false, not-true}
-use lib.Dec.{leb, ltb, eqb}
+use borrow.Author.Tests.{ltb-true, le-leb, lt-ltb}
+use lib.Dec.{ltb, eqb}
 use lib.ListN.{length, length-append, length-map}
-use Rattle.model.specs.Basic.{if_then_else_, between, isEmpty, all, total, gather, distinct, updateLast}
+use Rattle.model.specs.Basic.{between, isEmpty, all, total, gather, distinct, updateLast}
 use Rattle.model.specs.Bounds.{M, ruleLimit, wordLimit, conclusionLimit, ruleNumberLeast, ruleNumberLimit, depthLimit}
 use Rattle.model.specs.Keywords.{COLON, SEMICOLON, ACCU, ACT, AND, BSUM, END-RULEBLOCK, IF, IS, MAX, MIN, OR, PROD, RULE, RULEBLOCK, THEN, WITH}
 use Rattle.model.specs.Tokens.{isName, decimal, unitOf}
-use Rattle.model.specs.Block.{Input, Output, Condition, Conclusion, Rule, Block, emptyBlock, blockOf, conclusions, size, inputTerms, outputFirst, singletonsOf, withInputs, withOutputs, withRuleBlock, withConclusion, withWeight}
+use Rattle.model.specs.Block.{Input, Output, Condition, Conclusion, Rule, Block, emptyBlock, blockOf, conclusions, size, outputFirst, singletonsOf, withInputs, withOutputs, withRuleBlock, withConclusion, withWeight}
 use Rattle.model.specs.declared.Pair.{Pair}
 use Rattle.model.specs.declared.Activation.{Activation}
 use Rattle.model.specs.declared.Accumulation.{Accumulation}
 use Rattle.model.specs.Parentheses.{depth}
-use Rattle.model.specs.WellFormed.{unitOk, termsBelow, conditionOk, conclusionOk, ruleOk}
-use Rattle.model.specs.Parse.{Parse, Part, text, is, refuse, advance, change, expect, ownName}
-use Rattle.model.specs.Declarations.{outputOf, isOutput, singletonOf, isSingleton}
+use Rattle.model.specs.WellFormed.{unitOk, conditionOk, conclusionOk, ruleOk}
+use Rattle.model.specs.Parse.{Parse, text, is, advance, expect, ownName}
+use Rattle.model.specs.Declarations.{outputOf}
 use Rattle.model.specs.Rules.{ConditionRead, condition, addRule, changeRule, andPair, orPair, algorithm, algorithmLine, algorithms, activation, activationLine, accumulation, ruleNumber, concludedTerm, conclusion, weight, weighted, ruleGiven, ruleFrom, rule, ruleBlock}
 use Rattle.laws.proofs.Tests.{pass, and-i}
 use Rattle.laws.proofs.Each.{Each}
 use Rattle.laws.proofs.Lists.{gather-last, total-last}
 use Rattle.listing_laws.proofs.Finding.{update-last, all-map}
-use Rattle.reading_laws.proofs.Steps.{Fact, Holds, Good, Leads, _▹_, good-so, either, good-refuse, good-advance, good-change, good-judged, name-here, good-expect, good-repeated, good-listed}
+use Rattle.reading_laws.proofs.Steps.{Fact, Good, Leads, _▹_, good-so, either, good-refuse, good-advance, good-change, good-judged, name-here, good-expect, good-repeated, good-listed}
 use Rattle.reading_laws.proofs.Numbers.{unit-value, rule-number}
 use Rattle.reading_laws.proofs.Focus.{map-updateLast, total-updateLast, all-last, distinct-last}
-use Rattle.reading_laws.proofs.Declarations.{InputFine, OutputFine, Variables, Declared, Outputs}
+use Rattle.reading_laws.proofs.Declarations.{InputFine, OutputFine, Variables, Outputs}
 use Rattle.reading_laws.proofs.Conditions.{Still, After, GoodRead, good-condition}
 
 -- the block of these variables alone

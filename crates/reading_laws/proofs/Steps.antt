@@ -1,6 +1,6 @@
 -- What holds of a reading that is not refused, and how the steps of the reader's rules carry it on.
-use mathlib.Core.Path.{_≡_, refl, sym, ap, _∙_}
-use mathlib.Core.Bool.{Bool, true, false, _&&_}
+use mathlib.Core.Path.{_≡_, refl}
+use mathlib.Core.Bool.{Bool, true, false}
 use mathlib.Core.List.{List, [], _∷_}
 use Prim.Native.Nat.{ℕ, zero, suc, _≤_}
 use native.Mathlib.Omega.{arith}
@@ -16,7 +16,7 @@ use Rattle.model.specs.Parse.{Parse, Part, Checks, headOf, restOf, kind, text, 
 use Rattle.laws.proofs.Tests.{both}
 use Rattle.laws.proofs.Each.{Each}
 use Rattle.laws.proofs.Walk.{ranged}
-use Rattle.reading_laws.proofs.Names.{Named, Spelt, spelt-name}
+use Rattle.reading_laws.proofs.Names.{Named, spelt-name}
 
 -- what holds of the condition words and the block so far
 abbrev pub Fact : Type 1

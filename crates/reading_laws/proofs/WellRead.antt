@@ -1,16 +1,16 @@
 -- What a text reads to is well formed.
 use mathlib.Core.Path.{_≡_, refl, sym, ap, _∙_, subst}
-use mathlib.Core.Bool.{Bool, true, false, _&&_, not}
-use mathlib.Core.List.{List, [], _∷_, _++_}
+use mathlib.Core.Bool.{Bool, true, false, not}
+use mathlib.Core.List.{List, [], _∷_}
 use mathlib.Core.Option.{some}
 use Prim.Native.Nat.{ℕ, _≤_}
 use native.Mathlib.Omega.{arith}
 use borrow.Author.Tests.{eqb-true, le-leb}
-use lib.Dec.{leb, ltb, eqb}
+use lib.Dec.{ltb, eqb}
 use lib.ListN.{length}
-use Rattle.model.specs.Basic.{if_then_else_, between, isEmpty, all, total, gather, distinct}
+use Rattle.model.specs.Basic.{if_then_else_, between, isEmpty, all, total, distinct}
 use Rattle.model.specs.Bounds.{textLimit, termLimit, inputLimit, outputLimit, ruleLimit, wordLimit, conclusionLimit}
-use Rattle.model.specs.Outcome.{Outcome, accepted, refused}
+use Rattle.model.specs.Outcome.{accepted, refused}
 use Rattle.model.specs.Keywords.{END, NAME, DEFUZZIFY, END-VAR, FUNCTION-BLOCK, FUZZIFY, VAR-INPUT, VAR-OUTPUT}
 use Rattle.model.specs.Block.{Input, Output, Rule, Block, conclusions, size, outputFirst, singletonsOf, withName, emptyBlock}
 use Rattle.model.specs.WellFormed.{inputOk, outputOk, conditionOk, conclusionOk, ruleOk, wellFormed}
@@ -20,11 +20,11 @@ use Rattle.laws.proofs.Tests.{both, and-i, pass}
 use Rattle.laws.proofs.Each.{Each}
 use Rattle.listing_laws.proofs.Finding.{all-imp, not-empty}
 use Rattle.reading_laws.proofs.Names.{tokens-named}
-use Rattle.reading_laws.proofs.Steps.{Fact, Holds, Good, Leads, _▹_, good-so, good-advance, good-change, good-judged, name-here, good-expect, good-repeated}
+use Rattle.reading_laws.proofs.Steps.{Fact, Good, Leads, _▹_, good-so, good-advance, good-change, good-judged, name-here, good-expect, good-repeated}
 use Rattle.reading_laws.proofs.Declarations.{InputFine, OutputFine, Inputs, good-inputs, no-outputs, good-outputs}
 use Rattle.reading_laws.proofs.Fuzzify.{good-fuzzify}
 use Rattle.reading_laws.proofs.Defuzzify.{good-defuzzify}
-use Rattle.reading_laws.proofs.RuleBlock.{frame, Ruled, Rules, good-ruleBlock}
+use Rattle.reading_laws.proofs.RuleBlock.{frame, Rules, good-ruleBlock}
 
 -- THE END
 -- m to n
