@@ -140,6 +140,10 @@ pub filled : {A : Type 0} (xs : List A) → 1 ≤ length xs → (x : A) × (es :
 filled [] h = absurd (omega arith)
 filled (x ∷ xs) h = (x, xs, refl)
 
+pub some-there : {A : Type 0} (xs : List A) → 1 ≤ length xs → not (isEmpty xs) ≡ true
+some-there [] h = absurd (omega arith)
+some-there (x ∷ xs) h = refl
+
 pub not-empty : {A : Type 0} (xs : List A) → not (isEmpty xs) ≡ true → 1 ≤ length xs
 not-empty [] h = clash h
 not-empty (x ∷ xs) h = omega arith

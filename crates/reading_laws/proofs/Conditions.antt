@@ -183,7 +183,8 @@ module _ (d : ℕ) where
   unfolding termOrNot
   good-termOrNot i w b X r k =
       either-tree (is NOT r)
-      (read-neg (λ c e. subst (λ (x : Condition). Bare NOT-TERM-FORM d (neg x)) (sym (e .1)) (bare-not-term d (e .0))) (good-term i (w + 1) b X (word r) (good-word r k)))
+      (read-neg (λ c e. subst (λ (x : Condition). Bare NOT-TERM-FORM d (neg x)) (sym (e .1)) (bare-not-term d (e .0)))
+      (good-term i (w + 1) b X (word r) (good-word r k)))
       (read-so (λ c e. subst (λ (x : Condition). Bare NOT-TERM-FORM d x) (sym (e .1)) (bare-term NOT-TERM-FORM d (e .0))) (good-term i w b X r k))
 
   good-subcondition : Gives (Bare NOT-TERM-FORM d) subcondition
@@ -192,7 +193,8 @@ module _ (d : ℕ) where
 
 -- A CHAIN
 module _ (d : ℕ) (part : Parse → ConditionRead) (t : ℕ) (o : Op) (f : Gives (Bare (bareRight o) d) part) where
-  good-joined : (w : ℕ) (b : Block) (X : Type 0) (g : ConditionRead) → GoodRead w b X (Bare (bareLeft o) d) g → GoodRead w b X (Bare (bareLeft o) d) (joined part o g)
+  good-joined : (w : ℕ) (b : Block) (X : Type 0) (g : ConditionRead) → GoodRead w b X (Bare (bareLeft o) d) g
+      → GoodRead w b X (Bare (bareLeft o) d) (joined part o g)
   unfolding size termsBelow
   good-joined w b X g k =
       let h = part (word (g .parse)) in

@@ -96,7 +96,8 @@ input-added {m} {w} {b} n e f l s =
     let o = v .outputs in
     let a : length (b .inputs ++ (new ∷ [])) ≡ length (b .inputs) + 1 = length-append (b .inputs) (new ∷ []) in
     let j = ltb-true (inputCount b) inputLimit l in
-    let p : inputNames (b .inputs) ++ outputNames (b .outputs) ≡ inputNames (b .inputs) = ap (λ (os : List Output). inputNames (b .inputs) ++ outputNames os) o ∙ append-nil _ in
+    let p : inputNames (b .inputs) ++ outputNames (b .outputs) ≡ inputNames (b .inputs) =
+    ap (λ (os : List Output). inputNames (b .inputs) ++ outputNames os) o ∙ append-nil _ in
     let q : inputNames (b .inputs ++ (new ∷ [])) ++ outputNames (b .outputs) ≡ inputNames (b .inputs) ++ (n ∷ []) =
     ap (λ (os : List Output). inputNames (b .inputs ++ (new ∷ [])) ++ outputNames os) o ∙ append-nil _ ∙ map-append (λ v. v .name) (b .inputs) (new ∷ []) in
     record {
@@ -155,6 +156,12 @@ renamed {is = is} {js} {os} {ps} e f j p v =
       apart = rw (e, f) (v .apart);
     }
 
+pub declared-so : {m k : ℕ} {I J : List Input → Type 0} {O P : List Output → Type 0} {w : ℕ} {b : Block} → (I (b .inputs) → J (b .inputs))
+    → (O (b .outputs) → P (b .outputs)) → Declared m k I O w b → Declared m k J P w b
+declared-so f g s =
+    let v = s .variables in
+    record { variables = renamed refl refl (f (v .inputs)) (g (v .outputs)) v; words = s .words; rules = s .rules }
+
 good-type : {m : ℕ} (n : ℕ) → Leads (Inputs m) (Inputs m) (inputType n)
 unfolding inputType intFrom
 good-type n r k =
@@ -175,13 +182,7 @@ good-inputs r k = k ▹ good-listed good-input good-input ▹ good-expect COLON 
 
 -- OUTPUTS
 pub no-outputs : {w : ℕ} {b : Block} → Inputs 1 w b → Outputs 0 w b
-no-outputs {w} {b} s =
-    let v = s .variables in
-    record {
-      variables = renamed refl refl (v .inputs) (subst (Each OutputFine) (sym (v .outputs)) tt) v;
-      words = s .words;
-      rules = s .rules;
-    }
+no-outputs {w} {b} = declared-so (λ x. x) (λ e. subst (Each OutputFine) (sym e) tt)
 
 output-added : {k w : ℕ} {b : Block} (n : List ℕ) → isName n ≡ true → not (isInput n b || isOutput n b) ≡ true → ltb (outputCount b) outputLimit ≡ true
     → Outputs k w b → Outputs 1 w (addOutput n b)

@@ -24,7 +24,7 @@ use Rattle.listing_laws.proofs.Finding.{none-of, named}
 use Rattle.reading_laws.proofs.Steps.{Fact, Good, Leads, _▹_, good-so, either, good-advance, good-change, good-judged, name-here, good-expect, good-repeated}
 use Rattle.reading_laws.proofs.Numbers.{crisp-value}
 use Rattle.reading_laws.proofs.Focus.{Except, focus, unfocus, except-update, except-so, except-at, map-update, all-last, absent, named-last}
-use Rattle.reading_laws.proofs.Declarations.{InputFine, OutputFine, Declared, Outputs, renamed}
+use Rattle.reading_laws.proofs.Declarations.{InputFine, OutputFine, Declared, Outputs, declared-so, renamed}
 
 empty-is : {A : Type 0} (xs : List A) → isEmpty xs ≡ true → xs ≡ []
 empty-is [] h = refl
@@ -72,7 +72,8 @@ range-set v x y h e l =
     },
     d)
 
-term-set : (n : List ℕ) (x : ℤ) (v : Output) → Called n v → inCrisp x ≡ true → inRange (v .range) x ≡ true → Filled (withSingleton (record { name = n; at = x }) v)
+term-set : (n : List ℕ) (x : ℤ) (v : Output) → Called n v → inCrisp x ≡ true → inRange (v .range) x ≡ true
+    → Filled (withSingleton (record { name = n; at = x }) v)
 unfolding singletonOk
 term-set n x v h e i =
     let f = h .0 .0 .0 in
@@ -108,23 +109,19 @@ abbrev Crisply : ℕ → (Output → Type 0) → Fact
 Crisply o R = Declared 1 1 (Each InputFine) (Except OutputFine R o)
 
 module _ (o : ℕ) where
-  outputs-so : {O P : List Output → Type 0} {w : ℕ} {b : Block} → (O (b .outputs) → P (b .outputs))
-      → Declared 1 1 (Each InputFine) O w b → Declared 1 1 (Each InputFine) P w b
-  outputs-so f s = let v = s .variables in record { variables = renamed refl refl (v .inputs) (f (v .outputs)) v; words = s .words; rules = s .rules }
-
   output-so : {R S : Output → Type 0} {w : ℕ} {b : Block} → ((v : Output) → R v → S v) → Crisply o R w b → Crisply o S w b
-  output-so {R} {S} {w} {b} f = outputs-so (except-so OutputFine R S f o (b .outputs))
+  output-so {R} {S} {w} {b} f = declared-so (λ x. x) (except-so OutputFine R S f o (b .outputs))
 
   -- what is known of its terms, of its range
   known : {R : Output → Type 0} {w : ℕ} {b : Block} (T : List Singleton → Type 0) → T (singletonsOf o b)
       → Crisply o R w b → Crisply o (λ v. R v × T (v .terms)) w b
   unfolding singletonsOf
-  known {R} {w} {b} T t = outputs-so (except-at OutputFine R (λ v. v .terms) T [] o (b .outputs) t)
+  known {R} {w} {b} T t = declared-so (λ x. x) (except-at OutputFine R (λ v. v .terms) T [] o (b .outputs) t)
 
   ranged : {R : Output → Type 0} {w : ℕ} {b : Block} (T : Option Range → Type 0) → T (rangeOf o b)
       → Crisply o R w b → Crisply o (λ v. R v × T (v .range)) w b
   unfolding rangeOf
-  ranged {R} {w} {b} T t = outputs-so (except-at OutputFine R (λ v. v .range) T none o (b .outputs) t)
+  ranged {R} {w} {b} T t = declared-so (λ x. x) (except-at OutputFine R (λ v. v .range) T none o (b .outputs) t)
 
   changed : {R S : Output → Type 0} {w : ℕ} {b : Block} (f : Output → Output) → ((v : Output) → f v .name ≡ v .name)
       → ((v : Output) → R v → S (f v)) → Crisply o R w b → Crisply o S w (withOutputs (update f o) b)
@@ -139,7 +136,7 @@ module _ (o : ℕ) where
       }
 
   whole : {w : ℕ} {b : Block} → Crisply o OutputFine w b → Outputs 1 w b
-  whole {w} {b} = outputs-so (unfocus OutputFine o (b .outputs))
+  whole {w} {b} = declared-so (λ x. x) (unfocus OutputFine o (b .outputs))
 
   -- RANGE
   good-lower : (r : Parse) → Good (Crisply o Empty) r → Good (Crisply o (Low (valueHere r))) (lowerEnd r)
@@ -206,7 +203,7 @@ module _ (o : ℕ) where
   good-defuzzifyOf r k =
       good-judged _ r refl (λ c.
       good-so (λ g. whole (g .fact))
-      (good-advance r (good-so (λ g. known (λ ts. isEmpty ts ≡ true) (c .1 .1 .0) (outputs-so (focus OutputFine o (r .block .outputs)) (g .fact))) k)
+      (good-advance r (good-so (λ g. known (λ ts. isEmpty ts ≡ true) (c .1 .1 .0) (declared-so (λ x. x) (focus OutputFine o (r .block .outputs)) (g .fact))) k)
       ▹ good-range ▹ good-outputTerm (λ v h. h) ▹ good-repeated TERM (good-outputTerm (λ v h. h .0))
       ▹ good-expect METHOD ▹ good-expect COLON ▹ good-expect CoGS ▹ good-expect SEMICOLON
       ▹ good-expect DEFAULT ▹ good-expect ASSIGN ▹ good-default ▹ good-expect SEMICOLON ▹ good-expect END-DEFUZZIFY))

@@ -72,7 +72,8 @@ module _ {A : Type 0} where
   all-last p [] x h e = and-i (p x) true e refl
   all-last p (y ∷ xs) x h e = let b = both (p y) (all p xs) h in and-i (p y) _ (b .0) (all-last p xs x (b .1) e)
 
-  pub distinct-last : (eq : A → A → Bool) (xs : List A) (y : A) → distinct eq xs ≡ true → all (λ x. not (eq x y)) xs ≡ true → distinct eq (xs ++ (y ∷ [])) ≡ true
+  pub distinct-last : (eq : A → A → Bool) (xs : List A) (y : A) → distinct eq xs ≡ true → all (λ x. not (eq x y)) xs ≡ true
+      → distinct eq (xs ++ (y ∷ [])) ≡ true
   unfolding distinct all
   distinct-last eq [] y h n = refl
   distinct-last eq (x ∷ xs) y h n =

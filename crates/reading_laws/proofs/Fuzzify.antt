@@ -22,7 +22,7 @@ use Rattle.listing_laws.proofs.Finding.{update-last, none-of, named}
 use Rattle.reading_laws.proofs.Steps.{Fact, Good, Leads, _▹_, good-so, good-advance, good-change, good-judged, name-here, good-expect, good-repeated, good-listed}
 use Rattle.reading_laws.proofs.Numbers.{crisp-value, unit-value, rising-last}
 use Rattle.reading_laws.proofs.Focus.{Except, focus, unfocus, except-update, except-so, except-at, map-update, map-updateLast, all-last, absent, named-last}
-use Rattle.reading_laws.proofs.Declarations.{InputFine, OutputFine, Declared, Outputs, renamed}
+use Rattle.reading_laws.proofs.Declarations.{InputFine, OutputFine, Declared, Outputs, declared-so, renamed}
 
 -- an input whose last term has its points so far
 record Growing (v : Input) : Type 0 where
@@ -109,14 +109,10 @@ abbrev Fuzzy : ℕ → (Input → Type 0) → Fact
 Fuzzy i R = Declared 1 1 (Except InputFine R i) (Each OutputFine)
 
 module _ (i : ℕ) where
-  inputs-so : {I J : List Input → Type 0} {w : ℕ} {b : Block} → (I (b .inputs) → J (b .inputs))
-      → Declared 1 1 I (Each OutputFine) w b → Declared 1 1 J (Each OutputFine) w b
-  inputs-so f s = let v = s .variables in record { variables = renamed refl refl (f (v .inputs)) (v .outputs) v; words = s .words; rules = s .rules }
-
   -- what is known of its terms
   known : {R : Input → Type 0} {w : ℕ} {b : Block} (T : List Term → Type 0) → T (termsOf i b) → Fuzzy i R w b → Fuzzy i (λ v. R v × T (v .terms)) w b
   unfolding termsOf
-  known {R} {w} {b} T t = inputs-so (except-at InputFine R (λ v. v .terms) T [] i (b .inputs) t)
+  known {R} {w} {b} T t = declared-so (except-at InputFine R (λ v. v .terms) T [] i (b .inputs) t) (λ x. x)
 
   changed : {R S : Input → Type 0} {w : ℕ} {b : Block} (f : List Term → List Term) → ((v : Input) → R v → S (withTerms f v))
       → Fuzzy i R w b → Fuzzy i S w (withInputs (update (withTerms f) i) b)
@@ -140,7 +136,8 @@ module _ (i : ℕ) where
       good-judged _ r refl (λ c.
       good-advance _ (good-change _ r (λ g.
       changed _ (λ v h. term-begun v (text r) (name-here g (c .0) (c .1 .0)) (h .0 .0) (h .0 .1) (h .1))
-      (known (λ ts. none-of (named (λ (t : Term). t .name) (text r)) ts ≡ true) (absent (named (λ (t : Term). t .name) (text r)) (termsOf i (r .block)) (not-true _ (c .1 .1 .0))) (g .fact))) k))
+      (known (λ ts. none-of (named (λ (t : Term). t .name) (text r)) ts ≡ true)
+      (absent (named (λ (t : Term). t .name) (text r)) (termsOf i (r .block)) (not-true _ (c .1 .1 .0))) (g .fact))) k))
 
   abbrev Fewer : Input → Type 0
   Fewer v = Growing v × (ltb (length (lastPoints (v .terms))) pointLimit ≡ true)
@@ -161,7 +158,8 @@ module _ (i : ℕ) where
   good-degree x r k =
       good-judged _ r refl (λ c.
       good-advance _ (good-change _ r (λ g.
-      changed _ (λ v h. point-more v (h .0 .0) (record { at = x; degree = unitOf (text r) }) (h .0 .1) (h .1 .0) (and-i _ _ (h .1 .1) (unit-value (text r) (c .1 .0))))
+      changed _ (λ v h.
+      point-more v (h .0 .0) (record { at = x; degree = unitOf (text r) }) (h .0 .1) (h .1 .0) (and-i _ _ (h .1 .1) (unit-value (text r) (c .1 .0))))
       (g .fact)) k))
 
   good-body : Leads (Fuzzy i Fewer) (Fuzzy i Growing) (pointBody i)
@@ -182,7 +180,8 @@ module _ (i : ℕ) where
   good-end r k =
       good-judged _ r refl (λ c.
       good-advance r (good-so (λ g.
-      inputs-so (λ x. unfocus InputFine i (r .block .inputs) (except-so InputFine Enough InputFine (λ v h. term-done v (h .0) (h .1)) i (r .block .inputs) x))
+      declared-so (λ x.
+      unfocus InputFine i (r .block .inputs) (except-so InputFine Enough InputFine (λ v h. term-done v (h .0) (h .1)) i (r .block .inputs) x)) (λ x. x)
       (known (λ ts. leb pointLeast (length (lastPoints ts)) ≡ true) (c .1 .0) (g .fact))) k))
 
   good-inputTerm : Leads (Outputs 1) (Outputs 1) (inputTerm i)
@@ -190,7 +189,7 @@ module _ (i : ℕ) where
   good-inputTerm r k =
       good-judged _ r refl (λ c.
       good-advance r (good-so (λ g.
-      known (λ ts. ltb (length ts) termLimit ≡ true) (c .1 .0) (inputs-so (focus InputFine i (r .block .inputs)) (g .fact))) k)
+      known (λ ts. ltb (length ts) termLimit ≡ true) (c .1 .0) (declared-so (focus InputFine i (r .block .inputs)) (λ x. x) (g .fact))) k)
       ▹ good-termName ▹ good-expect ASSIGN ▹ good-listed good-point good-point ▹ good-end)
 
   good-fuzzifyOf : Leads (Outputs 1) (Outputs 1) (fuzzifyOf i)

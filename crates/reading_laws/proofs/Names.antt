@@ -10,7 +10,7 @@ use lib.ListN.{length, take, drop}
 use Rattle.model.specs.Basic.{if_then_else_, all, run}
 use Rattle.model.specs.Bounds.{nameLimit}
 use Rattle.model.specs.Keywords.{isKeyword, NAME, BLANK}
-use Rattle.model.specs.Tokens.{isBlank, isDigit, startsName, isNameByte, isSign, isMark, starts, tidy, isName, Token, Piece, wordKind, commentPart, commentPiece, wordPiece, pieceAt, scan, tokens}
+use Rattle.model.specs.Tokens.{isBlank, isDigit, startsName, isNameByte, isSign, isMark, starts, tidy, isName, Token, token, Piece, wordKind, commentPart, commentPiece, wordPiece, pieceAt, scan, tokens}
 use Rattle.laws.proofs.Tests.{and-i, clash}
 use Rattle.laws.proofs.Each.{Each}
 
@@ -86,7 +86,7 @@ scan-named zero p (c ∷ s) = go (eqb (pieceAt c s .kind) BLANK) (scan-named (pi
     q = pieceAt c s
 
     go : (b : Bool) → Each Named (scan (q .more) (suc p) s)
-        → Each Named (if b then scan (q .more) (suc p) s else record { kind = q .kind; text = take (suc (q .more)) (c ∷ s); place = p } ∷ scan (q .more) (suc p) s)
+        → Each Named (if b then scan (q .more) (suc p) s else token (q .kind) (take (suc (q .more)) (c ∷ s)) p ∷ scan (q .more) (suc p) s)
     go true h = h
     go false h = (piece-fits c s .spelt, h)
 

@@ -8,7 +8,7 @@ use native.Mathlib.Omega.{arith}
 use borrow.Author.Tests.{ltb-true, le-leb, lt-ltb}
 use lib.Dec.{ltb, eqb}
 use lib.ListN.{length, length-append, length-map}
-use Rattle.model.specs.Basic.{between, isEmpty, all, total, gather, distinct, updateLast}
+use Rattle.model.specs.Basic.{between, all, total, gather, distinct, updateLast}
 use Rattle.model.specs.Bounds.{M, ruleLimit, wordLimit, conclusionLimit, ruleNumberLeast, ruleNumberLimit, depthLimit}
 use Rattle.model.specs.Keywords.{COLON, SEMICOLON, ACCU, ACT, AND, BSUM, END-RULEBLOCK, IF, IS, MAX, MIN, OR, PROD, RULE, RULEBLOCK, THEN, WITH}
 use Rattle.model.specs.Tokens.{isName, decimal, unitOf}
@@ -24,7 +24,7 @@ use Rattle.model.specs.Rules.{ConditionRead, condition, addRule, changeRule, an
 use Rattle.laws.proofs.Tests.{pass, and-i}
 use Rattle.laws.proofs.Each.{Each}
 use Rattle.laws.proofs.Lists.{gather-last, total-last}
-use Rattle.listing_laws.proofs.Finding.{update-last, all-map}
+use Rattle.listing_laws.proofs.Finding.{update-last, all-map, some-there}
 use Rattle.reading_laws.proofs.Steps.{Fact, Good, Leads, _▹_, good-so, either, good-refuse, good-advance, good-change, good-judged, name-here, good-expect, good-repeated, good-listed}
 use Rattle.reading_laws.proofs.Numbers.{unit-value, rule-number}
 use Rattle.reading_laws.proofs.Focus.{map-updateLast, total-updateLast, all-last, distinct-last}
@@ -73,11 +73,14 @@ none-yet f w rs e z =
     subst (λ (l : List Rule). RulesFine 0 f w l) (sym z)
     (record { least = omega arith; most = omega arith; rules = refl; numbers = refl; words = e; room = omega arith; conclusions = omega arith })
 
-some-there : {A : Type 0} (xs : List A) → 1 ≤ length xs → not (isEmpty xs) ≡ true
-some-there [] h = absurd (omega arith)
-some-there (x ∷ xs) h = refl
-
 module _ {f : Block} {w : ℕ} {rs : List Rule} where
+  conclusions-count : {k : ℕ} (g : RuleOpen k f w rs)
+      → length (gather (λ r. r .conclusions) rs) ≡ length (gather (λ r. r .conclusions) (g .before)) + length (g .last .conclusions)
+  conclusions-count g =
+      ap (λ (x : List Rule). length (gather (λ r. r .conclusions) x)) (g .split)
+      ∙ ap length (gather-last (λ r. r .conclusions) (g .before) (g .last))
+      ∙ length-append (gather (λ r. r .conclusions) (g .before)) (g .last .conclusions)
+
   rule-changed : {k : ℕ} (g : RuleOpen k f w rs) (h : Rule → Rule) (j : ℕ) → ((r : Rule) → h r .number ≡ r .number)
       → ((r : Rule) → h r .condition ≡ r .condition) → all (conclusionOk f) (h (g .last) .conclusions) ≡ true
       → length (gather (λ r. r .conclusions) (g .before)) + length (h (g .last) .conclusions) ≤ conclusionLimit → unitOk (h (g .last) .weight) ≡ true
@@ -108,8 +111,7 @@ module _ {f : Block} {w : ℕ} {rs : List Rule} where
       let z = g .last .conclusions in
       let a = length-append z (c ∷ []) in
       let j = ltb-true (length (gather (λ r. r .conclusions) rs)) conclusionLimit l in
-      let i = ap (λ (x : List Rule). length (gather (λ r. r .conclusions) x)) (g .split)
-          ∙ ap length (gather-last (λ r. r .conclusions) (g .before) (g .last)) ∙ length-append (gather (λ r. r .conclusions) (g .before)) z in
+      let i = conclusions-count g in
       rule-changed g (withConclusion c) 1 (λ r. refl) (λ r. refl) (all-last (conclusionOk f) z c (g .concluded) e) (omega arith) (g .weighed) (omega arith)
 
   weight-set : {k : ℕ} (u : ℕ) → unitOk u ≡ true → RuleOpen k f w rs → RuleOpen k f w (updateLast (withWeight u) rs)
@@ -119,8 +121,7 @@ module _ {f : Block} {w : ℕ} {rs : List Rule} where
   unfolding ruleOk
   rule-done g =
       let a = ap length (g .split) ∙ length-append (g .before) (g .last ∷ []) in
-      let i = ap (λ (x : List Rule). length (gather (λ r. r .conclusions) x)) (g .split)
-          ∙ ap length (gather-last (λ r. r .conclusions) (g .before) (g .last)) ∙ length-append (gather (λ r. r .conclusions) (g .before)) (g .last .conclusions) in
+      let i = conclusions-count g in
       let q = g .all-conclusions in
       let o : ruleOk f (g .last) ≡ true =
       pass _ (g .number, (g .condition, (some-there (g .last .conclusions) (g .least), (g .concluded, (g .weighed, tt))))) in
@@ -156,7 +157,9 @@ record Numbered (m n w : ℕ) (b : Block) : Type 0 where
 
 good-number : {m : ℕ} (r : Parse) → Good (Space m) r → Good (Numbered m (decimal (text r))) (ruleNumber r)
 unfolding ruleNumber
-good-number r k = good-judged _ r refl (λ c. good-advance r (good-so (λ g. record { space = g .fact; number = rule-number (text r) (c .1 .0); new = c .1 .1 .0 }) k))
+good-number r k =
+    good-judged _ r refl (λ c.
+    good-advance r (good-so (λ g. record { space = g .fact; number = rule-number (text r) (c .1 .0); new = c .1 .1 .0 }) k))
 
 other-number : (n : ℕ) (rs : List Rule) → all (λ q. not (eqb (q .number) n)) rs ≡ true → all (λ x. not (eqb x n)) (map (λ r. r .number) rs) ≡ true
 other-number n rs h = all-map (λ x. not (eqb x n)) (λ r. r .number) rs ∙ h
@@ -207,7 +210,9 @@ conclusion-fine : (o s : ℕ) (b : Block) → ltb o (length (b .outputs)) ≡ tr
 unfolding conclusionOk outputFirst singletonsOf
 conclusion-fine o s b h l =
     let j = ltb-true s (length (singletonsOf o b)) l in
-    pass _ (h, (le-leb (outputFirst o b) (outputFirst o b + s) (omega arith), (lt-ltb (outputFirst o b + s) (outputFirst o b + length (singletonsOf o b)) (omega arith), tt)))
+    pass _
+    (h, (le-leb (outputFirst o b) (outputFirst o b + s) (omega arith),
+    (lt-ltb (outputFirst o b + s) (outputFirst o b + length (singletonsOf o b)) (omega arith), tt)))
 
 good-concluded : {k : ℕ} (o : ℕ) → Leads (Concluding k o) (Last 1) (concludedTerm o)
 unfolding concludedTerm changeRule
@@ -263,8 +268,8 @@ good-rule r k = good-judged _ r refl (λ c. good-ruleFrom (advance r) (good-adva
 
 -- THE WHOLE OF IT
 -- other parts of the block changed
-as-it-is : {Z : Block → ℕ → List Rule → Type 0} {w : ℕ} {n v : List ℕ} {is : List Input} {os : List Output} {p q : Pair} {a c : Activation} {x y : Accumulation} {rs : List Rule}
-    → Ruled Z w (blockOf n is os v p a x rs) → Ruled Z w (blockOf n is os v q c y rs)
+as-it-is : {Z : Block → ℕ → List Rule → Type 0} {w : ℕ} {n v : List ℕ} {is : List Input} {os : List Output}
+    {p q : Pair} {a c : Activation} {x y : Accumulation} {rs : List Rule} → Ruled Z w (blockOf n is os v p a x rs) → Ruled Z w (blockOf n is os v q c y rs)
 as-it-is s = record { variables = s .variables; called = s .called; rules = s .rules }
 
 good-own : Leads (Outputs 1) (Rules 0) (ownName withRuleBlock)

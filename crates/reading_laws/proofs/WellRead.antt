@@ -63,7 +63,8 @@ well-formed w b s p =
     let m : total (λ r. size (r .condition)) (b .rules) ≤ wordLimit = subst (λ (n : ℕ). n ≤ wordLimit) (z .words) (z .room) in
     pass _
     (v .name, (s .called,
-    (among 1 inputLimit (length (b .inputs)) (v .inputs-least) (v .inputs-most), (among 1 outputLimit (length (b .outputs)) (v .outputs-least) (v .outputs-most),
+    (among 1 inputLimit (length (b .inputs)) (v .inputs-least) (v .inputs-most),
+    (among 1 outputLimit (length (b .outputs)) (v .outputs-least) (v .outputs-most),
     (all-from InputFine (λ v. not (isEmpty (v .terms))) inputOk input-ok (b .inputs) (v .inputs) (t .0),
     (all-from OutputFine (λ v. not (isEmpty (v .terms))) outputOk output-ok (b .outputs) (v .outputs) (t .1), (v .apart,
     (among 1 ruleLimit (length (b .rules)) (z .least) (z .most),
