@@ -14,13 +14,10 @@ use Rattle.model.specs.Degrees.{notOf, pairs, conditionDegree}
 use Rattle.model.specs.Image.{opWord, treeOf, tab}
 use Rattle.stored_conditions.specs.Machine.{Meaning, room, added, unary, binary, step, turn, stackOf}
 use Rattle.stored_conditions.specs.Stored.{conditionStored}
-use Rattle.stored_conditions.proofs.Passes.{fold, pass, Allowed, pass-postfix, Left, left-start, left-turn, left-end, left-none}
+use Rattle.stored_conditions.proofs.Passes.{none-some, fold, pass, Allowed, pass-postfix, Left, left-start, left-turn, left-end, left-none}
 use Rattle.stored_conditions.proofs.Accepted.{condition-in}
 use Rattle.stored_conditions.proofs.Stacks.{length-stack, stack-push, stack-one, stack-two}
 use Rattle.aggregation.specs.Stacks.{byDegrees}
-
-none-some : {A : Type 0} (x : A) → _≡_ {A = Option A} none (some x) → ⊥
-none-some x e = let z : _≡_ {A = ℕ} 0 1 = cc in omega arith
 
 some-eq : {A : Type 0} (x y : A) → some x ≡ some y → x ≡ y
 some-eq x y e = cc

@@ -12,7 +12,7 @@ use Rattle.model.specs.Basic.{if_then_else_, total, gather}
 use Rattle.model.specs.Block as block
 use Rattle.model.specs.Block.{Block, inputFirst, outputFirst}
 use Rattle.model.specs.Image.{tab}
-use Rattle.laws.proofs.Places.{length-tab}
+use Rattle.laws.proofs.Places.{take-tab, length-tab}
 use Rattle.block_tables.specs.declared.Tables.{Tables}
 use Rattle.block_tables.specs.View.{inputRow, outputRow, inputView, outputView, termView, singletonView, inputsView, outputsView, Holds}
 use Rattle.block_updates.proofs.Lookups as lookups
@@ -126,7 +126,7 @@ module _ (t : Tables) (r : List ℕ) (l : length r ≡ 17) (f : Firsts (termsAt 
       unfolding inputFirst
       input-firsts i h =
           ap (λ (vs : List block.Input). total (λ v. length (v .terms)) (take i vs)) bi
-          ∙ ap (total (λ v. length (v .terms))) (sum.take-tab (inputView s t) (t .«input_count») i 0 (omega arith))
+          ∙ ap (total (λ v. length (v .terms))) (take-tab (inputView s t) (t .«input_count») i 0 (omega arith))
           ∙ counted i (omega arith)
 
       -- past the last input nothing is added
@@ -146,7 +146,7 @@ module _ (t : Tables) (r : List ℕ) (l : length r ≡ 17) (f : Firsts (termsAt 
           (λ j. (ap (λ (vs : List block.Input). length (gather (λ v. v .terms) vs)) bi
           ∙ sum.length-gather (λ (v : block.Input). v .terms) (inputsView s t) ∙ counted (t .«input_count») (omega arith) ∙ sym to-eight) j
           + (ap (λ (vs : List block.Output). total (λ v. length (v .terms)) (take o vs)) bo
-          ∙ ap (total (λ v. length (v .terms))) (sum.take-tab (outputView s t) (t .«output_count») o 0 (omega arith))
+          ∙ ap (total (λ v. length (v .terms))) (take-tab (outputView s t) (t .«output_count») o 0 (omega arith))
           ∙ sum.total-tab (λ (v : block.Output). length (v .terms)) (outputView s t) o
           ∙ sum.sums-ext (λ k. length (outputView s t k .terms)) (λ k. termsAt t (8 + k)) o
           (λ v m. length-tab (singletonView s t v) (outputRow t v .terms) 0 ∙ sym (output-terms v (omega arith)))) j)

@@ -12,6 +12,7 @@ use lib.ListN.{length, take, getD, set, length-append}
 use lib.Seq.{getD-set-same, getD-set-other}
 use Rattle.model.specs.Basic.{total, gather}
 use Rattle.model.specs.Image.{tab}
+use Rattle.laws.proofs.Lists.{total-append}
 use Rattle.laws.proofs.Places.{tab-last}
 use Rattle.block_symbols.specs.Firsts.{sums, Firsts}
 
@@ -53,14 +54,9 @@ module _ (r : List ℕ) (i k : ℕ) (l : length r ≡ 17) (h : i < 16) where
       by : (v : ℕ) → v ≤ i + 1 → (t : Bool) → eqb v (i + 1) ≡ t → getD (set r (i + 1) (getD r i 0 + k)) v 0 ≡ sums c v
       by v b true q =
           let z = eqb-true v (i + 1) q in
-          ap (λ (w : ℕ). getD (set r (i + 1) (getD r i 0 + k)) w 0) z ∙ last-is ∙ (λ j. f .first i (omega arith) j + e j) ∙ sym (sums-more c i) ∙ ap (sums c) (sym z)
+          ap (λ (w : ℕ). getD (set r (i + 1) (getD r i 0 + k)) w 0) z ∙ last-is ∙ (λ j. f .first i (omega arith) j + e j) ∙ sym (sums-more c i)
+          ∙ ap (sums c) (sym z)
       by v b false q = let z = eqb-false v (i + 1) q in getD-set-other r (i + 1) v (getD r i 0 + k) 0 z ∙ f .first v (omega (arith, lt-of-le-ne b z))
-
--- LISTS
-pub total-append : {A : Type 0} (f : A → ℕ) (xs ys : List A) → total f (xs ++ ys) ≡ total f xs + total f ys
-unfolding total
-total-append f [] ys = omega arith
-total-append f (x ∷ xs) ys = let e = total-append f xs ys in omega arith
 
 pub total-tab : {A : Type 0} (f : A → ℕ) (g : ℕ → A) (n : ℕ) → total f (tab g n 0) ≡ sums (λ k. f (g k)) n
 unfolding sums total tab
@@ -71,12 +67,6 @@ total-tab {A} f g (suc n) =
     ∙ ap (λ (k : ℕ). total f (tab g n 0) + (f (g k) + 0)) z
     ∙ ap (λ (k : ℕ). k + (f (g n) + 0)) (total-tab f g n)
     ∙ omega arith
-
-pub take-tab : {A : Type 0} (g : ℕ → A) (n i p : ℕ) → i ≤ n → take i (tab g n p) ≡ tab g i p
-unfolding tab
-take-tab g n zero p h = refl
-take-tab g zero (suc i) p h = absurd (omega arith)
-take-tab {A} g (suc n) (suc i) p h = ap (λ (l : List A). g p ∷ l) (take-tab g n i (suc p) (omega arith))
 
 pub length-gather : {A B : Type 0} (f : A → List B) (xs : List A) → length (gather f xs) ≡ total (λ x. length (f x)) xs
 unfolding gather total

@@ -4,6 +4,7 @@ ghost use mathlib.Core.List.{List};
 ghost use Prim.Native.Nat.{ℕ, _+_, _≤_, _<_};
 ghost use lib.Dec.{ltb};
 ghost use lib.ListN.{getD};
+ghost use Rattle.model.specs.Bounds.{inputLimit, outputLimit, termLimit};
 ghost use Rattle.model.specs.Basic.{if_then_else_};
 ghost use Rattle.model.specs.Block.{Block};
 ghost use Rattle.block_tables.specs.View.{no-input, no-output, inputsView, outputsView, Holds};
@@ -26,8 +27,9 @@ fn among(i: usize, n: usize, terms: usize) -> usize
 }
 
 fn with_inputs(symbols: SymbolTable, rows: [Input; bounds::INPUTS], n: usize) -> SymbolTable
-    requires { ⌜ (getD symbols 0 0 ≡ 0) × ((i : ℕ) → getD rows i no-input .terms ≤ 7) ⌝ }
-    ensures { λ r. ⌜ ((c : ℕ → ℕ) → ((i : ℕ) → i < 8 → c i ≡ (if ltb i n then getD rows i no-input .terms else 0))
+    requires { ⌜ (getD symbols 0 0 ≡ 0) × ((i : ℕ) → getD rows i no-input .terms ≤ termLimit) ⌝ }
+    ensures { λ r. ⌜ ((c : ℕ → ℕ) → ((i : ℕ) → i < inputLimit
+        → c i ≡ (if ltb i n then getD rows i no-input .terms else 0))
         → Firsts c 8 r) ⌝ }
     ensures small { λ r. ⌜ getD r 8 0 ≤ 56 ⌝ }
 {
@@ -43,9 +45,10 @@ fn with_inputs(symbols: SymbolTable, rows: [Input; bounds::INPUTS], n: usize) ->
 }
 
 fn with_outputs(symbols: SymbolTable, rows: [Output; bounds::OUTPUTS], n: usize) -> SymbolTable
-    requires { ⌜ (getD symbols 8 0 ≤ 56) × ((i : ℕ) → getD rows i no-output .terms ≤ 7) ⌝ }
+    requires { ⌜ (getD symbols 8 0 ≤ 56) × ((i : ℕ) → getD rows i no-output .terms ≤ termLimit) ⌝ }
     ensures { λ r. ⌜ ((c : ℕ → ℕ) → Firsts c 8 symbols
-        → ((i : ℕ) → i < 6 → c (8 + i) ≡ (if ltb i n then getD rows i no-output .terms else 0)) → Firsts c 14 r) ⌝ }
+        → ((i : ℕ) → i < outputLimit → c (8 + i) ≡ (if ltb i n then getD rows i no-output .terms else 0))
+        → Firsts c 14 r) ⌝ }
 {
     let mut r = symbols;
     let mut i = 0;
@@ -59,8 +62,8 @@ fn with_outputs(symbols: SymbolTable, rows: [Output; bounds::OUTPUTS], n: usize)
 }
 
 pub fn symbols_of(t: Tables) -> SymbolTable
-    requires { ⌜ ((i : ℕ) → getD (t .inputs) i no-input .terms ≤ 7)
-        × ((o : ℕ) → getD (t .outputs) o no-output .terms ≤ 7) ⌝ }
+    requires { ⌜ ((i : ℕ) → getD (t .inputs) i no-input .terms ≤ termLimit)
+        × ((o : ℕ) → getD (t .outputs) o no-output .terms ≤ termLimit) ⌝ }
     ensures { λ r. ⌜ ((s : List ℕ) → Holds s t → Symbols s (t .names) r) ⌝ }
     ensures describes { λ r. ⌜ ((s : List ℕ) (b : Block) → Holds s t → b .inputs ≡ inputsView s t
         → b .outputs ≡ outputsView s t → Describes s (t .names) r b) ⌝ }

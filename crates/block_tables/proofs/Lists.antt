@@ -9,9 +9,3 @@ pub alike : {A : Type 0} (d : A) (n k : ℕ) → getD (replicate n d) k d ≡ d
 alike d zero k = refl
 alike d (suc n) zero = refl
 alike d (suc n) (suc k) = alike d n k
-
-pub updateLast-snoc : {A : Type 0} (h : A → A) (xs : List A) (x : A) → updateLast h (xs ++ (x ∷ [])) ≡ xs ++ (h x ∷ [])
-unfolding updateLast
-updateLast-snoc h [] x = refl
-updateLast-snoc h (y ∷ []) x = refl
-updateLast-snoc {A} h (y ∷ z ∷ xs) x = ap (λ (l : List A). y ∷ l) (updateLast-snoc h (z ∷ xs) x)

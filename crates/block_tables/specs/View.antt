@@ -32,7 +32,15 @@ abbrev pub no-input : Input
 no-input = record { int = false; terms = 0 }
 
 abbrev pub no-output : Output
-no-output = record { terms = 0; ranged = false; least = zero-crisp; most = zero-crisp; numbered = false; default = zero-crisp }
+no-output = record {
+  terms = 0;
+  ranged = false;
+  least = zero-crisp;
+  most = zero-crisp;
+  numbered =
+      false;
+  default = zero-crisp;
+}
 
 abbrev pub no-point : Point
 no-point = record { at = zero-crisp; degree = record { 0 = 0 } }
@@ -87,18 +95,21 @@ inputsView s t = tab (inputView s t) (t .«input_count») 0
 abbrev pub outputsView : List ℕ → Tables → List block.Output
 outputsView s t = tab (outputView s t) (t .«output_count») 0
 
--- before the rule block
-unfoldable pub blockView : List ℕ → Tables → Block
-blockView s t = record {
-  name = slice (t .start) (t .end) s;
-  inputs = inputsView s t;
-  outputs = outputsView s t;
+-- of this name and with these variables, before the rule block
+abbrev pub declared : List ℕ → List block.Input → List block.Output → Block
+declared w inputs outputs = record {
+  name = w;
+  inputs = inputs;
+  outputs = outputs;
   ruleBlock = [];
   pair = min-max;
   act = by-min;
   accu = by-max;
   rules = [];
 }
+
+unfoldable pub blockView : List ℕ → Tables → Block
+blockView s t = declared (slice (t .start) (t .end) s) (inputsView s t) (outputsView s t)
 
 -- with a rule block of these rules
 unfoldable pub wholeView : List ℕ → Tables → Heading → List Rule → Block

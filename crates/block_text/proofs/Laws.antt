@@ -49,7 +49,11 @@ pub empty-holds : (s : List ℕ) → Holds s empty
 empty-holds s = record {
   order = omega arith;
   inside = omega arith;
-  placed = record { order = λ k h. rw (alike {A = ℕ} 0 224 k, alike {A = ℕ} 0 224 (112 + k)) (omega arith); inside = λ k. rw (alike {A = ℕ} 0 224 k) (omega arith) };
+  placed = record {
+    order = λ k h. rw (alike {A = ℕ} 0 224 k, alike {A = ℕ} 0 224 (112 + k)) (omega arith);
+    inside =
+        λ k. rw (alike {A = ℕ} 0 224 k) (omega arith);
+  };
   inputCount = omega arith;
   outputCount = omega arith;
   inputTerms = λ i. rw (alike no-input 8 i) (omega arith);
@@ -99,7 +103,8 @@ module _ (s names symbols : List ℕ) (b : Block) (d : Describes s names symbols
   unfolding haveTerms termsOf
   inputs-there =
       parts-by (λ (v : block.Input). v .terms) (λ k. ltb (first symbols k) (first symbols (k + 1))) (b .inputs) 0
-      (λ i h. let z : 0 + i ≡ i = omega arith in ap (λ (k : ℕ). ltb (first symbols k) (first symbols (k + 1))) z ∙ above (first symbols i) (first symbols (i + 1)) ∙ ap (ltb 0) (sym (d .terms i (omega (arith, d .inputs)))))
+      (λ i h. let z : 0 + i ≡ i = omega arith in ap (λ (k : ℕ). ltb (first symbols k) (first symbols (k + 1))) z
+      ∙ above (first symbols i) (first symbols (i + 1)) ∙ ap (ltb 0) (sym (d .terms i (omega (arith, d .inputs)))))
       ∙ ap (λ (n : ℕ). all (λ k. ltb (first symbols k) (first symbols (k + 1))) (tab (λ k. k) n 0)) (d .inputs)
 
   outputs-there : all (λ v. not (isEmpty (v .terms))) (b .outputs) ≡ haveTerms symbols 8 (outputCount symbols)
@@ -120,7 +125,12 @@ unfolding advance
 passed q = record { why = refl; place = refl; block = refl }
 
 ends-as : {q u v : Parse} → Ends q u → u ≡ v → Ends q v
-ends-as {q} {u} {v} x e = record { why = x .why ∙ ap (λ (z : Parse). z .why) e; place = x .place ∙ ap (λ (z : Parse). z .place) e; block = x .block ∙ ap (λ (z : Parse). z .block) e }
+ends-as {q} {u} {v} x e = record {
+  why = x .why ∙ ap (λ (z : Parse). z .why) e;
+  place = x .place ∙ ap (λ (z : Parse). z .place) e;
+  block =
+      x .block ∙ ap (λ (z : Parse). z .block) e;
+}
 
 module _ (s : List ℕ) (r : Cursor) (b : Block) (n : ℕ) where
   at-end : r .kind ≡ 0 → Ends (seen s r b n) (expect END (seen s r b n))
@@ -139,7 +149,8 @@ module _ (s : List ℕ) (c d : Cursor) (x : Step (expect END-RULEBLOCK) s c d) (
   back-is u e = ap (expect END) (sym e) ∙ ap (λ (z : Parse). expect END (endOfBlock z)) (x .reads b n)
 
   -- refused at the end of the block
-  pub back-refused : (w : ℕ) (r : Cursor) → fault checks ≡ w → (w ≡ 0 → ⊥) → (r .why ≡ 0 → ⊥) → Step (refuse w) s d r → Ends (seen s r b n) (backText (seen s c b n))
+  pub back-refused : (w : ℕ) (r : Cursor) → fault checks ≡ w → (w ≡ 0 → ⊥) → (r .why ≡ 0 → ⊥) → Step (refuse w) s d r
+      → Ends (seen s r b n) (backText (seen s c b n))
   unfolding endOfBlock
   back-refused w r f h l y =
       let e : endOfBlock q ≡ seen s r b n = judged-bad q (advance q) w checks [] f h ∙ sym (y .reads b n) in
@@ -164,4 +175,5 @@ module _ (s : List ℕ) (c d : Cursor) (x : Step (expect END-RULEBLOCK) s c d) (
     pub back-more : (e .kind ≡ 0 → ⊥) → (r : Cursor) → Step (refuse 2) s e r → Ends (seen s r b n) (backText (seen s c b n))
     unfolding expect
     back-more k r z =
-        ends-as (record { why = refl; place = refl; block = refl }) (z .reads b n ∙ sym (simp (kind-seen s e b n, ne-eqb _ _ k) refl) ∙ back-is (seen s e b n) ended)
+        ends-as (record { why = refl; place = refl; block = refl })
+        (z .reads b n ∙ sym (simp (kind-seen s e b n, ne-eqb _ _ k) refl) ∙ back-is (seen s e b n) ended)

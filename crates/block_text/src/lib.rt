@@ -2,6 +2,7 @@
 ghost use mathlib.Core.Path.{_≡_};
 ghost use mathlib.Core.List.{List};
 ghost use Prim.Native.Nat.{ℕ, _+_, _≤_};
+ghost use Rattle.model.specs.Bounds.{inputLimit, outputLimit};
 ghost use Rattle.model.specs.Block.{Block, emptyBlock};
 ghost use Rattle.model.specs.Reader.{start, partsThere};
 ghost use Rattle.block_tables.specs.View.{blockView, Holds};
@@ -112,8 +113,9 @@ fn have_terms(symbols: &SymbolTable, v: usize, n: usize) -> bool
 
 // Whether every variable has its part.
 pub fn is_complete(symbols: &SymbolTable) -> bool
-    requires { ⌜ (inputCount (now symbols) ≤ 8) × (outputCount (now symbols) ≤ 6) ⌝ }
-    ensures { λ r. ⌜ ((s names : List ℕ) (b : Block) → Describes s names (now (symbols .entry)) b → r ≡ partsThere b) ⌝ }
+    requires { ⌜ (inputCount (now symbols) ≤ inputLimit) × (outputCount (now symbols) ≤ outputLimit) ⌝ }
+    ensures { λ r. ⌜ ((s names : List ℕ) (b : Block) → Describes s names (now (symbols .entry)) b → r
+        ≡ partsThere b) ⌝ }
 {
     if have_terms(symbols, 0, symbols[symbol_table::INPUT_COUNT]) {
         return have_terms(symbols, bounds::INPUTS, symbols[symbol_table::OUTPUT_COUNT]);

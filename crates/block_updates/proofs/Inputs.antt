@@ -10,21 +10,29 @@ use Rattle.model.specs.Basic.{if_then_else_}
 use Rattle.model.specs.Image.{tab}
 use Rattle.model.specs.Declarations.{addInput}
 use Rattle.model.specs.declared.InputType.the-variants.{Real as real, Int as int}
-use Rattle.model.specs.declared.Pair.the-variants.{MinMax as min-max}
-use Rattle.model.specs.declared.Activation.the-variants.{Min as by-min}
-use Rattle.model.specs.declared.Accumulation.the-variants.{Max as by-max}
 use Rattle.lookup.specs.Names.{nameOf}
 use Rattle.lookup.proofs.Names.{name-same, name-other, placed-set}
 use Rattle.block_tables.specs.declared.Input.{Input}
 use Rattle.block_tables.specs.declared.Tables.{Tables}
-use Rattle.block_tables.specs.View.{no-input, pointView, termView, inputView, singletonView, outputView, blockView, Holds}
+use Rattle.block_tables.specs.View.{no-input, pointView, termView, inputView, singletonView, outputView, declared, blockView, Holds}
 use Rattle.block_updates.specs.Changes.{Changes}
 use Rattle.block_updates.proofs.Tabs.{tab-more, tab-same, kept}
 use Rattle.block_updates.proofs.Views.{term-same, input-same, singleton-same, output-same}
 
 abbrev pub named : Tables → ℕ → ℕ → Tables
-named t a e = record { start = a; end = e; «input_count» = t .«input_count»; «output_count» = t .«output_count»; names = t .names; inputs =
-    t .inputs; outputs = t .outputs; counts = t .counts; points = t .points; singletons = t .singletons }
+named t a e = record {
+  start = a;
+  end = e;
+  «input_count» = t .«input_count»;
+  «output_count» = t .«output_count»;
+  names = t .names;
+  inputs =
+      t .inputs;
+  outputs = t .outputs;
+  counts = t .counts;
+  points = t .points;
+  singletons = t .singletons;
+}
 
 module _ (s : List ℕ) (t : Tables) (a e : ℕ) (g : Holds s t) (o : a ≤ e) (l : e ≤ length s) where
   pub is-named : Changes s t (named t a e) (withName (slice a e s))
@@ -96,8 +104,7 @@ module _ (s : List ℕ) (t : Tables) (a e : ℕ) (h : t .«input_count» < 8) (g
       input-stays input-new in
       let q = tab-same (outputView s t) (outputView s (withInput t a e)) (t .«output_count») output-stays in
       record {
-        view = λ x. record { name = slice (t .start) (t .end) s; inputs = p x; outputs = q x; ruleBlock = []; pair = min-max; act = by-min; accu =
-            by-max; rules = [] };
+        view = λ x. declared (slice (t .start) (t .end) s) (p x) (q x);
         holds = record {
           order = g .order;
           inside = g .inside;

@@ -8,14 +8,11 @@ use lib.ListN.{length, set, length-set}
 use lib.Seq.{slice, getD-set-same, getD-set-other}
 use Rattle.model.specs.Image.{tab}
 use Rattle.model.specs.Declarations.{addOutput}
-use Rattle.model.specs.declared.Pair.the-variants.{MinMax as min-max}
-use Rattle.model.specs.declared.Activation.the-variants.{Min as by-min}
-use Rattle.model.specs.declared.Accumulation.the-variants.{Max as by-max}
 use Rattle.lookup.specs.Names.{nameOf}
 use Rattle.lookup.proofs.Names.{name-same, name-other, placed-set}
 use Rattle.block_tables.specs.declared.Output.{Output}
 use Rattle.block_tables.specs.declared.Tables.{Tables}
-use Rattle.block_tables.specs.View.{no-output, pointView, inputView, singletonView, rangeView, defaultView, outputView, blockView, Holds}
+use Rattle.block_tables.specs.View.{no-output, pointView, inputView, singletonView, rangeView, defaultView, outputView, declared, blockView, Holds}
 use Rattle.block_updates.specs.Changes.{Changes}
 use Rattle.block_updates.proofs.Tabs.{tab-more, tab-same, kept}
 use Rattle.block_updates.proofs.Views.{term-same, input-same, singleton-same, output-same}
@@ -49,7 +46,8 @@ module _ (s : List ℕ) (t : Tables) (a e : ℕ) (h : t .«output_count» < 6) (
   output-stays : (i : ℕ) → i < t .«output_count» → outputView s (withOutput t a e) i ≡ outputView s t i
   output-stays i b =
       let w = g .outputTerms i in
-      output-same s t (withOutput t a e) i (stays (8 + i) (λ q. omega arith) (omega arith)) (getD-set-other (t .outputs) (t .«output_count») i no-output no-output (λ q. omega arith))
+      output-same s t (withOutput t a e) i (stays (8 + i) (λ q. omega arith) (omega arith))
+      (getD-set-other (t .outputs) (t .«output_count») i no-output no-output (λ q. omega arith))
       (λ j d. singleton-same s t (withOutput t a e) i j (stays (14 + (8 + i) * 7 + j) (λ q. omega arith) (omega arith)) refl)
 
   output-new : outputView s (withOutput t a e) (t .«output_count») ≡ record { name = slice a e s; terms = []; range = none; default = none }
@@ -57,15 +55,22 @@ module _ (s : List ℕ) (t : Tables) (a e : ℕ) (h : t .«output_count» < 6) (
   output-new =
       let p = name-same s (t .names) (8 + t .«output_count») a e (omega arith) (g .names-size) in
       let q = getD-set-same (t .outputs) (t .«output_count») no-output no-output (omega (arith, g .outputs-size)) in
-      λ x. record { name = p x; terms = tab (singletonView s (withOutput t a e) (t .«output_count»)) (q x .terms) 0; range = rangeView (q x); default = defaultView (q x) }
+      λ x. record {
+        name = p x;
+        terms = tab (singletonView s (withOutput t a e) (t .«output_count»)) (q x .terms) 0;
+        range =
+            rangeView (q x);
+        default = defaultView (q x);
+      }
 
   pub output-added : Changes s t (withOutput t a e) (addOutput (slice a e s))
   unfolding blockView addOutput
   output-added =
       let p = tab-same (inputView s t) (inputView s (withOutput t a e)) (t .«input_count») input-stays in
-      let q = tab-more (outputView s t) (outputView s (withOutput t a e)) (t .«output_count») (record { name = slice a e s; terms = []; range = none; default = none }) output-stays output-new in
+      let q = tab-more (outputView s t) (outputView s (withOutput t a e)) (t .«output_count»)
+      (record { name = slice a e s; terms = []; range = none; default = none }) output-stays output-new in
       record {
-        view = λ x. record { name = slice (t .start) (t .end) s; inputs = p x; outputs = q x; ruleBlock = []; pair = min-max; act = by-min; accu = by-max; rules = [] };
+        view = λ x. declared (slice (t .start) (t .end) s) (p x) (q x);
         holds = record {
           order = g .order;
           inside = g .inside;

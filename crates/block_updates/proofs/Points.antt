@@ -12,14 +12,11 @@ use Rattle.model.specs.Basic.{if_then_else_, updateLast}
 use Rattle.model.specs.Image.{tab}
 use Rattle.model.specs.Declarations.{addPoint}
 use Rattle.model.specs.declared.InputType.the-variants.{Real as real, Int as int}
-use Rattle.model.specs.declared.Pair.the-variants.{MinMax as min-max}
-use Rattle.model.specs.declared.Activation.the-variants.{Min as by-min}
-use Rattle.model.specs.declared.Accumulation.the-variants.{Max as by-max}
 use Rattle.laws.proofs.Places.{tab-last, tab-ext}
 use Rattle.lookup.specs.Names.{nameOf}
 use Rattle.block_tables.specs.declared.Point.{Point}
 use Rattle.block_tables.specs.declared.Tables.{Tables}
-use Rattle.block_tables.specs.View.{no-point, inputRow, pointView, termView, inputView, singletonView, outputView, outputsView, blockView, Holds}
+use Rattle.block_tables.specs.View.{no-point, inputRow, pointView, termView, inputView, singletonView, outputView, outputsView, declared, blockView, Holds}
 use Rattle.block_updates.specs.Changes.{Changes, LastTerm}
 use Rattle.block_updates.proofs.Tabs.{tab-update, tab-updateLast, kept}
 use Rattle.block_updates.proofs.Views.{term-same, input-same}
@@ -73,7 +70,8 @@ module _ (s : List ℕ) (t : Tables) (i k : ℕ) (p : Point) (b : LastTerm t i k
   term-longer j e =
       let z = low in
       let n : ℕ = getD (t .counts) k 0 in
-      let c : getD (set (t .counts) k (n + 1)) (i * 7 + j) 0 ≡ suc n = ap (λ (m : ℕ). getD (set (t .counts) k (n + 1)) m 0) e ∙ getD-set-same (t .counts) k (n + 1) 0 (omega (arith, g .counts-size)) ∙ add-one n in
+      let c : getD (set (t .counts) k (n + 1)) (i * 7 + j) 0 ≡ suc n =
+      ap (λ (m : ℕ). getD (set (t .counts) k (n + 1)) m 0) e ∙ getD-set-same (t .counts) k (n + 1) 0 (omega (arith, g .counts-size)) ∙ add-one n in
       let q = ap (λ (m : ℕ). tab (pointView (withPoint t k p)) m ((i * 7 + j) * 4)) c
       ∙ ap (λ (m : ℕ). tab (pointView (withPoint t k p)) (suc n) (m * 4)) e
       ∙ tab-last (pointView (withPoint t k p)) n (k * 4)
@@ -88,17 +86,19 @@ module _ (s : List ℕ) (t : Tables) (i k : ℕ) (p : Point) (b : LastTerm t i k
       let e : inputRow t i .terms ≡ suc j = omega (arith, b .some) in
       let q = tab-updateLast (longerTerm (record { at = p .at .0; degree = p .degree .0 })) (termView s t i) (termView s (withPoint t k p) i) j
       (term-longer j (omega (arith, b .last, b .some))) (λ m f. term-stays i m (λ r. omega (arith, b .last, b .some))) in
-      let r = ap (λ (m : ℕ). tab (termView s (withPoint t k p) i) m 0) e ∙ q ∙ ap (λ (m : ℕ). updateLast (longerTerm (record { at = p .at .0; degree = p .degree .0 })) (tab (termView s t i) m 0)) (sym e) in
+      let r = ap (λ (m : ℕ). tab (termView s (withPoint t k p) i) m 0) e ∙ q
+      ∙ ap (λ (m : ℕ). updateLast (longerTerm (record { at = p .at .0; degree = p .degree .0 })) (tab (termView s t i) m 0)) (sym e) in
       λ x. record { name = nameOf s (t .names) i; type = if inputRow t i .int then int else real; terms = r x }
 
   pub point-added : Changes s t (withPoint t k p) (addPoint i (record { at = p .at .0; degree = p .degree .0 }))
   unfolding blockView addPoint outputView singletonView
   point-added =
       let z = low in
-      let r = tab-update (withTerms (updateLast (longerTerm (record { at = p .at .0; degree = p .degree .0 })))) (inputView s t) (inputView s (withPoint t k p)) (t .«input_count») 0 i
+      let r = tab-update (withTerms (updateLast (longerTerm (record { at = p .at .0; degree = p .degree .0 })))) (inputView s t)
+      (inputView s (withPoint t k p)) (t .«input_count») 0 i
       (simp zero-add input-longer) (λ m f d. simp zero-add (input-stays m d)) (b .input) in
       record {
-        view = λ x. record { name = slice (t .start) (t .end) s; inputs = r x; outputs = outputsView s t; ruleBlock = []; pair = min-max; act = by-min; accu = by-max; rules = [] };
+        view = λ x. declared (slice (t .start) (t .end) s) (r x) (outputsView s t);
         holds = record {
           order = g .order;
           inside = g .inside;

@@ -1,7 +1,7 @@
 -- RANGE and DEFAULT of an output.
 use mathlib.Core.Path.{_≡_, refl, ap, _∙_}
 use mathlib.Core.Bool.{true}
-use mathlib.Core.List.{List, []}
+use mathlib.Core.List.{List}
 use Prim.Native.Nat.{ℕ, _+_, _<_}
 use native.Mathlib.Nat.{zero-add}
 use native.Mathlib.Omega.{arith}
@@ -10,14 +10,11 @@ use lib.Seq.{slice, getD-set-same, getD-set-other}
 use Rattle.model.specs.Block.{Output as Output′, withRange, withDefault}
 use Rattle.model.specs.Image.{tab}
 use Rattle.model.specs.Declarations.{changeOutput}
-use Rattle.model.specs.declared.Pair.the-variants.{MinMax as min-max}
-use Rattle.model.specs.declared.Activation.the-variants.{Min as by-min}
-use Rattle.model.specs.declared.Accumulation.the-variants.{Max as by-max}
 use Rattle.lookup.specs.Names.{nameOf}
 use Rattle.model.specs.declared.Crisp.{Crisp}
 use Rattle.block_tables.specs.declared.Output.{Output}
 use Rattle.block_tables.specs.declared.Tables.{Tables}
-use Rattle.block_tables.specs.View.{no-output, outputRow, pointView, termView, inputView, singletonView, rangeView, defaultView, outputView, inputsView, blockView, Holds}
+use Rattle.block_tables.specs.View.{no-output, outputRow, pointView, termView, inputView, singletonView, rangeView, defaultView, outputView, inputsView, declared, blockView, Holds}
 use Rattle.block_updates.specs.Changes.{Changes}
 use Rattle.block_updates.proofs.Tabs.{tab-update, kept}
 use Rattle.block_updates.proofs.Views.{singleton-same, output-same}
@@ -59,8 +56,7 @@ module _ (s : List ℕ) (t : Tables) (o : ℕ) (v : Output) (f : Output′ → O
       let r = tab-update f (outputView s t) (outputView s (withRow t o v)) (t .«output_count») 0 o (simp zero-add row-view)
       (λ m h d. simp zero-add (others m d)) b in
       record {
-        view = λ x. record { name = slice (t .start) (t .end) s; inputs = inputsView s t; outputs = r x; ruleBlock = []; pair = min-max; act =
-            by-min; accu = by-max; rules = [] };
+        view = λ x. declared (slice (t .start) (t .end) s) (inputsView s t) (r x);
         holds = record {
           order = g .order;
           inside = g .inside;

@@ -1,6 +1,6 @@
 -- A singleton more for an output.
 use mathlib.Core.Path.{_≡_, refl, sym, ap, _∙_}
-use mathlib.Core.List.{List, []}
+use mathlib.Core.List.{List}
 use Prim.Native.Nat.{ℕ, _+_, _*_, _≤_, _<_}
 use native.Mathlib.Nat.{zero-add}
 use native.Mathlib.Omega.{arith}
@@ -9,15 +9,12 @@ use lib.Seq.{slice, getD-set-same, getD-set-other}
 use Rattle.model.specs.Block.{withSingleton}
 use Rattle.model.specs.Image.{tab}
 use Rattle.model.specs.Declarations.{changeOutput}
-use Rattle.model.specs.declared.Pair.the-variants.{MinMax as min-max}
-use Rattle.model.specs.declared.Activation.the-variants.{Min as by-min}
-use Rattle.model.specs.declared.Accumulation.the-variants.{Max as by-max}
 use Rattle.lookup.specs.Names.{nameOf}
 use Rattle.lookup.proofs.Names.{name-same, name-other, placed-set}
 use Rattle.model.specs.declared.Crisp.{Crisp}
 use Rattle.block_tables.specs.declared.Output.{Output}
 use Rattle.block_tables.specs.declared.Tables.{Tables}
-use Rattle.block_tables.specs.View.{zero-crisp, no-output, outputRow, pointView, inputView, singletonView, rangeView, defaultView, outputView, blockView, Holds}
+use Rattle.block_tables.specs.View.{zero-crisp, no-output, outputRow, pointView, inputView, singletonView, rangeView, defaultView, outputView, declared, blockView, Holds}
 use Rattle.block_updates.specs.Changes.{Changes}
 use Rattle.block_updates.proofs.Tabs.{tab-more, tab-same, tab-update, kept}
 use Rattle.block_updates.proofs.Views.{term-same, input-same, singleton-same, output-same}
@@ -104,8 +101,7 @@ module _ (s : List ℕ) (t : Tables) (o k a e : ℕ) (y : Crisp) (c : k ≡ o * 
       (t .«output_count») 0 o
       (simp zero-add output-longer) (λ m f d. simp zero-add (output-stays m f d)) b in
       record {
-        view = λ x. record { name = slice (t .start) (t .end) s; inputs = p x; outputs = q x; ruleBlock = []; pair = min-max; act = by-min; accu =
-            by-max; rules = [] };
+        view = λ x. declared (slice (t .start) (t .end) s) (p x) (q x);
         holds = record {
           order = g .order;
           inside = g .inside;

@@ -6,8 +6,8 @@ use native.Mathlib.Omega.{arith}
 use lib.ListN.{take, drop, getD, set}
 use Rattle.model.specs.Basic.{update, updateLast}
 use Rattle.model.specs.Image.{tab}
+use Rattle.laws.proofs.Lists.{updateLast-snoc}
 use Rattle.laws.proofs.Places.{tab-last, tab-ext}
-use Rattle.block_tables.proofs.Lists.{updateLast-snoc}
 
 pub tab-same : {A : Type 0} (f g : ℕ → A) (n : ℕ) → ((k : ℕ) → k < n → g k ≡ f k) → tab g n 0 ≡ tab f n 0
 tab-same f g n e = tab-ext g f n 0 0 (λ k h. ap g (omega arith) ∙ e k h ∙ ap f (omega arith))

@@ -11,14 +11,11 @@ use Rattle.model.specs.Basic.{if_then_else_}
 use Rattle.model.specs.Image.{tab}
 use Rattle.model.specs.Declarations.{addTerm}
 use Rattle.model.specs.declared.InputType.the-variants.{Real as real, Int as int}
-use Rattle.model.specs.declared.Pair.the-variants.{MinMax as min-max}
-use Rattle.model.specs.declared.Activation.the-variants.{Min as by-min}
-use Rattle.model.specs.declared.Accumulation.the-variants.{Max as by-max}
 use Rattle.lookup.specs.Names.{nameOf}
 use Rattle.lookup.proofs.Names.{name-same, name-other, placed-set}
 use Rattle.block_tables.specs.declared.Input.{Input}
 use Rattle.block_tables.specs.declared.Tables.{Tables}
-use Rattle.block_tables.specs.View.{no-input, inputRow, pointView, termView, inputView, outputView, blockView, Holds}
+use Rattle.block_tables.specs.View.{no-input, inputRow, pointView, termView, inputView, outputView, declared, blockView, Holds}
 use Rattle.block_updates.specs.Changes.{Changes, LastTerm}
 use Rattle.block_updates.proofs.Tabs.{tab-more, tab-same, tab-update, kept}
 use Rattle.block_updates.proofs.Views.{term-same, input-same, singleton-same, output-same}
@@ -105,8 +102,7 @@ module _ (s : List ℕ) (t : Tables) (i k a e : ℕ) (c : k ≡ i * 7 + inputRow
       (simp zero-add input-longer) (λ m f d. simp zero-add (input-stays m f d)) b in
       let q = tab-same (outputView s t) (outputView s (withTerm t i k a e)) (t .«output_count») output-stays in
       record {
-        view = λ x. record { name = slice (t .start) (t .end) s; inputs = p x; outputs = q x; ruleBlock = []; pair = min-max; act = by-min; accu =
-            by-max; rules = [] };
+        view = λ x. declared (slice (t .start) (t .end) s) (p x) (q x);
         holds = record {
           order = g .order;
           inside = g .inside;

@@ -1,7 +1,7 @@
 -- INT for the inputs from some on.
 use mathlib.Core.Path.{_≡_, refl, sym, ap, _∙_}
 use mathlib.Core.Bool.{Bool, true, false}
-use mathlib.Core.List.{List, []}
+use mathlib.Core.List.{List}
 use Prim.Native.Nat.{ℕ, _+_, _≤_, _<_}
 use native.Mathlib.Nat.{zero-add}
 use native.Mathlib.Omega.{arith}
@@ -15,13 +15,10 @@ use Rattle.model.specs.Basic.{if_then_else_}
 use Rattle.model.specs.Image.{tab}
 use Rattle.model.specs.Declarations.{intFrom}
 use Rattle.model.specs.declared.InputType.the-variants.{Real as real, Int as int}
-use Rattle.model.specs.declared.Pair.the-variants.{MinMax as min-max}
-use Rattle.model.specs.declared.Activation.the-variants.{Min as by-min}
-use Rattle.model.specs.declared.Accumulation.the-variants.{Max as by-max}
 use Rattle.lookup.specs.Names.{nameOf}
 use Rattle.block_tables.specs.declared.Input.{Input}
 use Rattle.block_tables.specs.declared.Tables.{Tables}
-use Rattle.block_tables.specs.View.{no-input, pointView, termView, inputView, singletonView, outputView, outputsView, blockView, Holds}
+use Rattle.block_tables.specs.View.{no-input, pointView, termView, inputView, singletonView, outputView, outputsView, declared, blockView, Holds}
 use Rattle.block_updates.specs.Changes.{Changes, Typed}
 use Rattle.block_updates.proofs.Tabs.{tab-from}
 use Rattle.block_updates.proofs.Views.{term-same, input-same}
@@ -100,8 +97,7 @@ module _ (s : List ℕ) (t : Tables) (n : ℕ) (rows : List Input) (d : Typed (t
       let p = tab-from asInt (inputView s t) (inputView s (withInputs t rows)) (t .«input_count») n 0 (λ k a b. simp zero-add (input-stays k b))
       (λ k a b. simp zero-add (input-typed k b a)) in
       record {
-        view = λ x. record { name = slice (t .start) (t .end) s; inputs = p x; outputs = outputsView s t; ruleBlock = []; pair = min-max; act =
-            by-min; accu = by-max; rules = [] };
+        view = λ x. declared (slice (t .start) (t .end) s) (p x) (outputsView s t);
         holds = record {
           order = g .order;
           inside = g .inside;

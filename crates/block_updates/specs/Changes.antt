@@ -23,6 +23,7 @@ pub record LastTerm (t : Tables) (i k : ℕ) : Type 0 where
 -- the rows from one on up to another are INT, the others as before
 pub record Typed (old : List Input) (from to : ℕ) (new : List Input) : Type 0 where
   pub before : (i : ℕ) → i < from → getD new i no-input ≡ getD old i no-input
-  pub within : (i : ℕ) → from ≤ i → i < to → getD new i no-input ≡ record { int = true; terms = getD old i no-input .terms }
+  pub within : (i : ℕ) → from ≤ i → i < to → getD new i no-input
+      ≡ record { int = true; terms = getD old i no-input .terms }
   pub behind : (i : ℕ) → from ≤ i → to ≤ i → getD new i no-input ≡ getD old i no-input
   pub size : length new ≡ 8

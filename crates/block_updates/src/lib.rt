@@ -4,6 +4,7 @@ ghost use mathlib.Core.List.{List};
 ghost use Prim.Native.Nat.{ℕ, _+_, _*_, _≤_, _<_};
 ghost use lib.ListN.{length, getD};
 ghost use lib.Seq.{slice};
+ghost use Rattle.model.specs.Bounds.{inputLimit, outputLimit, termLimit, pointLimit};
 ghost use Rattle.model.specs.Block.{withName, withRange, withDefault, withSingleton};
 ghost use Rattle.model.specs.Declarations.{addInput, addOutput, intFrom, addTerm, addPoint, changeOutput};
 ghost use Rattle.block_tables.specs.View.{inputRow, outputRow, Holds};
@@ -25,7 +26,7 @@ pub fn set_name(t: Tables, start: usize, end: usize) -> Tables
 }
 
 pub fn add_input(t: Tables, start: usize, end: usize) -> Tables
-    requires { ⌜ t .«input_count» < 8 ⌝ }
+    requires { ⌜ t .«input_count» < inputLimit ⌝ }
     ensures { λ r. ⌜ ((s : List ℕ) → Holds s t → start ≤ end → end ≤ length s
         → Changes s t r (addInput (slice start end s))) ⌝ }
 {
@@ -44,7 +45,7 @@ pub fn add_input(t: Tables, start: usize, end: usize) -> Tables
 
 // These rows, INT from one on up to another.
 fn typed(rows: [Input; bounds::INPUTS], from: usize, to: usize) -> [Input; bounds::INPUTS]
-    requires { ⌜ to ≤ 8 ⌝ }
+    requires { ⌜ to ≤ inputLimit ⌝ }
     ensures { λ r. ⌜ (length rows ≡ 8 → Typed rows from to r) ⌝ }
 {
     let mut r = rows;
@@ -60,7 +61,7 @@ fn typed(rows: [Input; bounds::INPUTS], from: usize, to: usize) -> [Input; bound
 
 // INT for the inputs from n on.
 pub fn set_int(t: Tables, n: usize) -> Tables
-    requires { ⌜ t .«input_count» ≤ 8 ⌝ }
+    requires { ⌜ t .«input_count» ≤ inputLimit ⌝ }
     ensures { λ r. ⌜ ((s : List ℕ) → Holds s t → Changes s t r (intFrom n)) ⌝ }
 {
     let rows = t.inputs;
@@ -71,7 +72,7 @@ pub fn set_int(t: Tables, n: usize) -> Tables
 }
 
 pub fn add_output(t: Tables, start: usize, end: usize) -> Tables
-    requires { ⌜ t .«output_count» < 6 ⌝ }
+    requires { ⌜ t .«output_count» < outputLimit ⌝ }
     ensures { λ r. ⌜ ((s : List ℕ) → Holds s t → start ≤ end → end ≤ length s
         → Changes s t r (addOutput (slice start end s))) ⌝ }
 {
@@ -95,7 +96,7 @@ pub fn add_output(t: Tables, start: usize, end: usize) -> Tables
 
 // A term without points for input i.
 pub fn add_term(t: Tables, i: usize, start: usize, end: usize) -> Tables
-    requires { ⌜ (i < 8) × (inputRow t i .terms < 7) ⌝ }
+    requires { ⌜ (i < inputLimit) × (inputRow t i .terms < termLimit) ⌝ }
     ensures { λ r. ⌜ ((s : List ℕ) → Holds s t → i < t .«input_count» → start ≤ end → end ≤ length s
         → Changes s t r (addTerm i (slice start end s))) ⌝ }
     ensures more { λ r. ⌜ ((s : List ℕ) → Holds s t → i < t .«input_count»
@@ -115,7 +116,7 @@ pub fn add_term(t: Tables, i: usize, start: usize, end: usize) -> Tables
 
 // A point for the term at place k, which is the last one of an input.
 pub fn add_point(t: Tables, k: usize, p: Point) -> Tables
-    requires { ⌜ (k < 56) × (getD (t .counts) k 0 < 4) ⌝ }
+    requires { ⌜ (k < 56) × (getD (t .counts) k 0 < pointLimit) ⌝ }
     ensures { λ r. ⌜ ((s : List ℕ) (i : ℕ) → Holds s t → LastTerm t i k
         → Changes s t r (addPoint i (record { at = p .at .0; degree = p .degree .0 }))) ⌝ }
     ensures rows { λ r. ⌜ ((i : ℕ) → LastTerm t i k → LastTerm r i k) ⌝ }
@@ -128,7 +129,7 @@ pub fn add_point(t: Tables, k: usize, p: Point) -> Tables
 }
 
 pub fn add_singleton(t: Tables, o: usize, start: usize, end: usize, x: Crisp) -> Tables
-    requires { ⌜ (o < 6) × (outputRow t o .terms < 7) ⌝ }
+    requires { ⌜ (o < outputLimit) × (outputRow t o .terms < termLimit) ⌝ }
     ensures { λ r. ⌜ ((s : List ℕ) → Holds s t → o < t .«output_count» → start ≤ end → end ≤ length s
         → Changes s t r (changeOutput (withSingleton (record { name = slice start end s; at = x .0 })) o)) ⌝ }
     ensures count { λ r. ⌜ r .«output_count» ≡ t .«output_count» ⌝ }
@@ -146,7 +147,7 @@ pub fn add_singleton(t: Tables, o: usize, start: usize, end: usize, x: Crisp) ->
 }
 
 pub fn set_range(t: Tables, o: usize, least: Crisp, most: Crisp) -> Tables
-    requires { ⌜ o < 6 ⌝ }
+    requires { ⌜ o < outputLimit ⌝ }
     ensures { λ r. ⌜ ((s : List ℕ) → Holds s t → o < t .«output_count»
         → Changes s t r (changeOutput (withRange (record { least = least .0; most = most .0 })) o)) ⌝ }
     ensures count { λ r. ⌜ r .«output_count» ≡ t .«output_count» ⌝ }
@@ -167,7 +168,7 @@ pub fn set_range(t: Tables, o: usize, least: Crisp, most: Crisp) -> Tables
 }
 
 pub fn set_default(t: Tables, o: usize, x: Crisp) -> Tables
-    requires { ⌜ o < 6 ⌝ }
+    requires { ⌜ o < outputLimit ⌝ }
     ensures { λ r. ⌜ ((s : List ℕ) → Holds s t → o < t .«output_count»
         → Changes s t r (changeOutput (withDefault (x .0)) o)) ⌝ }
     ensures count { λ r. ⌜ r .«output_count» ≡ t .«output_count» ⌝ }

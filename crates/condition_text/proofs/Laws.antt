@@ -17,6 +17,7 @@ use Rattle.model.specs.Declarations.{inputOf, termOf, isInput, isTerm}
 use Rattle.model.specs.Rules.{ConditionRead, conditionRead, word, conditionTerm, termOrNot, subcondition, negatedRead, closed, chainOn, chain, conditionWith, parenthesis}
 use Rattle.laws.proofs.Lists.{sets-append}
 use Rattle.laws.proofs.Again.{Again, again-more, again-end}
+use Rattle.laws.proofs.Repetition.{join, no-join}
 use Rattle.cursor.specs.declared.Cursor.{Cursor}
 use Rattle.cursor.specs.View.{seen, textOf, Fits, left, Step, fault}
 use Rattle.cursor.proofs.Laws.{enough, kind-seen, text-seen, block-seen, words-seen, lost-kind, lost-refuse, lost-expect, judged-bad, judged-good, numbered}
@@ -46,18 +47,21 @@ refused-left s w c d h a =
     simp (eq-eqb _ _ e)
 
 -- WHATEVER THE BLOCK
-pub within-then : {s : List ℕ} {j k : ℕ} {p q r : Pending} {old mid new : List ℕ} → Within s j p q old mid → Within s k q r mid new → Within s (j + k) p r old new
+pub within-then : {s : List ℕ} {j k : ℕ} {p q r : Pending} {old mid new : List ℕ} → Within s j p q old mid → Within s k q r mid new
+    → Within s (j + k) p r old new
 within-then {s} {j} {k} {p} {q} {r} {old} {mid} {new} a b = record {
   fewer = let u = a .fewer in let v = b .fewer in omega arith;
   room = b .room;
   sticky = λ h. a .sticky (b .sticky h);
   even = λ h. let u = a .even (b .sticky h) in let v = b .even h in omega arith;
   grows = let u = a .grows in let v = b .grows in omega arith;
-  stays = sym (take-take (p .put) (q .put) new (a .grows)) ∙ ap (λ (l : List ℕ). take (p .put) l) (b .stays) ∙ take-take (p .put) (q .put) mid (a .grows) ∙ a .stays;
+  stays = sym (take-take (p .put) (q .put) new (a .grows)) ∙ ap (λ (l : List ℕ). take (p .put) l) (b .stays)
+      ∙ take-take (p .put) (q .put) mid (a .grows) ∙ a .stays;
 }
 
 -- a word that was counted is put
-pub counted-then : {s : List ℕ} {p q r : Pending} {old new : List ℕ} (k : ℕ) → p .cursor .why ≡ 0 → Counts s p q → Within s (k + 1) q r old new → Within s k p r old new
+pub counted-then : {s : List ℕ} {p q r : Pending} {old new : List ℕ} (k : ℕ) → p .cursor .why ≡ 0 → Counts s p q → Within s (k + 1) q r old new
+    → Within s k p r old new
 counted-then {s} {p} {q} {r} {old} {new} k h a b = record {
   fewer = let u = a .fewer in let v = b .fewer in omega arith;
   room = b .room;
@@ -80,7 +84,12 @@ stepped p l g a = record {
 pub stopped : {f : Part} {s : List ℕ} {p r : Pending} (k : ℕ) (l : List ℕ) → Room s p → Step f s (p .cursor) (r .cursor) → Stops p r → Within s k p r l l
 stopped k l g a z = record {
   fewer = a .fewer;
-  room = record { fits = a .fits; put = let u = z .put in let v = z .words in let w = g .put in omega arith; words = let v = z .words in let w = g .words in omega arith };
+  room = record {
+    fits = a .fits;
+    put = let u = z .put in let v = z .words in let w = g .put in omega arith;
+    words = let v = z .words in let w =
+        g .words in omega arith;
+  };
   sticky = λ e. absurd (z .why e);
   even = λ e. absurd (z .why e);
   grows = let u = z .put in omega arith;
@@ -97,11 +106,13 @@ put-within {s} {p} {r} {w} {old} {new} g a = record {
   stays = a .stays;
 }
 
-pub put-seen : {p r : Pending} {w : ℕ} {old new : List ℕ} (s : List ℕ) (b : Block) → Puts p r w old new → seen s (r .cursor) b (r .words) ≡ seen s (p .cursor) b (p .words)
+pub put-seen : {p r : Pending} {w : ℕ} {old new : List ℕ} (s : List ℕ) (b : Block) → Puts p r w old new
+    → seen s (r .cursor) b (r .words) ≡ seen s (p .cursor) b (p .words)
 put-seen s b a = rw (a .cursor, a .words)
 
 -- a token is counted, what follows it read, its word put
-pub turned : {s : List ℕ} {k : ℕ} {p q m r : Pending} {w : ℕ} {old mid new : List ℕ} → p .cursor .why ≡ 0 → Counts s p q → Within s k q m old mid → Puts m r w mid new → Within s k p r old new
+pub turned : {s : List ℕ} {k : ℕ} {p q m r : Pending} {w : ℕ} {old mid new : List ℕ} → p .cursor .why ≡ 0 → Counts s p q → Within s k q m old mid
+    → Puts m r w mid new → Within s k p r old new
 turned {s} {k} h n a u = counted-then k h n (within-then a (put-within (a .room) u))
 
 pub unmoved : {s : List ℕ} {p : Pending} (l : List ℕ) → Room s p → Within s 0 p p l l
@@ -122,19 +133,23 @@ words-put {m} {n} {ws} {old} {new} a h =
     ap (λ (l : List ℕ). take n l) (a .said ∙ sets-eq ws old m (omega arith))
     ∙ take-at (take m old ++ ws) (drop (m + length ws) old) n k
 
-pub from : {s : List ℕ} {b : Block} {p q r : Pending} {g : ConditionRead} {old new : List ℕ} → q .put ≡ p .put → Reads s b q r g old new → Reads s b p r g old new
+pub from : {s : List ℕ} {b : Block} {p q r : Pending} {g : ConditionRead} {old new : List ℕ} → q .put ≡ p .put → Reads s b q r g old new
+    → Reads s b p r g old new
 from {s} {b} {p} {q} {r} {g} {old} {new} e a = record { seen = a .seen; adds = λ h. rw e at (a .adds h) }
 
 -- nothing is said of the words of a refused reading
-pub refuses : {s : List ℕ} {b : Block} {p r : Pending} {g : ConditionRead} {old new : List ℕ} (w : ℕ) → Stops p r → Step (refuse w) s (p .cursor) (r .cursor) → g .parse ≡ refuse w (seen s (p .cursor) b (p .words)) → Reads s b p r g old new
+pub refuses : {s : List ℕ} {b : Block} {p r : Pending} {g : ConditionRead} {old new : List ℕ} (w : ℕ) → Stops p r
+    → Step (refuse w) s (p .cursor) (r .cursor) → g .parse ≡ refuse w (seen s (p .cursor) b (p .words)) → Reads s b p r g old new
 refuses {s} {b} {p} w z a e = record { seen = rw (z .words) (a .reads b (p .words)) ∙ sym e; adds = λ h. absurd (z .why h) }
 
 -- a word behind what was read
-pub negates : {s : List ℕ} {b : Block} {p m r : Pending} {g : ConditionRead} {old mid new : List ℕ} → Reads s b p m g old mid → Puts m r 0 mid new → Reads s b p r (negatedRead g) old new
+pub negates : {s : List ℕ} {b : Block} {p m r : Pending} {g : ConditionRead} {old mid new : List ℕ} → Reads s b p m g old mid → Puts m r 0 mid new
+    → Reads s b p r (negatedRead g) old new
 unfolding postfix
 negates {s} {b} a u = record { seen = put-seen s b u ∙ a .seen; adds = λ h. let e = rw (u .cursor) at h in adds (a .adds e) (u .adds e) }
 
-pub closes : {s : List ℕ} {b : Block} {p m : Pending} {d : Cursor} {g : ConditionRead} {old new : List ℕ} → Reads s b p m g old new → Step (expect CLOSE) s (m .cursor) d → Reads s b p (at m d) (closed g) old new
+pub closes : {s : List ℕ} {b : Block} {p m : Pending} {d : Cursor} {g : ConditionRead} {old new : List ℕ} → Reads s b p m g old new
+    → Step (expect CLOSE) s (m .cursor) d → Reads s b p (at m d) (closed g) old new
 closes {s} {b} {p} {m} a e = record { seen = e .reads b (m .words) ∙ ap (expect CLOSE) (a .seen); adds = λ h. a .adds (e .sticky h) }
 
 -- THE COUNTED TOKEN
@@ -188,7 +203,8 @@ module _ (s names symbols : List ℕ) (b : Block) (D : Describes s names symbols
         sym (ap (λ (r : Parse). termOrNot (inputOf (text here) (here .block)) (expect IS r)) (named e (isInput (text here) (here .block)) (word here) ∙ simp q)
         ∙ ap (λ (j : ℕ). termOrNot j (expect IS (word here))) x)
 
-  module _ (e : 0 ≡ fault (aName here [])) (i : ℕ) (g : i < inputCount symbols) (j : ℕ) (f : j ≡ among s names (textOf s c) (termCount symbols i) (14 + i * 7)) where
+  module _ (e : 0 ≡ fault (aName here [])) (i : ℕ) (g : i < inputCount symbols) (j : ℕ)
+      (f : j ≡ among s names (textOf s c) (termCount symbols i) (14 + i * 7)) where
     the-term : termOf i (text here) b ≡ j
     the-term = simp text-seen (D .term (textOf s c) i g ∙ sym f)
 
@@ -212,7 +228,8 @@ module _ (s names symbols : List ℕ) (b : Block) (D : Describes s names symbols
 
 -- the term's word behind those that are put
 pub names-term : {s : List ℕ} {b : Block} {p r : Pending} {d : Cursor} {g : ConditionRead} {w : ℕ} {old new : List ℕ}
-    → Step advance s (p .cursor) d → Puts (at p d) r w old new → g .parse ≡ advance (seen s (p .cursor) b (p .words)) → w ∷ [] ≡ postfix (g .tree) → Reads s b p r g old new
+    → Step advance s (p .cursor) d → Puts (at p d) r w old new → g .parse ≡ advance (seen s (p .cursor) b (p .words)) → w ∷ [] ≡ postfix (g .tree)
+    → Reads s b p r g old new
 names-term {s} {b} {p} {r} {d} {g} {w} {old} {new} a u e f = record {
   seen = put-seen s b u ∙ a .reads b (p .words) ∙ sym e;
   adds = λ h. rw f at (u .adds (rw (u .cursor) at h));
@@ -245,22 +262,10 @@ module _ (part : Parse → ConditionRead) (k : ℕ) (o : Op) (s : List ℕ) (b :
   pub begins : (p : Pending) (l : List ℕ) → Going part k o s b p l p l
   begins p l n t₀ h = (t₀, (n, h, refl), λ m old a. a)
 
-  -- g with the operator at its token and the operand behind it
-  abbrev joined : ConditionRead → ConditionRead
-  joined g = conditionRead (part (word (g .parse)) .parse) (two o (g .tree) (part (word (g .parse)) .tree))
-
-  one-more : (g : ConditionRead) → kind (g .parse) ≡ k → (f : ℕ) → chainOn (suc f) part k o g ≡ chainOn f part k o (joined g)
-  unfolding chainOn
-  one-more g e f = λ i. elim (eq-eqb (kind (g .parse)) k e i) as (λ x. ConditionRead) [ true ↦ chainOn f part k o (joined g) | false ↦ g ]
-
-  none-more : (g : ConditionRead) → (kind (g .parse) ≡ k → ⊥) → (f : ℕ) → chainOn f part k o g ≡ g
-  unfolding chainOn
-  none-more g e zero = refl
-  none-more g e (suc f) = λ i. elim (ne-eqb (kind (g .parse)) k e i) as (λ x. ConditionRead) [ true ↦ chainOn f part k o (joined g) | false ↦ g ]
-
   -- q is p with its token counted, m what part reads from there, r that with the word put
   pub goes : (p₀ p q m r : Pending) (l₀ l mid new : List ℕ) → Going part k o s b p₀ l₀ p l → p .cursor .kind ≡ k → p .cursor .why ≡ 0
-      → view q ≡ word (view p) → q .put ≡ p .put → Reads s b q m (part (view q)) l mid → Puts m r (opWord o) mid new → left s (r .cursor) < left s (p .cursor) → Going part k o s b p₀ l₀ r new
+      → view q ≡ word (view p) → q .put ≡ p .put → Reads s b q m (part (view q)) l mid → Puts m r (opWord o) mid new
+      → left s (r .cursor) < left s (p .cursor) → Going part k o s b p₀ l₀ r new
   unfolding postfix
   goes p₀ p q m r l₀ l mid new G e z v w a u lt n t₀ h = (tree, again-more (λ f. chainOn f part k o) turn lt (G n t₀ h .1), whole)
     where
@@ -270,23 +275,26 @@ module _ (part : Parse → ConditionRead) (k : ℕ) (o : Op) (s : List ℕ) (b :
       tree : Condition
       tree = two o (G n t₀ h .0) (part (view q) .tree)
 
-      whole : (i : ℕ) (old : List ℕ) → (p₀ .cursor .why ≡ 0 → Adds i (p₀ .put) (postfix t₀) old l₀) → r .cursor .why ≡ 0 → Adds i (r .put) (postfix tree) old new
+      whole : (i : ℕ) (old : List ℕ) → (p₀ .cursor .why ≡ 0 → Adds i (p₀ .put) (postfix t₀) old l₀) → r .cursor .why ≡ 0
+          → Adds i (r .put) (postfix tree) old new
       whole i old x y =
           let y′ : m .cursor .why ≡ 0 = rw (u .cursor) at y in
           adds (G n t₀ h .2 i old x z) (adds (rw w at (a .adds y′)) (u .adds y′))
 
       turn : (f : ℕ) → chainOn (suc f) part k o before ≡ chainOn f part k o (conditionRead (view r) tree)
       turn f =
-          one-more before (kind-seen s (p .cursor) b (p .words) ∙ e) f
+          join k part o f before (eq-eqb _ _ (kind-seen s (p .cursor) b (p .words) ∙ e))
           ∙ ap (λ (x : Parse). chainOn f part k o (conditionRead (part x .parse) (two o (G n t₀ h .0) (part x .tree)))) (sym v)
           ∙ ap (λ (x : Parse). chainOn f part k o (conditionRead x tree)) (sym (put-seen s b u ∙ a .seen))
 
-  pub stops : (e p₀ p : Pending) (old l₀ l : List ℕ) → Going part k o s b p₀ l₀ p l → (p .cursor .kind ≡ k → ⊥) → Reads s b e p₀ (part (view e)) old l₀ → left s (p₀ .cursor) ≤ left s (e .cursor) → Reads s b e p (chain part k o (view e)) old l
+  pub stops : (e p₀ p : Pending) (old l₀ l : List ℕ) → Going part k o s b p₀ l₀ p l → (p .cursor .kind ≡ k → ⊥)
+      → Reads s b e p₀ (part (view e)) old l₀ → left s (p₀ .cursor) ≤ left s (e .cursor) → Reads s b e p (chain part k o (view e)) old l
   unfolding chain
   stops e p₀ p old l₀ l G n r lt =
       let z = enough s (e .cursor) b (e .words) in
       let g = G (suc (length (view e .rest))) (part (view e) .tree) (omega arith) in
       subst (λ (x : ConditionRead). Reads s b e p x old l)
-      (again-end (λ f. chainOn f part k o) (none-more (conditionRead (view p) (g .0)) (λ z. n (sym (kind-seen s (p .cursor) b (p .words)) ∙ z))) (g .1)
+      (again-end (λ f. chainOn f part k o) (λ f. no-join k part o f (conditionRead (view p) (g .0))
+      (ne-eqb _ _ (λ z. n (sym (kind-seen s (p .cursor) b (p .words)) ∙ z)))) (g .1)
       ∙ ap (λ (x : Parse). chainOn (suc (length (view e .rest))) part k o (conditionRead x (part (view e) .tree))) (r .seen))
       (record { seen = refl; adds = g .2 (e .put) old (r .adds) })

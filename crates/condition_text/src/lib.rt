@@ -3,6 +3,7 @@
 ghost use mathlib.Core.Path.{_≡_};
 ghost use mathlib.Core.List.{List};
 ghost use Prim.Native.Nat.{ℕ, _≤_, _<_};
+ghost use Rattle.model.specs.Bounds.{wordLimit};
 ghost use Rattle.model.specs.Block.{Block, and};
 ghost use Rattle.model.specs.Keywords.{AND};
 ghost use Rattle.model.specs.Parse.{refuse};
@@ -57,7 +58,7 @@ fn count(s: &[u8], p: Pending) -> Pending
 
 // A word behind those that are put.
 fn put(words: &mut Words, p: Pending, w: u32) -> Pending
-    requires { ⌜ (p .put ≤ p .words) × (p .words ≤ 640) × (p .cursor .why ≡ 0 → p .put < p .words) ⌝ }
+    requires { ⌜ (p .put ≤ p .words) × (p .words ≤ wordLimit) × (p .cursor .why ≡ 0 → p .put < p .words) ⌝ }
     ensures { λ r. ⌜ Puts p r w (now (words .entry)) (now (words .exit)) ⌝ }
 {
     let c = p.cursor;

@@ -13,6 +13,7 @@ use Rattle.model.specs.Keywords.{END}
 use Rattle.model.specs.Block.{Block}
 use Rattle.model.specs.Parse.{Parse, Part, Checks, kind, text, here, is, refuse, advance, change, judged, expect, repeatOn, repeated}
 use Rattle.model.specs.Tokens.{Token, tokens}
+use Rattle.laws.proofs.Tests.{clash}
 use Rattle.tokens.specs.Tokens.{tokensFrom, tokenOf, after}
 use Rattle.tokens.specs.declared.Token.{Token as Found}
 use Rattle.cursor.specs.declared.Cursor.{Cursor}
@@ -76,8 +77,13 @@ kept s c w h g = record { reads = λ b n. sym (simp (ne-eqb _ _ h)); fewer = ome
 
 pub stopped : (s : List ℕ) (c : Cursor) (w : ℕ) → c .why ≡ 0 → (w ≡ 0 → ⊥) → Fits s c → Step (refuse w) s c (halted c w)
 unfolding refuse seen here left after
-stopped s c w h k g = record { reads = λ b n. sym (simp (eq-eqb _ _ h)); fewer = omega arith; fits =
-    record { order = omega arith; inside = omega arith; halted = λ q. absurd (q refl) }; sticky = λ q. h }
+stopped s c w h k g = record {
+  reads = λ b n. sym (simp (eq-eqb _ _ h));
+  fewer = omega arith;
+  fits =
+      record { order = omega arith; inside = omega arith; halted = λ q. absurd (q refl) };
+  sticky = λ q. h;
+}
 
 pub stopped-moves : (s : List ℕ) (c : Cursor) (w : ℕ) → Moves s c (halted c w)
 unfolding left
@@ -124,11 +130,13 @@ text-length s c g = length-slice (c .start) (c .end) s (g .inside)
 
 -- a step after a step
 pub steps : {f g : Part} {s : List ℕ} {a b c : Cursor} → Step f s a b → Step g s b c → Step (λ r. g (f r)) s a c
-steps {f} {g} {s} {a} {b} {c} p q = record { reads = λ x n. q .reads x n ∙ ap g (p .reads x n); fewer = let u = p .fewer in let v = q .fewer in
-    omega arith; fits = q .fits; sticky = λ h. p .sticky (q .sticky h) }
-
-pub clash : {X : Type 0} → false ≡ true → X
-clash h = let z : _≡_ {A = ℕ} 0 1 = cc in absurd (omega arith)
+steps {f} {g} {s} {a} {b} {c} p q = record {
+  reads = λ x n. q .reads x n ∙ ap g (p .reads x n);
+  fewer = let u = p .fewer in let v = q .fewer in
+      omega arith;
+  fits = q .fits;
+  sticky = λ h. p .sticky (q .sticky h);
+}
 
 -- A REFUSED READING stays as it is
 module _ (s : List ℕ) (c : Cursor) (g : Fits s c) (h : c .why ≡ 0 → ⊥) where

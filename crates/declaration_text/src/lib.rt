@@ -39,7 +39,7 @@ pub fn block_name(s: &[u8], p: ParseState) -> ParseState
 
 // By which number the current token is refused as the name of a new variable; 0 where it is one.
 fn new_fault(s: &[u8], names: &Names, inputs: usize, outputs: usize, room: bool, c: Cursor) -> u8
-    requires { ⌜ Fits (now s) c × Placed (now s) (now names) × (inputs ≤ 8) × (outputs ≤ 6) ⌝ }
+    requires { ⌜ Fits (now s) c × Placed (now s) (now names) × (inputs ≤ inputLimit) × (outputs ≤ outputLimit) ⌝ }
     ensures { λ r. ⌜ ((b : Block) (n : ℕ) → Declares (now (s .entry)) (now (names .entry)) inputs outputs b
         → r ≡ fault (newChecks (seen (now (s .entry)) c b n) room)) ⌝ }
     ensures passed { λ r. ⌜ (r ≡ 0 → (c .kind ≡ 2) × (room ≡ true)) ⌝ }

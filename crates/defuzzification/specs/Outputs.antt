@@ -1,5 +1,5 @@
--- A helper: the heights of output terms as the code holds them. `answers-are` of evaluation's proofs/Laws ties the answers by
--- them to model's `blockAnswers`.
+-- A helper: the heights of output terms as the code holds them.
+-- `answers-are` of evaluation's proofs/Laws ties the answers by them to model's `blockAnswers`.
 use mathlib.Core.List.{List}
 use Prim.Native.Nat.{ℕ, _-_, _≤_}
 use lib.ListN.{getD}

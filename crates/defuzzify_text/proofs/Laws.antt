@@ -51,22 +51,26 @@ module _ (r : Parse) (t : Bool) where
   crisp-good e = fault-good (aCrisp r []) ((t, 7) ∷ []) refl (sym e)
 
 -- RANGE
-pub figure-judged : (s : List ℕ) (c : Cursor) (b : Block) (n : ℕ) (v : Row) (x : ℤ) (t : Bool) → 0 ≡ fault (aCrisp (seen s c b n) []) → x ≡ valueOf (textOf s c) → inRange (rangeView v) x ≡ t
+pub figure-judged : (s : List ℕ) (c : Cursor) (b : Block) (n : ℕ) (v : Row) (x : ℤ) (t : Bool) → 0 ≡ fault (aCrisp (seen s c b n) [])
+    → x ≡ valueOf (textOf s c) → inRange (rangeView v) x ≡ t
     → fault (figureChecks (rangeView v) (seen s c b n)) ≡ (if t then 0 else 7)
 figure-judged s c b n v x t e q h =
     crisp-good (seen s c b n) (inRange (rangeView v) (valueHere (seen s c b n))) e
-    ∙ ap (λ (z : Bool). if z then 0 else 7) (ap (λ (w : List ℕ). inRange (rangeView v) (valueOf w)) (text-seen s c b n) ∙ ap (inRange (rangeView v)) (sym q) ∙ h)
+    ∙ ap (λ (z : Bool). if z then 0 else 7) (ap (λ (w : List ℕ). inRange (rangeView v) (valueOf w)) (text-seen s c b n)
+    ∙ ap (inRange (rangeView v)) (sym q) ∙ h)
 
 module _ (s : List ℕ) (c d : Cursor) (t : Tables) (o : ℕ) where
   abbrev r : Parse
   r = view s (reading.at c t)
 
   module _ (x : ℤ) where
-    upper-bad : (w : ℕ) → fault (aCrisp r ((ltZ x (valueHere r), 7) ∷ [])) ≡ w → (w ≡ 0 → ⊥) → Holds s t → Step (refuse w) s c d → ReadsFor (upperEnd o x) s (reading.at c t) (reading.at d t)
+    upper-bad : (w : ℕ) → fault (aCrisp r ((ltZ x (valueHere r), 7) ∷ [])) ≡ w → (w ≡ 0 → ⊥) → Holds s t → Step (refuse w) s c d
+        → ReadsFor (upperEnd o x) s (reading.at c t) (reading.at d t)
     unfolding upperEnd
     upper-bad w e h g q = record { reads = reading.refuses (aCrisp r ((ltZ x (valueHere r), 7) ∷ [])) _ refl w e h g q; count = refl }
 
-    pub upper-none : (w : ℕ) → w ≡ fault (aCrisp (seen s c (blockView s t) 0) []) → (w ≡ 0 → ⊥) → Holds s t → Step (refuse w) s c d → ReadsFor (upperEnd o x) s (reading.at c t) (reading.at d t)
+    pub upper-none : (w : ℕ) → w ≡ fault (aCrisp (seen s c (blockView s t) 0) []) → (w ≡ 0 → ⊥) → Holds s t → Step (refuse w) s c d
+        → ReadsFor (upperEnd o x) s (reading.at c t) (reading.at d t)
     unfolding view
     upper-none w e h g q = upper-bad w (crisp-bad r (ltZ x (valueHere r)) w e h) h g q
 
@@ -80,18 +84,21 @@ module _ (s : List ℕ) (c d : Cursor) (t : Tables) (o : ℕ) where
       pub upper-low : ltZ x y ≡ false → Holds s t → Step (refuse 7) s c d → ReadsFor (upperEnd o x) s (reading.at c t) (reading.at d t)
       upper-low q g p = upper-bad 7 (above false q) (λ z. omega arith) g p
 
-      pub upper-set : (u : Tables) → ltZ x y ≡ true → Fits s c → (c .kind ≡ 0 → ⊥) → Changes s t u (changeOutput (withRange (record { least = x; most = y })) o) → u .«output_count» ≡ t .«output_count» → Step advance s c d
+      pub upper-set : (u : Tables) → ltZ x y ≡ true → Fits s c → (c .kind ≡ 0 → ⊥)
+          → Changes s t u (changeOutput (withRange (record { least = x; most = y })) o) → u .«output_count» ≡ t .«output_count» → Step advance s c d
           → ReadsFor (upperEnd o x) s (reading.at c t) (reading.at d u)
       unfolding upperEnd numbered
       upper-set u q g k z n p = record {
         reads = reading.passes (aCrisp r ((ltZ x (valueHere r), 7) ∷ [])) _ refl refl (above true q)
             (reading.next (reading.changes s c t u _ g k z) (reading.step u (z .holds) p))
-            (ap (λ (m : ℤ). advance (change (changeOutput (withRange (record { least = x; most = m })) o) r)) (v ∙ ap valueOf (sym (reading.text-view s (reading.at c t)))));
+            (ap (λ (m : ℤ). advance (change (changeOutput (withRange (record { least = x; most = m })) o) r))
+            (v ∙ ap valueOf (sym (reading.text-view s (reading.at c t)))));
         count = n;
       }
 
   -- after a refusal nothing follows
-  pub range-lost : (w : ℕ) → w ≡ fault (aCrisp (seen s c (blockView s t) 0) []) → (w ≡ 0 → ⊥) → Holds s t → (d .why ≡ 0 → ⊥) → Step (refuse w) s c d → ReadsFor (rangeBody o) s (reading.at c t) (reading.at d t)
+  pub range-lost : (w : ℕ) → w ≡ fault (aCrisp (seen s c (blockView s t) 0) []) → (w ≡ 0 → ⊥) → Holds s t → (d .why ≡ 0 → ⊥) → Step (refuse w) s c d
+      → ReadsFor (rangeBody o) s (reading.at c t) (reading.at d t)
   unfolding rangeBody lowerEnd upperEnd view
   range-lost w e h g l q =
       let b : Block = blockView s t in
@@ -115,15 +122,23 @@ module _ (s : List ℕ) (c d : Cursor) (t : Tables) (o : ℕ) where
   module _ (with : ℤ → Output → Output) (b : o < t .«output_count») where
     checks : aCrisp r ((inRange (rangeOf o (r .block)) (valueHere r), 7) ∷ []) ≡ figureChecks (rangeView (outputRow t o)) (seen s c (blockView s t) 0)
     unfolding view
-    checks = ap (λ g. figureChecks g (seen s c (blockView s t) 0)) (ap (rangeOf o) (block-seen s c (blockView s t) 0) ∙ lookups.range-is s t (blockView s t) (outputs-are s t) o b)
+    checks = ap (λ g. figureChecks g (seen s c (blockView s t) 0))
+        (ap (rangeOf o) (block-seen s c (blockView s t) 0) ∙ lookups.range-is s t (blockView s t) (outputs-are s t) o b)
 
-    pub figure-none : (w : ℕ) → w ≡ fault (figureChecks (rangeView (outputRow t o)) (seen s c (blockView s t) 0)) → (w ≡ 0 → ⊥) → Holds s t → Step (refuse w) s c d
+    pub figure-none : (w : ℕ) → w ≡ fault (figureChecks (rangeView (outputRow t o)) (seen s c (blockView s t) 0)) → (w ≡ 0 → ⊥) → Holds s t
+        → Step (refuse w) s c d
         → ReadsFor (figure with o) s (reading.at c t) (reading.at d t)
     unfolding figure
-    figure-none w e h g q = record { reads = reading.refuses (aCrisp r ((inRange (rangeOf o (r .block)) (valueHere r), 7) ∷ [])) _ refl w (ap fault checks ∙ sym e) h g q; count = refl }
+    figure-none w e h g q = record {
+      reads = reading.refuses (aCrisp r ((inRange (rangeOf o (r .block)) (valueHere r), 7) ∷ [])) _ refl w
+          (ap fault checks ∙ sym e) h g q;
+      count = refl;
+    }
 
-    pub figure-set : (u : Tables) (y : ℤ) → 0 ≡ fault (figureChecks (rangeView (outputRow t o)) (seen s c (blockView s t) 0)) → y ≡ valueOf (textOf s c) → Fits s c → (c .kind ≡ 0 → ⊥)
-        → Changes s t u (changeOutput (with y) o) → u .«output_count» ≡ t .«output_count» → Step advance s c d → ReadsFor (figure with o) s (reading.at c t) (reading.at d u)
+    pub figure-set : (u : Tables) (y : ℤ) → 0 ≡ fault (figureChecks (rangeView (outputRow t o)) (seen s c (blockView s t) 0))
+        → y ≡ valueOf (textOf s c) → Fits s c → (c .kind ≡ 0 → ⊥)
+        → Changes s t u (changeOutput (with y) o) → u .«output_count» ≡ t .«output_count» → Step advance s c d
+        → ReadsFor (figure with o) s (reading.at c t) (reading.at d u)
     unfolding figure numbered
     figure-set u y e v g k z n p = record {
       reads = reading.passes (aCrisp r ((inRange (rangeOf o (r .block)) (valueHere r), 7) ∷ [])) _ refl refl (ap fault checks ∙ sym e)
@@ -135,17 +150,20 @@ module _ (s : List ℕ) (c d : Cursor) (t : Tables) (o : ℕ) where
 pub range-is : (s : List ℕ) (p : ParseState) (o : ℕ) (x : ℤ) → x ≡ valueOf (textOf s (p .cursor))
     → expect SEMICOLON (expect CLOSE (upperEnd o x (expect DOTS (lowerEnd (view s p))))) ≡ rangeBody o (view s p)
 unfolding rangeBody
-range-is s p o x e = ap (λ (z : ℤ). expect SEMICOLON (expect CLOSE (upperEnd o z (expect DOTS (lowerEnd (view s p)))))) (e ∙ ap valueOf (sym (reading.text-view s p)))
+range-is s p o x e = ap (λ (z : ℤ). expect SEMICOLON (expect CLOSE (upperEnd o z (expect DOTS (lowerEnd (view s p))))))
+    (e ∙ ap valueOf (sym (reading.text-view s p)))
 
 -- TERMS
 module _ (s names : List ℕ) (c : Cursor) (o n : ℕ) (b : Block) (m : ℕ) (h : HasSingletons s names o n b) where
   pub term-none : (w : ℕ) → w ≡ fault (aName (seen s c b m) []) → (w ≡ 0 → ⊥) → w ≡ fault (termChecks o (seen s c b m))
   term-none w e k = sym (fault-bad w (aName (seen s c b m) []) _ (sym e) k)
 
-  pub term-judged : (j : ℕ) (t : Bool) → 0 ≡ fault (aName (seen s c b m) []) → j ≡ singletonOf o (textOf s c) b → ltb j n ≡ t → fault (termChecks o (seen s c b m)) ≡ (if t then 4 else 0)
+  pub term-judged : (j : ℕ) (t : Bool) → 0 ≡ fault (aName (seen s c b m) []) → j ≡ singletonOf o (textOf s c) b → ltb j n ≡ t
+      → fault (termChecks o (seen s c b m)) ≡ (if t then 4 else 0)
   unfolding numbered fault
   term-judged j t e q u =
-      fault-good (aName (seen s c b m) []) ((not (isSingleton o (text (seen s c b m)) (seen s c b m .block)), 4) ∷ []) refl (sym e) ∙ ap (λ (x : Bool). if not x then 0 else 4) known ∙ turned t
+      fault-good (aName (seen s c b m) []) ((not (isSingleton o (text (seen s c b m)) (seen s c b m .block)), 4) ∷ []) refl (sym e)
+      ∙ ap (λ (x : Bool). if not x then 0 else 4) known ∙ turned t
     where
       known : isSingleton o (text (seen s c b m)) (seen s c b m .block) ≡ t
       known = simp (text-seen s c b m, block-seen s c b m, h .count) (ap (λ (i : ℕ). ltb i n) (sym q) ∙ u)
@@ -154,7 +172,8 @@ module _ (s names : List ℕ) (c : Cursor) (o n : ℕ) (b : Block) (m : ℕ) (h 
       turned true = refl
       turned false = refl
 
-pub found-at : (s names w : List ℕ) (o n j : ℕ) (b : Block) → HasSingletons s names o n b → j ≡ indexOf (sameName w) (tab (nameOf s names) n (70 + o * 7)) → j ≡ singletonOf o w b
+pub found-at : (s names w : List ℕ) (o n j : ℕ) (b : Block) → HasSingletons s names o n b
+    → j ≡ indexOf (sameName w) (tab (nameOf s names) n (70 + o * 7)) → j ≡ singletonOf o w b
 found-at s names w o n j b h e =
     let z : 70 + o * 7 ≡ 14 + (8 + o) * 7 = omega arith in
     e ∙ ap (λ (k : ℕ). indexOf (sameName w) (tab (nameOf s names) n k)) z ∙ sym (h .singleton w)
@@ -163,16 +182,19 @@ module _ (s : List ℕ) (c : Cursor) (t : Tables) (o : ℕ) where
   abbrev q : Parse
   q = view s (reading.at c t)
 
-  pub named-none : (d : Cursor) (w : ℕ) → w ≡ fault (termChecks o (seen s c (blockView s t) 0)) → (w ≡ 0 → ⊥) → Holds s t → Step (refuse w) s c d → ReadsFor (singletonBody o) s (reading.at c t) (reading.at d t)
+  pub named-none : (d : Cursor) (w : ℕ) → w ≡ fault (termChecks o (seen s c (blockView s t) 0)) → (w ≡ 0 → ⊥) → Holds s t → Step (refuse w) s c d
+      → ReadsFor (singletonBody o) s (reading.at c t) (reading.at d t)
   unfolding singletonBody view
   named-none d w e h g p = record { reads = reading.refuses (termChecks o q) _ refl w (sym e) h g p; count = refl }
 
   pub named-some : (r : ParseState) → 0 ≡ fault (termChecks o (seen s c (blockView s t) 0))
-      → ReadsFor (λ z. expect SEMICOLON (figure (λ x. withSingleton (record { name = textOf s c; at = x })) o (expect ASSIGN (advance z)))) s (reading.at c t) r → ReadsFor (singletonBody o) s (reading.at c t) r
+      → ReadsFor (λ z. expect SEMICOLON (figure (λ x. withSingleton (record { name = textOf s c; at = x })) o (expect ASSIGN (advance z)))) s
+      (reading.at c t) r → ReadsFor (singletonBody o) s (reading.at c t) r
   unfolding singletonBody view numbered
   named-some r e x = record {
     reads = reading.passes (termChecks o q) _ refl refl (sym e) (x .reads)
-        (ap (λ (w : List ℕ). expect SEMICOLON (figure (λ z. withSingleton (record { name = w; at = z })) o (expect ASSIGN (advance q)))) (sym (reading.text-view s (reading.at c t))));
+        (ap (λ (w : List ℕ). expect SEMICOLON (figure (λ z. withSingleton (record { name = w; at = z })) o (expect ASSIGN (advance q))))
+        (sym (reading.text-view s (reading.at c t))));
     count = x .count;
   }
 
@@ -187,17 +209,20 @@ module _ (s : List ℕ) (c : Cursor) (t : Tables) (o : ℕ) where
   unfolding fault
   given-so h b x e =
       simp (reading.kind-view s (reading.at c t), eq-eqb _ _ h)
-      (ap (λ (n : ℕ). if ltb n 7 then 0 else 6) (ap (λ (z : Block). length (singletonsOf o z)) (reading.block-view s (reading.at c t)) ∙ singletons s t o b .count) ∙ ap (λ (z : Bool). if z then 0 else 6) e)
+      (ap (λ (n : ℕ). if ltb n 7 then 0 else 6) (ap (λ (z : Block). length (singletonsOf o z)) (reading.block-view s (reading.at c t))
+      ∙ singletons s t o b .count) ∙ ap (λ (z : Bool). if z then 0 else 6) e)
 
   pub term-not : (d : Cursor) → (c .kind ≡ 163 → ⊥) → Holds s t → Step (refuse 2) s c d → ReadsFor (outputTerm o) s (reading.at c t) (reading.at d t)
   unfolding outputTerm
   term-not d h g p = record { reads = reading.refuses termGiven _ refl 2 (given-not h) (λ z. omega arith) g p; count = refl }
 
-  pub term-full : (d : Cursor) → c .kind ≡ 163 → o < t .«output_count» → 7 ≤ outputRow t o .terms → Holds s t → Step (refuse 6) s c d → ReadsFor (outputTerm o) s (reading.at c t) (reading.at d t)
+  pub term-full : (d : Cursor) → c .kind ≡ 163 → o < t .«output_count» → 7 ≤ outputRow t o .terms → Holds s t → Step (refuse 6) s c d
+      → ReadsFor (outputTerm o) s (reading.at c t) (reading.at d t)
   unfolding outputTerm
   term-full d h b l g p = record { reads = reading.refuses termGiven _ refl 6 (given-so h b false (le-ltb _ _ l)) (λ z. omega arith) g p; count = refl }
 
-  pub term-more : (d : Cursor) (r : ParseState) → c .kind ≡ 163 → o < t .«output_count» → outputRow t o .terms < 7 → Holds s t → Step advance s c d → ReadsFor (singletonBody o) s (reading.at d t) r → ReadsFor (outputTerm o) s (reading.at c t) r
+  pub term-more : (d : Cursor) (r : ParseState) → c .kind ≡ 163 → o < t .«output_count» → outputRow t o .terms < 7 → Holds s t → Step advance s c d
+      → ReadsFor (singletonBody o) s (reading.at d t) r → ReadsFor (outputTerm o) s (reading.at c t) r
   unfolding outputTerm numbered
   term-more d r h b l g p x = record {
     reads = reading.passes termGiven _ refl refl (given-so h b true (lt-ltb _ _ l)) (reading.next (reading.step t g p) (x .reads)) refl;
@@ -209,16 +234,22 @@ module _ (s : List ℕ) (c : Cursor) (t : Tables) (o : ℕ) where
   unfolding defaultValue
   default-nc d h g p = record { reads = reading.also (reading.step t g p) (sym (simp (reading.kind-view s (reading.at c t), eq-eqb _ _ h) refl)); count = refl }
 
-  pub default-given : (r : ParseState) → (c .kind ≡ 153 → ⊥) → ReadsFor (figure withDefault o) s (reading.at c t) r → ReadsFor (defaultValue o) s (reading.at c t) r
+  pub default-given : (r : ParseState) → (c .kind ≡ 153 → ⊥) → ReadsFor (figure withDefault o) s (reading.at c t) r
+      → ReadsFor (defaultValue o) s (reading.at c t) r
   unfolding defaultValue
   default-given r h x = record { reads = reading.also (x .reads) (sym (simp (reading.kind-view s (reading.at c t), ne-eqb _ _ h) refl)); count = x .count }
 
   -- RANGE, or none
   pub range-not : (c .kind ≡ 159 → ⊥) → Good s (reading.at c t) → ReadsFor (rangePart o) s (reading.at c t) (reading.at c t)
   unfolding rangePart
-  range-not h g = record { reads = reading.also (reading.none s (reading.at c t) g) (sym (simp (reading.kind-view s (reading.at c t), ne-eqb _ _ h) refl)); count = refl }
+  range-not h g = record {
+    reads = reading.also (reading.none s (reading.at c t) g)
+        (sym (simp (reading.kind-view s (reading.at c t), ne-eqb _ _ h) refl));
+    count = refl;
+  }
 
-  pub range-given : (d : Cursor) (r : ParseState) → c .kind ≡ 159 → Holds s t → Step (λ z. expect OPEN (advance z)) s c d → ReadsFor (rangeBody o) s (reading.at d t) r → ReadsFor (rangePart o) s (reading.at c t) r
+  pub range-given : (d : Cursor) (r : ParseState) → c .kind ≡ 159 → Holds s t → Step (λ z. expect OPEN (advance z)) s c d
+      → ReadsFor (rangeBody o) s (reading.at d t) r → ReadsFor (rangePart o) s (reading.at c t) r
   unfolding rangePart
   range-given d r h g p x = record {
     reads = reading.also (reading.next (reading.step t g p) (x .reads)) (sym (simp (reading.kind-view s (reading.at c t), eq-eqb _ _ h) refl));
@@ -244,21 +275,24 @@ module _ (s : List ℕ) (c : Cursor) (t : Tables) where
   output-is : (i : ℕ) → i ≡ outputOf (textOf s c) (blockView s t) → outputOf (text v) (v .block) ≡ i
   output-is i e = simp (reading.text-view s (reading.at c t), reading.block-view s (reading.at c t)) (sym e)
 
-  pub part-none : (d : Cursor) (w : ℕ) → w ≡ fault (aName (seen s c (blockView s t) 0) []) → (w ≡ 0 → ⊥) → Holds s t → Step (refuse w) s c d → Reads defuzzifyVariable s (reading.at c t) (reading.at d t)
+  pub part-none : (d : Cursor) (w : ℕ) → w ≡ fault (aName (seen s c (blockView s t) 0) []) → (w ≡ 0 → ⊥) → Holds s t → Step (refuse w) s c d
+      → Reads defuzzifyVariable s (reading.at c t) (reading.at d t)
   unfolding defuzzifyVariable defuzzifyOf view
   part-none d w e h g p = reading.refuses (partGiven (outputOf (text v) (v .block))) _ refl w (fault-bad w (aName v []) _ (sym e) h) h g p
 
   module _ (e : 0 ≡ fault (aName (seen s c (blockView s t) 0) [])) (i : ℕ) (f : i ≡ outputOf (textOf s c) (blockView s t)) where
     tail : fault (partGiven (outputOf (text v) (v .block))) ≡ fault ((isEmpty (singletonsOf i (v .block)), 4) ∷ (ltb i (length (v .block .outputs)), 5) ∷ [])
     unfolding numbered view
-    tail = fault-good (aName v []) _ refl (sym e) ∙ ap (λ (k : ℕ). fault ((isEmpty (singletonsOf k (v .block)), 4) ∷ (ltb k (length (v .block .outputs)), 5) ∷ [])) (output-is i f)
+    tail = fault-good (aName v []) _ refl (sym e) ∙ ap (λ (k : ℕ). fault
+        ((isEmpty (singletonsOf k (v .block)), 4) ∷ (ltb k (length (v .block .outputs)), 5) ∷ [])) (output-is i f)
 
     many : length (v .block .outputs) ≡ t .«output_count»
     many = ap (λ (z : Block). length (z .outputs)) (reading.block-view s (reading.at c t)) ∙ lookups.outputs-count s t (blockView s t) (outputs-are s t)
 
     none-there : t .«output_count» ≤ i → fault (partGiven (outputOf (text v) (v .block))) ≡ 5
     unfolding fault
-    none-there h = tail ∙ simp (reading.block-view s (reading.at c t), lookups.singletons-none s t (blockView s t) (outputs-are s t) i h) (simp (lookups.outputs-count s t (blockView s t) (outputs-are s t), le-ltb _ _ h) refl)
+    none-there h = tail ∙ simp (reading.block-view s (reading.at c t), lookups.singletons-none s t (blockView s t) (outputs-are s t) i h)
+        (simp (lookups.outputs-count s t (blockView s t) (outputs-are s t), le-ltb _ _ h) refl)
 
     given : (n : ℕ) → i < t .«output_count» → outputRow t i .terms ≡ n → fault (partGiven (outputOf (text v) (v .block))) ≡ (if eqb n 0 then 0 else 4)
     unfolding fault
@@ -275,14 +309,19 @@ module _ (s : List ℕ) (c : Cursor) (t : Tables) where
     unfolding defuzzifyVariable defuzzifyOf
     part-unknown d h g p = reading.refuses (partGiven (outputOf (text v) (v .block))) _ refl 5 (none-there h) (λ z. omega arith) g p
 
-    pub part-again : (d : Cursor) → i < t .«output_count» → (outputRow t i .terms ≡ 0 → ⊥) → Holds s t → Step (refuse 4) s c d → Reads defuzzifyVariable s (reading.at c t) (reading.at d t)
+    pub part-again : (d : Cursor) → i < t .«output_count» → (outputRow t i .terms ≡ 0 → ⊥) → Holds s t → Step (refuse 4) s c d
+        → Reads defuzzifyVariable s (reading.at c t) (reading.at d t)
     unfolding defuzzifyVariable defuzzifyOf
-    part-again d h q g p = reading.refuses (partGiven (outputOf (text v) (v .block))) _ refl 4 (given (outputRow t i .terms) h refl ∙ simp (ne-eqb _ _ q) refl) (λ z. omega arith) g p
+    part-again d h q g p = reading.refuses (partGiven (outputOf (text v) (v .block))) _ refl 4
+        (given (outputRow t i .terms) h refl ∙ simp (ne-eqb _ _ q) refl) (λ z. omega arith) g p
 
-    pub part-read : (d : Cursor) (r : ParseState) → i < t .«output_count» → outputRow t i .terms ≡ 0 → Holds s t → Step advance s c d → Reads (partText i) s (reading.at d t) r → Reads defuzzifyVariable s (reading.at c t) r
+    pub part-read : (d : Cursor) (r : ParseState) → i < t .«output_count» → outputRow t i .terms ≡ 0 → Holds s t → Step advance s c d
+        → Reads (partText i) s (reading.at d t) r → Reads defuzzifyVariable s (reading.at c t) r
     unfolding defuzzifyVariable defuzzifyOf numbered partText methodText
     part-read d r h q g p x =
-        reading.passes (partGiven (outputOf (text v) (v .block))) _ refl refl (given 0 h q) (reading.next (reading.step t g p) x) (ap (λ (k : ℕ). partText k (advance v)) (sym (output-is i f)))
+        reading.passes (partGiven (outputOf (text v) (v .block))) _ refl refl (given 0 h q) (reading.next (reading.step t g p) x)
+        (ap (λ (k : ℕ). partText k (advance v)) (sym (output-is i f)))
 
-pub output-found : (s w : List ℕ) (t : Tables) (j : ℕ) → j ≡ indexOf (sameName w) (tab (nameOf s (t .names)) (t .«output_count») 8) → j ≡ outputOf w (blockView s t)
+pub output-found : (s w : List ℕ) (t : Tables) (j : ℕ) → j ≡ indexOf (sameName w) (tab (nameOf s (t .names)) (t .«output_count») 8)
+    → j ≡ outputOf w (blockView s t)
 output-found s w t j e = e ∙ sym (lookups.output-of s t (blockView s t) (outputs-are s t) w)

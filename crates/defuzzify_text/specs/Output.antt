@@ -41,4 +41,5 @@ methodText r = r ▸ expect METHOD ▸ expect COLON ▸ expect CoGS ▸ expect S
 -- from behind the name on
 unfoldable pub partText : ℕ → Part
 partText o r =
-    r ▸ rangePart o ▸ (λ q. repeated TERM (outputTerm o) (outputTerm o q)) ▸ methodText ▸ defaultValue o ▸ expect SEMICOLON ▸ expect END-DEFUZZIFY
+    r ▸ rangePart o ▸ (λ q. repeated TERM (outputTerm o) (outputTerm o q)) ▸ methodText ▸ defaultValue o ▸
+    expect SEMICOLON ▸ expect END-DEFUZZIFY

@@ -3,6 +3,7 @@ ghost use mathlib.Core.Path.{_≡_};
 ghost use Prim.Native.Nat.{ℕ, _≤_, _<_};
 ghost use lib.ListN.{length};
 ghost use lib.Seq.{slice};
+ghost use Rattle.model.specs.Bounds.{outputLimit, termLimit};
 ghost use Rattle.model.specs.Block.{Block, inRange, withSingleton, withDefault};
 ghost use Rattle.model.specs.Keywords.{TERM, DEFUZZIFY};
 ghost use Rattle.model.specs.Parse.{repeated};
@@ -122,7 +123,8 @@ fn figure_here(s: &[u8], c: Cursor, v: Output) -> CrispHere
 
 // A number as the singleton of output o with the name from start to end.
 fn singleton_at(s: &[u8], p: ParseState, o: usize, start: usize, end: usize) -> ParseState
-    requires { ⌜ Good (now s) p × (o < p .tables .«output_count») × (outputRow (p .tables) o .terms < 7) × (start ≤ end)
+    requires { ⌜ Good (now s) p × (o < p .tables .«output_count») × (outputRow (p .tables) o .terms < termLimit)
+        × (start ≤ end)
         × (end ≤ length (now s)) ⌝ }
     ensures { λ r. ⌜ ReadsFor
         (figure (λ x. withSingleton (record { name = slice start end (now (s .entry)); at = x })) o)
@@ -175,9 +177,9 @@ fn default_number(s: &[u8], p: ParseState, o: usize) -> ParseState
     }
 }
 
-// By which number the current token is refused as the name of a new term of output o, which has some; 0 where it is one.
+// By which number the current token is refused as the name of a new term of output o; 0 where it is one.
 fn term_fault(s: &[u8], names: &Names, o: usize, terms: usize, c: Cursor) -> u8
-    requires { ⌜ Fits (now s) c × Placed (now s) (now names) × (o < 6) × (terms ≤ 7) ⌝ }
+    requires { ⌜ Fits (now s) c × Placed (now s) (now names) × (o < outputLimit) × (terms ≤ termLimit) ⌝ }
     ensures { λ r. ⌜ ((b : Block) (n : ℕ) → HasSingletons (now (s .entry)) (now (names .entry)) o terms b
         → r ≡ fault (termChecks o (seen (now (s .entry)) c b n))) ⌝ }
     ensures kind { λ r. ⌜ (r ≡ 0 → c .kind ≡ 2) ⌝ }
@@ -203,7 +205,7 @@ fn term_fault(s: &[u8], names: &Names, o: usize, terms: usize, c: Cursor) -> u8
 
 // name := number ; as a term of output o
 fn singleton_named(s: &[u8], p: ParseState, o: usize) -> ParseState
-    requires { ⌜ Good (now s) p × (o < p .tables .«output_count») × (outputRow (p .tables) o .terms < 7) ⌝ }
+    requires { ⌜ Good (now s) p × (o < p .tables .«output_count») × (outputRow (p .tables) o .terms < termLimit) ⌝ }
     ensures { λ r. ⌜ ReadsFor (singletonBody o) (now (s .entry)) p r ⌝ }
 {
     let c = p.cursor;

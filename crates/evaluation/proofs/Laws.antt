@@ -1,75 +1,86 @@
 -- What one call comes to, check by check; and that heights depend on the degrees of the input terms alone.
 use mathlib.Core.Path.{_≡_, refl, sym, ap, _∙_, subst, fun-ext}
-use mathlib.Core.List.{List, [], _∷_, map}
+use mathlib.Core.List.{List, [], _∷_}
 use mathlib.Core.Bool.{Bool, true, false}
 use mathlib.Core.Option.{none, some}
-use Prim.Native.Nat.{ℕ, _+_, _-_, _≤_, _<_}
+use Prim.Native.Nat.{ℕ, suc, _+_, _-_, _≤_, _<_}
 use native.Mathlib.Omega.{arith}
 use lib.IntN.{ℤ, pos}
-use lib.ListN.{length, getD, take}
-use borrow.Author.Tests.{eq-eqb, ne-eqb, lt-ltb, le-ltb}
+use lib.ListN.{length, getD}
+use borrow.Author.Tests.{eq-eqb, ne-eqb}
 use lib.Dec.{eqb}
 use Rattle.model.specs.Basic.{if_then_else_, gather}
-use Rattle.model.specs.Block.{Condition, term, neg, two, Output, Rule, Block, inputTerms}
+use Rattle.model.specs.Block.{Condition, term, neg, two, Output, Rule, Block, inputTerms, outputFirst}
 use Rattle.model.specs.Degrees.{notOf, pairs, prodOf, conditionDegree}
-use Rattle.model.specs.Image.{wordAt, termAt, decode, isImageOf, loads}
+use Rattle.model.specs.Image.{wordAt, decode, isImageOf, loads}
 use Rattle.model.specs.Outcome.{Outcome, accepted, refused}
-use Rattle.model.specs.Evaluation.{ruleDegree, accumulateAll, subconclusions, height, outputAnswer, outputAnswers, figuresOf, heldOk, valuesOf, orZero, firstWrong, CallResult, termDegrees, blockAnswers, callResult, evaluateBlock, freshOf, evaluate, fresh}
+use Rattle.model.specs.Refusals.{refusalOf}
+use Rattle.model.specs.Evaluation.{ruleDegree, accumulateAll, subconclusions, height, outputAnswer, outputAnswers, noAnswer, padded, figuresOf, heldOk, CallResult, termDegrees, blockAnswers, callResult, evaluateBlock, Tells, freshOf, evaluate, fresh}
 use Rattle.model.specs.declared.Crisp.{Crisp}
 use Rattle.model.specs.declared.Degree.{Degree}
 use Rattle.model.specs.declared.Held.{Held}
 use Rattle.model.specs.declared.Pair.{Pair}
 use Rattle.model.specs.declared.Reading.{Reading}
-use Rattle.model.specs.declared.Refusal.the-variants.{ImageNotAccepted, WrongCount, WrongHeld, WrongReading}
-use Rattle.laws.proofs.Tests.{passed}
-use Rattle.laws.proofs.Places.{tab-ext, length-tab}
+use Rattle.model.specs.declared.Evaluation.{Evaluation}
+use Rattle.model.specs.declared.Refusal.{Refusal}
+use Rattle.model.specs.declared.Refusal.the-variants.{TextTooLong, WrongToken, WrongNumber, WrongName, NotDeclared, TooMany, WrongPosition, Unpaired, PartMissing, BufferTooShort, ImageNotAccepted, WrongCount, WrongHeld, WrongReading}
+use Rattle.model.specs.declared.Verdict.the-variants.{Refused}
+use Rattle.laws.proofs.Places.{tab-ext}
 use Rattle.layout.specs.Tables.{inputTermsIn}
-use Rattle.layout.specs.Groups.{tablesOk, Sound}
-use Rattle.layout.proofs.Parts.{inputTerms-are}
-use Rattle.layout.proofs.Whole.{inputs-count}
+use Rattle.layout.specs.Groups.{Sound}
+use Rattle.layout.proofs.Sound.{input-terms}
 use Rattle.degrees.specs.Tables.{numbers}
 use Rattle.fuzzification.specs.Filled.{filled, figures}
+use Rattle.fuzzification.specs.Values.{valuesRead}
 use Rattle.fuzzification.proofs.Degrees.{degrees-of-call}
 use Rattle.fuzzification.proofs.Fill.{filled-at}
+use Rattle.fuzzification.proofs.Wrong.{values-right, values-wrong}
 use Rattle.aggregation.proofs.Degrees.{number-at}
-use Rattle.defuzzification.specs.Outputs.{heightOf}
-use Rattle.evaluation.specs.Tells.{Tells, refusedBy}
+use Rattle.defuzzification.specs.Outputs.{heightOf, answersBy}
 
 -- REFUSALS
-module _ (h : Held) (o : Outcome CallResult) where
-  pub tells-11 : o ≡ refused 11 none → Tells (refusedBy ImageNotAccepted h) h o
-  tells-11 e = subst (λ (x : Outcome CallResult). Tells (refusedBy ImageNotAccepted h) h x) (sym e) (record { verdict = refl; answers = refl; held = refl })
+-- what a refused call hands back
+pub refused-tells : (why : Refusal) (h : Held) → Tells (record { verdict = Refused why; answers = padded noAnswer []; held = h }) h (refusalOf why)
+refused-tells TextTooLong h = record { verdict = refl; answers = refl; held = refl }
+refused-tells (WrongToken place) h = record { verdict = refl; answers = refl; held = refl }
+refused-tells (WrongNumber place) h = record { verdict = refl; answers = refl; held = refl }
+refused-tells (WrongName place) h = record { verdict = refl; answers = refl; held = refl }
+refused-tells (NotDeclared place) h = record { verdict = refl; answers = refl; held = refl }
+refused-tells (TooMany place) h = record { verdict = refl; answers = refl; held = refl }
+refused-tells (WrongPosition place) h = record { verdict = refl; answers = refl; held = refl }
+refused-tells (Unpaired place) h = record { verdict = refl; answers = refl; held = refl }
+refused-tells (PartMissing place) h = record { verdict = refl; answers = refl; held = refl }
+refused-tells (BufferTooShort needed) h = record { verdict = refl; answers = refl; held = refl }
+refused-tells ImageNotAccepted h = record { verdict = refl; answers = refl; held = refl }
+refused-tells WrongCount h = record { verdict = refl; answers = refl; held = refl }
+refused-tells WrongHeld h = record { verdict = refl; answers = refl; held = refl }
+refused-tells (WrongReading index) h = record { verdict = refl; answers = refl; held = refl }
 
-  pub tells-12 : o ≡ refused 12 none → Tells (refusedBy WrongCount h) h o
-  tells-12 e = subst (λ (x : Outcome CallResult). Tells (refusedBy WrongCount h) h x) (sym e) (record { verdict = refl; answers = refl; held = refl })
-
-  pub tells-13 : o ≡ refused 13 none → Tells (refusedBy WrongHeld h) h o
-  tells-13 e = subst (λ (x : Outcome CallResult). Tells (refusedBy WrongHeld h) h x) (sym e) (record { verdict = refl; answers = refl; held = refl })
-
-  pub tells-14 : (i : ℕ) → o ≡ refused 14 (some i) → Tells (refusedBy (WrongReading i) h) h o
-  tells-14 i e = subst (λ (x : Outcome CallResult). Tells (refusedBy (WrongReading i) h) h x) (sym e) (record { verdict = refl; answers = refl; held = refl })
+-- of an outcome that is the one told
+pub tells-as : (r : Evaluation) (h : Held) (o p : Outcome CallResult) → o ≡ p → Tells r h p → Tells r h o
+tells-as r h o p e t = subst (λ (x : Outcome CallResult). Tells r h x) (sym e) t
 
 -- ONE CALL, check by check
 module _ (b : Block) (rs : List Reading) (n : ℕ) (h : Held) where
-  abbrev wrong : ℕ
-  wrong = firstWrong (valuesOf (b .inputs) rs)
-
   pub called-12 : (n ≡ length (b .inputs) → ⊥) → evaluateBlock b rs n h ≡ refused 12 none
   unfolding evaluateBlock
   called-12 f = simp (ne-eqb n (length (b .inputs)) f)
 
-  pub called-13 : n ≡ length (b .inputs) → heldOk (b .outputs) (figuresOf h) ≡ false → evaluateBlock b rs n h ≡ refused 13 none
-  unfolding evaluateBlock
-  called-13 e f = simp (eq-eqb n (length (b .inputs)) e, f)
+  module _ (e : n ≡ length (b .inputs)) where
+    pub called-13 : heldOk (b .outputs) (figuresOf h) ≡ false → evaluateBlock b rs n h ≡ refused 13 none
+    unfolding evaluateBlock
+    called-13 f = simp (eq-eqb n (length (b .inputs)) e, f)
 
-  pub called-14 : n ≡ length (b .inputs) → heldOk (b .outputs) (figuresOf h) ≡ true → wrong < length (b .inputs) → evaluateBlock b rs n h ≡ refused 14 (some wrong)
-  unfolding evaluateBlock
-  called-14 e f l = simp (eq-eqb n (length (b .inputs)) e, f, lt-ltb wrong (length (b .inputs)) l)
+    module _ (f : heldOk (b .outputs) (figuresOf h) ≡ true) where
+      pub called-14 : length (valuesRead (b .inputs) rs) < length (b .inputs) → evaluateBlock b rs n h ≡ refused 14 (some (length (valuesRead (b .inputs) rs)))
+      unfolding evaluateBlock
+      called-14 l =
+          simp (eq-eqb n (length (b .inputs)) e, f, values-wrong 0 (b .inputs) rs l) (ap (λ (i : ℕ). refused 14 (some i)) (omega arith))
 
-  pub called-ok : n ≡ length (b .inputs) → heldOk (b .outputs) (figuresOf h) ≡ true → length (b .inputs) ≤ wrong
-      → evaluateBlock b rs n h ≡ accepted (callResult (blockAnswers b (map orZero (valuesOf (b .inputs) rs)) (figuresOf h)))
-  unfolding evaluateBlock
-  called-ok e f l = simp (eq-eqb n (length (b .inputs)) e, f, le-ltb wrong (length (b .inputs)) l)
+      pub called-ok : length (b .inputs) ≤ length (valuesRead (b .inputs) rs)
+          → evaluateBlock b rs n h ≡ accepted (callResult (blockAnswers b (valuesRead (b .inputs) rs) (figuresOf h)))
+      unfolding evaluateBlock
+      called-ok l = simp (eq-eqb n (length (b .inputs)) e, f, values-right 0 (b .inputs) rs l)
 
 -- HEIGHTS by degrees that agree
 module _ (ds es : List ℕ) (agree : (t : ℕ) → getD ds t 0 ≡ getD es t 0) where
@@ -89,13 +100,15 @@ module _ (ds es : List ℕ) (agree : (t : ℕ) → getD ds t 0 ≡ getD es t 0) 
       ap (λ (q : Rule → ℕ). accumulateAll (b .accu) 0 (gather (λ r. gather (λ k. if eqb (k .term) t then q r ∷ [] else []) (r .conclusions)) (b .rules))) (rule-agrees b)
 
 -- answers by heights that agree from the first output term on
-pub answers-agree : (f g : ℕ → ℕ) (n : ℕ) (vs : List Output) (held : List ℤ) → ((t : ℕ) → n ≤ t → f t ≡ g t) → outputAnswers f n vs held ≡ outputAnswers g n vs held
-unfolding outputAnswers
-answers-agree f g n [] held e = refl
-answers-agree f g n (v ∷ vs) [] e = refl
-answers-agree f g n (v ∷ vs) (x ∷ held) e =
+pub answers-agree : (b : Block) (f g : ℕ → ℕ) (i : ℕ) (vs : List Output) (held : List ℤ) → ((t : ℕ) → length (inputTerms b) ≤ t → f t ≡ g t)
+    → outputAnswers b f i vs held ≡ outputAnswers b g i vs held
+unfolding outputAnswers outputFirst
+answers-agree b f g i [] held e = refl
+answers-agree b f g i (v ∷ vs) [] e = refl
+answers-agree b f g i (v ∷ vs) (x ∷ held) e =
+    let n = outputFirst i b in
     let a = tab-ext f g (length (v .terms)) n n (λ k l. e (n + k) (omega arith)) in
-    let r = answers-agree f g (n + length (v .terms)) vs held (λ t l. e t (omega arith)) in
+    let r = answers-agree b f g (suc i) vs held e in
     λ j. outputAnswer v (a j) x ∷ r j
 
 -- THE LOAD CHECK before all
@@ -120,25 +133,23 @@ module _ (img : List ℕ) where
   fresh-no e = simp e
 
 -- THE ANSWERS of an accepted call
-module _ (w : ℕ → ℕ) (s : Sound w) (rs : List Reading) (held : List ℤ) (m : ℕ) (em : m ≡ inputTermsIn w) (k : ℕ) (xs : List Crisp) (ds hs : List Degree) where
-  input-terms : length (inputTerms (decode w)) ≡ inputTermsIn w
-  unfolding tablesOk
-  input-terms = ap length (inputTerms-are w (passed _ (s .frame) .1 .0)) ∙ length-tab (termAt w) (inputTermsIn w) 0
-
+module _ (w : ℕ → ℕ) (s : Sound w) (rs : List Reading) (held : Held) (m : ℕ) (em : m ≡ inputTermsIn w) (xs : List Crisp) (ds hs : List Degree) where
   abbrev values : List ℤ
-  values = map orZero (valuesOf (decode w .inputs) rs)
+  values = valuesRead (decode w .inputs) rs
 
-  pub answers-are : w 2 ≤ k → figures xs ≡ filled 8 (pos 0) (map orZero (take k (valuesOf (decode w .inputs) rs))) → numbers ds ≡ filled 56 0 (termDegrees (decode w .inputs) (figures xs))
-      → ((p : ℕ) → getD (numbers hs) p 0 ≡ height (decode w) (numbers ds) (m + p)) → outputAnswers (heightOf hs m) m (decode w .outputs) held ≡ blockAnswers (decode w) values held
+  abbrev inputDegrees : List ℕ
+  inputDegrees = termDegrees (decode w .inputs) values
+
+  pub answers-are : length (decode w .inputs) ≤ length values → figures xs ≡ filled 8 (pos 0) values
+      → numbers ds ≡ filled 56 0 (termDegrees (decode w .inputs) (figures xs))
+      → ((p : ℕ) → getD (numbers hs) p 0 ≡ height (decode w) (numbers ds) (m + p)) → answersBy w hs m held ≡ blockAnswers (decode w) values (figuresOf held)
   unfolding blockAnswers
   answers-are l ex ed eh =
-      let few : length (decode w .inputs) ≤ k = omega (arith, inputs-count w) in
-      let e : numbers ds ≡ filled 56 0 (termDegrees (decode w .inputs) values) = ed ∙ ap (filled 56 0) (degrees-of-call (decode w .inputs) rs 8 k (figures xs) few ex) in
-      let agree : (t : ℕ) → getD (numbers ds) t 0 ≡ getD (termDegrees (decode w .inputs) values) t 0 =
-      λ t. ap (λ (x : List ℕ). getD x t 0) e ∙ filled-at 56 0 (termDegrees (decode w .inputs) values) t in
-      let n : m ≡ length (inputTerms (decode w)) = em ∙ sym input-terms in
-      let H = height (decode w) (termDegrees (decode w .inputs) values) in
-      answers-agree (heightOf hs m) H m (decode w .outputs) held
+      let e : numbers ds ≡ filled 56 0 inputDegrees = ed ∙ ap (filled 56 0) (degrees-of-call (decode w .inputs) 8 (figures xs) values ex l) in
+      let agree : (t : ℕ) → getD (numbers ds) t 0 ≡ getD inputDegrees t 0 = λ t. ap (λ (x : List ℕ). getD x t 0) e ∙ filled-at 56 0 inputDegrees t in
+      let n : m ≡ length (inputTerms (decode w)) = em ∙ sym (input-terms w (s .frame)) in
+      let H = height (decode w) inputDegrees in
+      answers-agree (decode w) (heightOf hs m) H 0 (decode w .outputs) (figuresOf held)
       (λ t h.
-      number-at hs (t - m) ∙ eh (t - m) ∙ height-agrees (numbers ds) (termDegrees (decode w .inputs) values) agree (decode w) (m + (t - m)) ∙ ap H (omega arith))
-      ∙ ap (λ (j : ℕ). outputAnswers H j (decode w .outputs) held) n
+      let q : m + (t - m) ≡ t = omega arith in
+      number-at hs (t - m) ∙ eh (t - m) ∙ height-agrees (numbers ds) inputDegrees agree (decode w) (m + (t - m)) ∙ ap H q)

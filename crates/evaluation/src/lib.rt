@@ -1,17 +1,19 @@
-// One evaluation call, and the fresh held record, of any bytes: the checks 11, 12, 13, 14 in this order, then the answers.
+// One evaluation call, and the fresh held record, of any bytes: the checks 11, 12, 13, 14 in this order, then the
+// answers.
 ghost use mathlib.Core.Path.{_≡_};
 ghost use Rattle.model.specs.Outcome.{verdictIn};
-ghost use Rattle.model.specs.Refusals.{verdictOf};
+ghost use Rattle.model.specs.Refusals.{refusalOf, verdictOf};
 ghost use Rattle.model.specs.Image.{wordAt, decode};
-ghost use Rattle.model.specs.Evaluation.{evaluateBlock, evaluate, fresh, recordIn};
+ghost use Rattle.model.specs.Evaluation.{evaluateBlock, evaluate, Tells, fresh, recordIn};
+ghost use Rattle.header.specs.Header.{Heads};
 ghost use Rattle.layout.specs.Tables.{inputTermsIn};
 ghost use Rattle.layout.specs.Groups.{Sound};
-ghost use Rattle.evaluation.specs.Tells.{Tells, refusedBy};
 use accumulation::heights;
 use defuzzification::no_answer;
 use defuzzification::outputs;
 use fuzzification::input_values;
 use fuzzification::term_degrees;
+use header::Header;
 use held::fresh_record;
 use held::record_ok;
 use load::examine;
@@ -22,16 +24,15 @@ use model::Held;
 use model::Reading;
 use model::Refusal;
 use model::Verdict;
-use words::word;
 
 // A refused call answers all places as none and leaves the record.
 fn refused(why: Refusal, before: Held) -> Evaluation
-    ensures { λ r. ⌜ r ≡ refusedBy why before ⌝ }
+    ensures { λ r. ⌜ Tells r before (refusalOf why) ⌝ }
 {
     let a = no_answer();
     Evaluation {
         verdict: Verdict::Refused(why),
-        answers: [a; 6],
+        answers: [a; bounds::OUTPUTS],
         held: before,
     }
 }
@@ -39,32 +40,32 @@ fn refused(why: Refusal, before: Held) -> Evaluation
 // On an accepted image with m input terms.
 pub fn evaluate_accepted(
     img: &[u8],
+    h: Header,
     m: usize,
-    rs: [Reading; 8],
+    rs: [Reading; bounds::INPUTS],
     n: usize,
     before: Held,
 ) -> Evaluation
-    requires { ⌜ Sound (wordAt (now img)) × (m ≡ inputTermsIn (wordAt (now img))) ⌝ }
+    requires { ⌜ Sound (wordAt (now img)) × Heads (wordAt (now img)) h × (m ≡ inputTermsIn (wordAt (now img))) ⌝ }
     ensures { λ r. ⌜ Tells r before (evaluateBlock (decode (wordAt (now (img .entry)))) rs n before) ⌝ }
 {
-    let inputs = word(img, 2);
-    let was = before.figures;
-    let kept = record_ok(img, was);
+    let inputs = h.inputs;
+    let kept = record_ok(img, h, before);
     if n != inputs {
         return refused(Refusal::WrongCount, before);
     }
     if !kept {
         return refused(Refusal::WrongHeld, before);
     }
-    let v = input_values(img, rs);
+    let v = input_values(img, h, rs);
     let wrong = v.wrong;
     if wrong < inputs {
         return refused(Refusal::WrongReading(wrong), before);
     }
     let at = v.at;
-    let ds = term_degrees(img, at);
-    let hs = heights(img, ds, m);
-    let a = outputs(img, hs, m, was);
+    let ds = term_degrees(img, h, at);
+    let hs = heights(img, h, ds, m);
+    let a = outputs(img, h, hs, m, before);
     let answers = a.answers;
     let after = a.held;
     Evaluation {
@@ -75,33 +76,35 @@ pub fn evaluate_accepted(
 }
 
 // Image, eight readings of which the first n are looked at, held record.
-pub fn evaluate(img: &[u8], rs: [Reading; 8], n: usize, before: Held) -> Evaluation
+pub fn evaluate(img: &[u8], rs: [Reading; bounds::INPUTS], n: usize, before: Held) -> Evaluation
     ensures { λ r. ⌜ Tells r before (evaluate (now (img .entry)) rs n before) ⌝ }
 {
     let c = examine(img);
     if c.ok {
-        let m = c.input_terms;
-        return evaluate_accepted(img, m, rs, n, before);
+        let h = c.header;
+        return evaluate_accepted(img, h, c.input_terms, rs, n, before);
     }
     refused(Refusal::ImageNotAccepted, before)
 }
 
 // The fresh held record; all zero where the image is not accepted.
 pub fn fresh_of(img: &[u8]) -> Fresh
-    ensures { λ r. ⌜ (verdictOf (r .verdict) ≡ verdictIn (fresh (now (img .entry)))) × (r .held ≡ recordIn (fresh (now (img .entry)))) ⌝ }
+    ensures { λ r. ⌜ (verdictOf (r .verdict) ≡ verdictIn (fresh (now (img .entry))))
+        × (r .held ≡ recordIn (fresh (now (img .entry)))) ⌝ }
 {
     let c = examine(img);
     if c.ok {
-        let h = fresh_record(img);
+        let h = c.header;
+        let held = fresh_record(img, h);
         return Fresh {
             verdict: Verdict::Accepted,
-            held: h,
+            held: held,
         };
     }
     Fresh {
         verdict: Verdict::Refused(Refusal::ImageNotAccepted),
         held: Held {
-            figures: [Crisp(0); 6],
+            figures: [Crisp(0); bounds::OUTPUTS],
         },
     }
 }

@@ -1,4 +1,5 @@
--- A helper: arrays that are filled from the front, as lists of numbers. `filled-at` of proofs/Fill ties them to the lists.
+-- A helper: arrays that are filled from the front, as lists of numbers.
+-- `filled-at` of proofs/Fill ties them to the lists.
 use mathlib.Core.List.{List, _++_, map}
 use Prim.Native.Nat.{ℕ, _-_}
 use lib.IntN.{ℤ, pos}

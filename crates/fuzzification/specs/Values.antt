@@ -1,5 +1,5 @@
--- A helper: the values of the inputs as the code finds them. `values-right` and `values-wrong` of proofs/Wrong tie it to
--- model's `valuesOf`.
+-- A helper: the values of the inputs as the code finds them.
+-- `values-right` and `values-wrong` of proofs/Wrong tie it to model's `valuesOf`.
 use mathlib.Core.List.{List, [], _∷_}
 use mathlib.Core.Option.{Option, none, some}
 use lib.IntN.{ℤ}

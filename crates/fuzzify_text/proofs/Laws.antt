@@ -50,15 +50,18 @@ module _ (s : List ℕ) (c d : Cursor) where
   restep q e = record { reads = λ b m. q .reads b m ∙ e b m; fewer = q .fewer; fits = q .fits; sticky = q .sticky }
 
   module _ (n : ℕ) (last : ℤ) where
-    pub position-none : (w : ℕ) → ((b : Block) (m : ℕ) → w ≡ fault (aCrisp (seen s c b m) [])) → (w ≡ 0 → ⊥) → Step (refuse w) s c d → Step (positionAfter n last) s c d
+    pub position-none : (w : ℕ) → ((b : Block) (m : ℕ) → w ≡ fault (aCrisp (seen s c b m) [])) → (w ≡ 0 → ⊥) → Step (refuse w) s c d
+        → Step (positionAfter n last) s c d
     unfolding positionAfter
     position-none w e h q = restep q (λ b m. sym (judged-bad (seen s c b m) _ w (aCrisp (seen s c b m) []) _ (sym (e b m)) h))
 
     module _ (e : (b : Block) (m : ℕ) → 0 ≡ fault (aCrisp (seen s c b m) [])) where
-      position-then : (b : Block) (m : ℕ) → positionAfter n last (seen s c b m) ≡ (if rises n last (valueOf (textOf s c)) then advance (seen s c b m) else refuse 7 (seen s c b m))
+      position-then : (b : Block) (m : ℕ) → positionAfter n last (seen s c b m)
+          ≡ (if rises n last (valueOf (textOf s c)) then advance (seen s c b m) else refuse 7 (seen s c b m))
       unfolding positionAfter judged numbered
       position-then b m =
-          judged-good (seen s c b m) (advance (seen s c b m)) (aCrisp (seen s c b m) []) ((rises n last (valueHere (seen s c b m)), 7) ∷ []) refl (sym (e b m)) ∙ simp (text-seen s c b m)
+          judged-good (seen s c b m) (advance (seen s c b m)) (aCrisp (seen s c b m) []) ((rises n last (valueHere (seen s c b m)), 7) ∷ []) refl
+          (sym (e b m)) ∙ simp (text-seen s c b m)
 
       pub position-low : rises n last (valueOf (textOf s c)) ≡ false → Step (refuse 7) s c d → Step (positionAfter n last) s c d
       position-low h q = restep q (λ b m. sym (position-then b m ∙ simp h))
@@ -95,9 +98,13 @@ module _ (s : List ℕ) (t : Tables) (i : ℕ) (o : Open t i) where
 
   pub ends-none : (n : ℕ) (last : ℤ) → n ≡ getD (t .counts) (lastPlace t i) 0 → n ≡ 0 → Ends (blockView s t) i n last
   unfolding rises tab mayFollow
-  ends-none n last e z = record { may = λ x. ap (λ (ps : List block.Point). mayFollow (map (λ p. p .at) ps) x) (points-are ∙ ap (λ (k : ℕ). tab (pointView t) k (lastPlace t i * 4)) (sym e ∙ z)) ∙ sym (simp (eq-eqb _ _ z)) }
+  ends-none n last e z = record {
+    may = λ x. ap (λ (ps : List block.Point). mayFollow (map (λ p. p .at) ps) x)
+        (points-are ∙ ap (λ (k : ℕ). tab (pointView t) k (lastPlace t i * 4)) (sym e ∙ z)) ∙ sym (simp (eq-eqb _ _ z));
+  }
 
-  pub ends-some : (n : ℕ) → n ≡ getD (t .counts) (lastPlace t i) 0 → (n ≡ 0 → ⊥) → Ends (blockView s t) i n (getD (t .points) (lastPlace t i * 4 + n - 1) no-point .at .0)
+  pub ends-some : (n : ℕ) → n ≡ getD (t .counts) (lastPlace t i) 0 → (n ≡ 0 → ⊥)
+      → Ends (blockView s t) i n (getD (t .points) (lastPlace t i * 4 + n - 1) no-point .at .0)
   unfolding rises pointView
   ends-some n e z = record {
     may = λ x.
@@ -112,7 +119,8 @@ module _ (s : List ℕ) (t : Tables) (i : ℕ) (o : Open t i) where
 -- A POINT
 module _ (s : List ℕ) (c : Cursor) (t : Tables) (d : Cursor) (i : ℕ) where
   module _ (x : ℤ) where
-    pub degree-bad : (w : ℕ) → w ≡ fault (aUnit (seen s c (blockView s t) 0)) → Holds s t → (w ≡ 0 → ⊥) → Step (refuse w) s c d → Reads (pointDegree i x) s (at c t) (at d t)
+    pub degree-bad : (w : ℕ) → w ≡ fault (aUnit (seen s c (blockView s t) 0)) → Holds s t → (w ≡ 0 → ⊥) → Step (refuse w) s c d
+        → Reads (pointDegree i x) s (at c t) (at d t)
     unfolding pointDegree view
     degree-bad w f g h q = reading.refuses (aUnit (view s (at c t))) _ refl w (sym f) h g q
 
@@ -129,14 +137,16 @@ module _ (s : List ℕ) (c : Cursor) (t : Tables) (d : Cursor) (i : ℕ) where
   point-none g h q = reading.also (reading.step t g q) (sym (simp (kind-view, ne-eqb _ _ h)))
 
   module _ (h : c .kind ≡ 40) (o : Open t i) where
-    point-then : point i (view s (at c t)) ≡ (if ltb (getD (t .counts) (lastPlace t i) 0) 4 then pointBody i (advance (view s (at c t))) else refuse 6 (view s (at c t)))
+    point-then : point i (view s (at c t)) ≡ (if ltb (getD (t .counts) (lastPlace t i) 0) 4 then pointBody i (advance (view s (at c t))) else refuse 6
+        (view s (at c t)))
     unfolding point judged
     point-then = simp (kind-view, eq-eqb _ _ h, block-view, points-count s t i o)
 
     pub point-full : Holds s t → 4 ≤ getD (t .counts) (lastPlace t i) 0 → Step (refuse 6) s c d → Reads (point i) s (at c t) (at d t)
     point-full g l q = reading.also (reading.step t g q) (sym (point-then ∙ simp (le-ltb _ _ l)))
 
-    pub point-good : (r : ParseState) → Holds s t → getD (t .counts) (lastPlace t i) 0 < 4 → Step advance s c d → Reads (pointBody i) s (at d t) r → Reads (point i) s (at c t) r
+    pub point-good : (r : ParseState) → Holds s t → getD (t .counts) (lastPlace t i) 0 < 4 → Step advance s c d → Reads (pointBody i) s (at d t) r
+        → Reads (point i) s (at c t) r
     point-good r g l q z = reading.also (reading.next (reading.step t g q) z) (sym (point-then ∙ simp (lt-ltb _ _ l)))
 
 module _ (s : List ℕ) (c : Cursor) (t : Tables) (i n : ℕ) (last : ℤ) (z : Ends (blockView s t) i n last) where
@@ -159,10 +169,12 @@ module _ (s : List ℕ) (c : Cursor) (t : Tables) (i n : ℕ) (last : ℤ) (z : 
   from-lost d g q h =
       let p = reading.step t g q in
       reading.also p
-      (sym (p .reads) ∙ lost-from d (q .fits) h _ ∙ ap (λ (r : Parse). expect CLOSE (pointDegree i (valueHere (view s (at c t))) (expect COMMA r))) (p .reads ∙ sym position-is))
+      (sym (p .reads) ∙ lost-from d (q .fits) h _ ∙ ap (λ (r : Parse). expect CLOSE (pointDegree i (valueHere (view s (at c t))) (expect COMMA r)))
+      (p .reads ∙ sym position-is))
 
   pub from-good : (d e : Cursor) (r : ParseState) (f : Cursor) (x : ℤ) → Holds s t → x ≡ valueOf (textOf s c)
-      → Step (positionAfter n last) s c d → Step (expect COMMA) s d e → Reads (pointDegree i x) s (at e t) r → Step (expect CLOSE) s (r .cursor) f → Reads (pointBody i) s (at c t) (at f (r .tables))
+      → Step (positionAfter n last) s c d → Step (expect COMMA) s d e → Reads (pointDegree i x) s (at e t) r → Step (expect CLOSE) s (r .cursor) f
+      → Reads (pointBody i) s (at c t) (at f (r .tables))
   unfolding pointBody
   from-good d e r f x g v q k y l =
       reading.also (reading.next (reading.next (reading.next (reading.step t g q) (reading.step t g k)) y) (reading.step (r .tables) (y .good .holds) l))
@@ -170,12 +182,14 @@ module _ (s : List ℕ) (c : Cursor) (t : Tables) (i n : ℕ) (last : ℤ) (z : 
       ∙ ap (λ (a : ℤ). expect CLOSE (pointDegree i a (expect COMMA (pointPosition i (view s (at c t)))))) (v ∙ sym (ap valueOf (text-view s (at c t)))))
 
 -- A TERM
-pub points-end : (s : List ℕ) (p : ParseState) (i : ℕ) → Open (p .tables) i → endAfter (getD (p .tables .counts) (lastPlace (p .tables) i) 0) (view s p) ≡ endOfPoints i (view s p)
+pub points-end : (s : List ℕ) (p : ParseState) (i : ℕ) → Open (p .tables) i
+    → endAfter (getD (p .tables .counts) (lastPlace (p .tables) i) 0) (view s p) ≡ endOfPoints i (view s p)
 unfolding endAfter endOfPoints
 points-end s p i o = simp (block-view, points-count s (p .tables) i o)
 
 module _ (s : List ℕ) (c : Cursor) (t : Tables) (d : Cursor) (i : ℕ) where
-  pub name-bad : (w : ℕ) → w ≡ fault (aName (seen s c (blockView s t) 0) []) → Holds s t → (w ≡ 0 → ⊥) → Step (refuse w) s c d → Reads (termName i) s (at c t) (at d t)
+  pub name-bad : (w : ℕ) → w ≡ fault (aName (seen s c (blockView s t) 0) []) → Holds s t → (w ≡ 0 → ⊥) → Step (refuse w) s c d
+      → Reads (termName i) s (at c t) (at d t)
   unfolding termName view
   name-bad w f g h q = reading.also (reading.step t g q) (sym (judged-bad (view s (at c t)) _ w (aName (view s (at c t)) []) _ (sym f) h))
 
@@ -187,7 +201,8 @@ module _ (s : List ℕ) (c : Cursor) (t : Tables) (d : Cursor) (i : ℕ) where
         simp (text-view, block-view, lookups.terms-count s t (blockView s t) refl i l, lookups.term-of s t (blockView s t) refl (textOf s c) i l)
         (ap (λ (k : ℕ). ltb k (inputRow t i .terms)) (sym e))
 
-    name-then : termName i (view s (at c t)) ≡ (if not (ltb j (inputRow t i .terms)) then advance (change (addTerm i (textOf s c)) (view s (at c t))) else refuse 4 (view s (at c t)))
+    name-then : termName i (view s (at c t)) ≡ (if not (ltb j (inputRow t i .terms)) then advance (change (addTerm i (textOf s c)) (view s (at c t)))
+        else refuse 4 (view s (at c t)))
     unfolding termName judged numbered view
     name-then =
         let r = view s (at c t) in
@@ -198,7 +213,8 @@ module _ (s : List ℕ) (c : Cursor) (t : Tables) (d : Cursor) (i : ℕ) where
     pub name-taken : Holds s t → j < inputRow t i .terms → Step (refuse 4) s c d → Reads (termName i) s (at c t) (at d t)
     name-taken g h q = reading.also (reading.step t g q) (sym (name-then ∙ simp (lt-ltb _ _ h)))
 
-    pub name-good : (u : Tables) → inputRow t i .terms ≤ j → Fits s c → (c .kind ≡ 0 → ⊥) → Changes s t u (addTerm i (textOf s c)) → Step advance s c d → Reads (termName i) s (at c t) (at d u)
+    pub name-good : (u : Tables) → inputRow t i .terms ≤ j → Fits s c → (c .kind ≡ 0 → ⊥) → Changes s t u (addTerm i (textOf s c))
+        → Step advance s c d → Reads (termName i) s (at c t) (at d u)
     name-good u h g k z q =
         reading.also (reading.next (reading.changes s c t u _ g k z) (reading.step u (z .holds) q)) (sym (name-then ∙ simp (le-ltb _ _ h)))
 
@@ -211,7 +227,8 @@ module _ (s : List ℕ) (c : Cursor) (t : Tables) (d : Cursor) (i : ℕ) where
   termFrom r = endOfPoints i (listed (point i) (expect ASSIGN r))
 
   module _ (h : c .kind ≡ 163) (l : i < t .«input_count») where
-    term-then : inputTerm i (view s (at c t)) ≡ (if ltb (inputRow t i .terms) 7 then termFrom (termName i (advance (view s (at c t)))) else refuse 6 (view s (at c t)))
+    term-then : inputTerm i (view s (at c t)) ≡ (if ltb (inputRow t i .terms) 7 then termFrom (termName i (advance (view s (at c t)))) else refuse 6
+        (view s (at c t)))
     unfolding inputTerm judged blockView
     term-then = simp (kind-view, eq-eqb _ _ h, block-view, lookups.terms-count s t (blockView s t) refl i l)
 
@@ -228,7 +245,8 @@ module _ (s : List ℕ) (c : Cursor) (t : Tables) (d : Cursor) (i : ℕ) where
           let b = blockView s (p .tables) in
           let f = z .good .fits in
           sym (ap (λ (r : Parse). endOfPoints i (listed (point i) r)) (cursor.lost-expect s (p .cursor) f w b 0 ASSIGN (λ x. omega arith))
-          ∙ ap (λ (r : Parse). endOfPoints i (repeated COMMA (λ y. point i (expect COMMA y)) r)) (cursor.lost-judged s (p .cursor) f w b 0 40 _ _ (λ x. omega arith))
+          ∙ ap (λ (r : Parse). endOfPoints i (repeated COMMA (λ y. point i (expect COMMA y)) r))
+          (cursor.lost-judged s (p .cursor) f w b 0 40 _ _ (λ x. omega arith))
           ∙ ap (endOfPoints i) (cursor.lost-repeated s (p .cursor) f w b 0 COMMA _ (λ x. omega arith))
           ∙ cursor.lost-judged s (p .cursor) f w b 0 59 _ _ (λ x. omega arith))
 
@@ -237,11 +255,13 @@ module _ (s : List ℕ) (c : Cursor) (t : Tables) (d : Cursor) (i : ℕ) where
 
 -- A PART
 module _ (s : List ℕ) (c : Cursor) (t : Tables) (d : Cursor) where
-  pub part-bad : (w : ℕ) → w ≡ fault (aName (seen s c (blockView s t) 0) []) → Holds s t → (w ≡ 0 → ⊥) → Step (refuse w) s c d → Reads fuzzifyVariable s (at c t) (at d t)
+  pub part-bad : (w : ℕ) → w ≡ fault (aName (seen s c (blockView s t) 0) []) → Holds s t → (w ≡ 0 → ⊥) → Step (refuse w) s c d
+      → Reads fuzzifyVariable s (at c t) (at d t)
   unfolding fuzzifyVariable fuzzifyOf view
   part-bad w f g h q = reading.also (reading.step t g q) (sym (judged-bad (view s (at c t)) _ w (aName (view s (at c t)) []) _ (sym f) h))
 
-  module _ (f : 0 ≡ fault (aName (seen s c (blockView s t) 0) [])) (i : ℕ) (e : i ≡ indexOf (sameName (textOf s c)) (tab (nameOf s (t .names)) (t .«input_count») 0)) where
+  module _ (f : 0 ≡ fault (aName (seen s c (blockView s t) 0) [])) (i : ℕ)
+      (e : i ≡ indexOf (sameName (textOf s c)) (tab (nameOf s (t .names)) (t .«input_count») 0)) where
     input-is : inputOf (text (view s (at c t))) (view s (at c t) .block) ≡ i
     unfolding blockView
     input-is = simp (text-view, block-view) (lookups.input-of s t (blockView s t) refl (textOf s c) ∙ sym e)
@@ -262,7 +282,8 @@ module _ (s : List ℕ) (c : Cursor) (t : Tables) (d : Cursor) where
     part-then =
         ap (λ (k : ℕ). fuzzifyOf k (view s (at c t))) input-is
         ∙ judged-good (view s (at c t)) _ (aName (view s (at c t)) []) _ refl (sym f)
-        ∙ ap (λ (b : Block). judged ((isEmpty (termsOf i b), 4) ∷ (isInput (text (view s (at c t))) (view s (at c t) .block), 5) ∷ []) (view s (at c t)) (partFrom (advance (view s (at c t))))) (block-view s (at c t))
+        ∙ ap (λ (b : Block). judged ((isEmpty (termsOf i b), 4) ∷ (isInput (text (view s (at c t))) (view s (at c t) .block), 5) ∷ [])
+        (view s (at c t)) (partFrom (advance (view s (at c t))))) (block-view s (at c t))
         ∙ ap (λ (x : Bool). judged ((isEmpty (termsOf i (blockView s t)), 4) ∷ (x, 5) ∷ []) (view s (at c t)) (partFrom (advance (view s (at c t))))) known
 
     pub part-unknown : Holds s t → t .«input_count» ≤ i → Step (refuse 5) s c d → Reads fuzzifyVariable s (at c t) (at d t)
@@ -289,7 +310,8 @@ module _ (s : List ℕ) (c : Cursor) (t : Tables) (d : Cursor) where
       part-again g z q = reading.also (reading.step t g q) (sym (part-then ∙ simp (terms-are, some-terms _ z)))
 
       pub part-good : (p : ParseState) (k : Cursor) → Holds s t → inputRow t i .terms ≡ 0 → Step advance s c d
-          → Reads (λ r. repeated TERM (inputTerm i) (inputTerm i r)) s (at d t) p → Step (expect END-FUZZIFY) s (p .cursor) k → Reads fuzzifyVariable s (at c t) (at k (p .tables))
+          → Reads (λ r. repeated TERM (inputTerm i) (inputTerm i r)) s (at d t) p → Step (expect END-FUZZIFY) s (p .cursor) k
+          → Reads fuzzifyVariable s (at c t) (at k (p .tables))
       unfolding judged
       part-good p k g z q y x =
           reading.also (reading.next (reading.next (reading.step t g q) y) (reading.step (p .tables) (y .good .holds) x))

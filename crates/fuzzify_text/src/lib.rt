@@ -2,6 +2,7 @@
 ghost use mathlib.Core.Path.{_≡_};
 ghost use Prim.Native.Nat.{_<_};
 ghost use lib.ListN.{getD};
+ghost use Rattle.model.specs.Bounds.{termLimit, pointLimit};
 ghost use Rattle.model.specs.Tokens.{valueOf};
 ghost use Rattle.model.specs.Keywords.{ASSIGN, TERM, FUZZIFY};
 ghost use Rattle.model.specs.Parse.{expect as expected, listed, repeated};
@@ -62,7 +63,8 @@ fn position(s: &[u8], c: Cursor, n: usize, last: Crisp) -> At
 
 // The degree at position x: a point more for the last term of input i.
 fn degree(s: &[u8], p: ParseState, i: usize, x: Crisp) -> ParseState
-    requires { ⌜ Good (now s) p × Open (p .tables) i × (getD (p .tables .counts) (lastPlace (p .tables) i) 0 < 4) ⌝ }
+    requires { ⌜ Good (now s) p × Open (p .tables) i
+        × (getD (p .tables .counts) (lastPlace (p .tables) i) 0 < pointLimit) ⌝ }
     ensures { λ r. ⌜ Reads (aDegree i (x .0)) (now (s .entry)) p r ⌝ }
     ensures open { λ r. ⌜ Open (r .tables) i ⌝ }
 {
@@ -90,7 +92,8 @@ fn degree(s: &[u8], p: ParseState, i: usize, x: Crisp) -> ParseState
 
 // A point behind its parenthesis, after n others, the last position given.
 fn point_from(s: &[u8], p: ParseState, i: usize, n: usize, last: Crisp) -> ParseState
-    requires { ⌜ Good (now s) p × Open (p .tables) i × (getD (p .tables .counts) (lastPlace (p .tables) i) 0 < 4)
+    requires { ⌜ Good (now s) p × Open (p .tables) i
+        × (getD (p .tables .counts) (lastPlace (p .tables) i) 0 < pointLimit)
         × Ends (blockView (now s) (p .tables)) i n (last .0) ⌝ }
     ensures { λ r. ⌜ Reads (pointBody i) (now (s .entry)) p r ⌝ }
     ensures open { λ r. ⌜ Open (r .tables) i ⌝ }
@@ -196,7 +199,7 @@ fn term_points(s: &[u8], p: ParseState, i: usize) -> ParseState
 
 // The name of one term more for input i.
 fn term_name(s: &[u8], p: ParseState, i: usize) -> ParseState
-    requires { ⌜ Good (now s) p × (i < p .tables .«input_count») × (inputRow (p .tables) i .terms < 7) ⌝ }
+    requires { ⌜ Good (now s) p × (i < p .tables .«input_count») × (inputRow (p .tables) i .terms < termLimit) ⌝ }
     ensures { λ r. ⌜ Reads (termName i) (now (s .entry)) p r ⌝ }
     ensures input { λ r. ⌜ i < r .tables .«input_count» ⌝ }
     ensures open { λ r. ⌜ (r .cursor .why ≡ 0 → Open (r .tables) i) ⌝ }

@@ -1,4 +1,5 @@
--- A helper: the held record place by place, as the code goes over it. `held-tests` of proofs/Laws ties it to model's `heldOk`.
+-- A helper: the held record place by place, as the code goes over it.
+-- `held-tests` of proofs/Laws ties it to model's `heldOk`.
 use mathlib.Core.Bool.{Bool, _&&_}
 use Prim.Native.Nat.{ℕ}
 use lib.Dec.{eqb}

@@ -9,6 +9,7 @@ use Rattle.layout.proofs.Whole.{length-conditions}
 use Rattle.model.specs.Basic.{gather, total}
 use Rattle.model.specs.Block.{Rule, Conclusion, size}
 use Rattle.model.specs.Image.{ruleTable, conclusionWords}
+use Rattle.laws.proofs.Conditions.{length-pairs}
 use Rattle.block_tables.specs.Stored.{Stored, ruleRow}
 use Rattle.image.specs.Rows.{rows, ruleWords, ruleNext}
 
@@ -17,21 +18,27 @@ unfolding gather total
 length-joined [] = refl
 length-joined (r ∷ rs) = length-append (r .conclusions) _ ∙ ap (λ (n : ℕ). length (r .conclusions) + n) (length-joined rs)
 
-pub length-pairs : (ks : List Conclusion) → length (gather conclusionWords ks) ≡ length ks * 2
-unfolding gather
-length-pairs [] = refl
-length-pairs (k ∷ ks) = omega (arith, length-pairs ks)
-
 -- ROWS of four words
 four : (l : List ℕ) (m i : ℕ) → i * 4 + 4 ≤ length l
-    → take (suc m * 4) (drop (i * 4) l) ≡ getD l (i * 4) 0 ∷ getD l (i * 4 + 1) 0 ∷ getD l (i * 4 + 2) 0 ∷ getD l (i * 4 + 3) 0 ∷ take (m * 4) (drop (suc i * 4) l)
+    → take (suc m * 4) (drop (i * 4) l) ≡ getD l (i * 4) 0 ∷ getD l (i * 4 + 1) 0 ∷ getD l (i * 4 + 2) 0 ∷ getD l (i * 4 + 3) 0 ∷ take (m * 4)
+    (drop (suc i * 4) l)
 four l m i h =
     let e : suc m * 4 ≡ suc (suc (suc (suc (m * 4)))) = omega arith in
     let e1 : i * 4 + 1 ≡ suc (i * 4) = omega arith in
     let e2 : i * 4 + 2 ≡ suc (suc (i * 4)) = omega arith in
     let e3 : i * 4 + 3 ≡ suc (suc (suc (i * 4))) = omega arith in
     let e4 : suc i * 4 ≡ suc (suc (suc (suc (i * 4)))) = omega arith in
-    rw (e, e1, e2, e3, e4, drop-cons l (i * 4) 0 (omega arith), drop-cons l (suc (i * 4)) 0 (omega arith), drop-cons l (suc (suc (i * 4))) 0 (omega arith), drop-cons l (suc (suc (suc (i * 4)))) 0 (omega arith))
+    rw (
+      e,
+      e1,
+      e2,
+      e3,
+      e4,
+      drop-cons l (i * 4) 0 (omega arith),
+      drop-cons l (suc (i * 4)) 0 (omega arith),
+      drop-cons l (suc (suc (i * 4))) 0 (omega arith),
+      drop-cons l (suc (suc (suc (i * 4)))) 0 (omega arith),
+    )
 
 low : (x : ℕ) → x ≤ 4294967295 → x % 2 ^ 32 ≡ x
 low x h = omega arith
@@ -59,7 +66,8 @@ kept rules (r ∷ rs) (suc m) i n k h e a b =
       many = ap suc (rest .many);
     }
 
-module _ (rs : List Rule) (rules ws ks : List ℕ) (m n k : ℕ) (h : Stored rs rules ws ks m n k) (wide : length rules ≡ 256) (long : length ws ≡ 640) (full : length ks ≡ 256) where
+module _ (rs : List Rule) (rules ws ks : List ℕ) (m n k : ℕ) (h : Stored rs rules ws ks m n k) (wide : length rules ≡ 256) (long : length ws ≡ 640)
+    (full : length ks ≡ 256) where
   pub words-count : total (λ r. size (r .condition)) rs ≡ n
   words-count = sym (length-conditions rs) ∙ ap length (sym (h .words)) ∙ length-take-le n ws (omega (arith, h .few-words))
 

@@ -33,12 +33,14 @@ module _ (l : Slots) (x : ℕ) where
       go i false e = rw (getD-set-other (l .at) (l .count) i x 0 (eqb-false i (l .count) e)) (h .below i)
       go i true e = rw (eqb-true i (l .count) e, getD-set-same (l .at) (l .count) x 0 (omega (arith, h .size))) b
 
-  pub slot-more : (xs : List ℕ) (f : ℕ → ℕ) (j : ℕ) → l .count < length (l .at) → x ≡ f j → listOf l ≡ xs ++ tab f j 0 → listOf (longer l x) ≡ xs ++ tab f (j + 1) 0
+  pub slot-more : (xs : List ℕ) (f : ℕ → ℕ) (j : ℕ) → l .count < length (l .at) → x ≡ f j → listOf l ≡ xs ++ tab f j 0
+      → listOf (longer l x) ≡ xs ++ tab f (j + 1) 0
   slot-more xs f j h e p =
       let one : l .count + 1 ≡ suc (l .count) = omega arith in
       let two : j + 1 ≡ suc j = omega arith in
       let z : 0 + j ≡ j = omega arith in
-      rw (one, two) (take-suc-set (l .at) (l .count) x h ∙ (λ i. p i ++ (e i ∷ [])) ∙ append-assoc xs (tab f j 0) (f j ∷ []) ∙ ap (λ (y : List ℕ). xs ++ y) (rw z at (sym (tab-last f j 0))))
+      rw (one, two) (take-suc-set (l .at) (l .count) x h ∙ (λ i. p i ++ (e i ∷ [])) ∙ append-assoc xs (tab f j 0) (f j ∷ [])
+      ∙ ap (λ (y : List ℕ). xs ++ y) (rw z at (sym (tab-last f j 0))))
 
 -- the slots of one variable more
 module _ (c : ℕ → ℕ) (v n i : ℕ) (xs T : List ℕ) where

@@ -66,7 +66,8 @@ bit-type false = refl
 range-words : (v : Output) → rangeWords (rangeView v) ≡ bit (v .ranged) ∷ given (v .ranged) (v .least .0) ∷ given (v .ranged) (v .most .0) ∷ []
 range-words v = go (v .ranged)
   where
-    go : (b : Bool) → rangeWords (if b then some (record { least = v .least .0; most = v .most .0 }) else mathlib.Core.Option.none) ≡ bit b ∷ given b (v .least .0) ∷ given b (v .most .0) ∷ []
+    go : (b : Bool) → rangeWords (if b then some (record { least = v .least .0; most = v .most .0 }) else mathlib.Core.Option.none)
+        ≡ bit b ∷ given b (v .least .0) ∷ given b (v .most .0) ∷ []
     go true = refl
     go false = refl
 
@@ -80,7 +81,8 @@ default-words v = go (v .numbered)
 module _ (s : List ℕ) (t : Tables) where
   input-row : (n i : ℕ) → inputRow n (inputView s t i) ≡ inputWords s (t .names) (getD (t .inputs) i no-input) n i
   unfolding inputView inputWords
-  input-row n i = λ j. nameWords (nameOf s (t .names) i) ++ (bit-type (getD (t .inputs) i no-input .int) j ∷ n ∷ length-tab (termView s t i) (inputSize (t .inputs) i) 0 j ∷ [])
+  input-row n i = λ j. nameWords (nameOf s (t .names) i)
+      ++ (bit-type (getD (t .inputs) i no-input .int) j ∷ n ∷ length-tab (termView s t i) (inputSize (t .inputs) i) 0 j ∷ [])
 
   input-next : (n i : ℕ) → inputNext n (inputView s t i) ≡ n + inputSize (t .inputs) i
   unfolding inputView
@@ -94,7 +96,8 @@ module _ (s : List ℕ) (t : Tables) where
   unfolding outputView outputWords
   output-row n o =
       let v = getD (t .outputs) o no-output in
-      λ j. nameWords (nameOf s (t .names) (8 + o)) ++ (n ∷ length-tab (singletonView s t o) (outputSize (t .outputs) o) 0 j ∷ (range-words v j ++ default-words v j))
+      λ j. nameWords (nameOf s (t .names) (8 + o)) ++ (n ∷ length-tab (singletonView s t o) (outputSize (t .outputs) o) 0
+      j ∷ (range-words v j ++ default-words v j))
 
   output-next : (n o : ℕ) → outputNext n (outputView s t o) ≡ n + outputSize (t .outputs) o
   unfolding outputView
@@ -106,7 +109,8 @@ module _ (s : List ℕ) (t : Tables) where
 
   -- TERMS: the one in slot k
   slotPoints : ℕ → List block.Point
-  slotPoints k = if ltb k 56 then tab (pointView t) (getD (t .counts) k 0) (k * 4) else record { at = getD (t .singletons) (k - 56) zero-crisp .0; degree = M } ∷ []
+  slotPoints k = if ltb k 56 then tab (pointView t) (getD (t .counts) k 0) (k * 4) else record
+      { at = getD (t .singletons) (k - 56) zero-crisp .0; degree = M } ∷ []
 
   termOf : ℕ → block.Term
   termOf k = record { name = nameOf s (t .names) (14 + k); points = slotPoints k }
@@ -125,19 +129,25 @@ module _ (s : List ℕ) (t : Tables) where
       let e : 14 + (8 + o) * 7 + j ≡ 14 + ((8 + o) * 7 + j) = omega arith in
       let f : o * 7 + j ≡ (8 + o) * 7 + j - 56 = omega arith in
       let g : 56 ≤ (8 + o) * 7 + j = omega arith in
-      rw (le-ltb ((8 + o) * 7 + j) 56 g) (λ k. record { name = nameOf s (t .names) (e k); points = record { at = getD (t .singletons) (f k) zero-crisp .0; degree = M } ∷ [] })
+      rw (le-ltb ((8 + o) * 7 + j) 56 g) (λ k. record {
+        name = nameOf s (t .names) (e k);
+        points =
+            record { at = getD (t .singletons) (f k) zero-crisp .0; degree = M } ∷ [];
+      })
 
   module _ (ok : Holds s t) where
     input-terms : (n i : ℕ) → i + n ≤ 8 → gather (λ v. v .terms) (tab (inputView s t) n i) ≡ map termOf (rows (slotRow (inputSize (t .inputs)) 0) onward n i tt)
     unfolding gather tab rows inputView
     input-terms zero i h = refl
     input-terms (suc n) i h =
-        (λ j. (tab-ext (termView s t i) (λ k. termOf ((0 + i) * 7 + k)) (inputSize (t .inputs) i) 0 0 (λ k q. input-term i (0 + k) (omega arith) (omega (arith, ok .inputTerms i)))
+        (λ j. (tab-ext (termView s t i) (λ k. termOf ((0 + i) * 7 + k)) (inputSize (t .inputs) i) 0 0
+        (λ k q. input-term i (0 + k) (omega arith) (omega (arith, ok .inputTerms i)))
         ∙ sym (map-tab termOf (λ k. (0 + i) * 7 + k) (inputSize (t .inputs) i) 0)) j
         ++ input-terms n (suc i) (omega arith) j)
         ∙ sym (map-append termOf (tab (λ k. (0 + i) * 7 + k) (inputSize (t .inputs) i) 0) _)
 
-  output-terms : (n o : ℕ) → map singletonTerm (gather (λ v. v .terms) (tab (outputView s t) n o)) ≡ map termOf (rows (slotRow (outputSize (t .outputs)) 8) onward n o tt)
+  output-terms : (n o : ℕ) → map singletonTerm (gather (λ v. v .terms) (tab (outputView s t) n o))
+      ≡ map termOf (rows (slotRow (outputSize (t .outputs)) 8) onward n o tt)
   unfolding gather tab rows outputView
   output-terms zero o = refl
   output-terms (suc n) o =
@@ -152,7 +162,8 @@ module _ (s : List ℕ) (t : Tables) where
   unfolding slotPoints held
   slot-count k = go (ltb k 56)
     where
-      go : (b : Bool) → length (if b then tab (pointView t) (getD (t .counts) k 0) (k * 4) else record { at = getD (t .singletons) (k - 56) zero-crisp .0; degree = M } ∷ []) ≡ (if b then getD (t .counts) k 0 else 1)
+      go : (b : Bool) → length (if b then tab (pointView t) (getD (t .counts) k 0) (k * 4) else record
+          { at = getD (t .singletons) (k - 56) zero-crisp .0; degree = M } ∷ []) ≡ (if b then getD (t .counts) k 0 else 1)
       go true = length-tab (pointView t) (getD (t .counts) k 0) (k * 4)
       go false = refl
 
@@ -170,8 +181,10 @@ module _ (s : List ℕ) (t : Tables) where
       z : k * 4 + 0 ≡ k * 4
       z = omega arith
 
-      go : (b : Bool) → gather pointWords (if b then tab (pointView t) (getD (t .counts) k 0) (k * 4) else record { at = getD (t .singletons) (k - 56) zero-crisp .0; degree = M } ∷ [])
-          ≡ (if b then rows (pointRow (t .points) (k * 4)) onward (getD (t .counts) k 0) 0 tt else Rattle.model.specs.Image.crispWord (getD (t .singletons) (k - 56) zero-crisp .0) ∷ M ∷ [])
+      go : (b : Bool) → gather pointWords (if b then tab (pointView t) (getD (t .counts) k 0) (k * 4) else record
+          { at = getD (t .singletons) (k - 56) zero-crisp .0; degree = M } ∷ [])
+          ≡ (if b then rows (pointRow (t .points) (k * 4)) onward (getD (t .counts) k 0) 0 tt else Rattle.model.specs.Image.crispWord
+          (getD (t .singletons) (k - 56) zero-crisp .0) ∷ M ∷ [])
       go true = ap (λ (p : ℕ). gather pointWords (tab (pointView t) (getD (t .counts) k 0) p)) (sym z) ∙ points-from (k * 4) (getD (t .counts) k 0) 0
       go false = refl
 
@@ -186,7 +199,8 @@ module _ (s : List ℕ) (t : Tables) where
 
     pub first-output : length (gather (λ v. v .terms) (inputsView s t)) ≡ own .count
     first-output =
-        ap length input-terms-are ∙ length-map (listOf own) termOf ∙ length-take-le (own .count) (own .at) (omega (arith, order .own-listed .size, order .own-few))
+        ap length input-terms-are ∙ length-map (listOf own) termOf
+        ∙ length-take-le (own .count) (own .at) (omega (arith, order .own-listed .size, order .own-few))
 
     term-at : ℕ → block.Term
     term-at k = termOf (getD (list .at) k 0)
@@ -226,4 +240,5 @@ module _ (s : List ℕ) (t : Tables) where
         ap (λ (l : List block.Term). gather pointWords (gather (λ v. v .points) l)) terms-are
         ∙ gather-gather pointWords (λ v. v .points) (tab term-at (list .count) 0)
         ∙ gather-laid (λ v. gather pointWords (v .points)) (tab term-at (list .count) 0)
-        ∙ rows-laid (alone (λ (v : block.Term). gather pointWords (v .points))) layout.onward term-at _ onward (λ σ i. slot-points (getD (list .at) i 0)) (λ σ i. refl) (list .count) 0 tt
+        ∙ rows-laid (alone (λ (v : block.Term). gather pointWords (v .points))) layout.onward term-at _ onward
+        (λ σ i. slot-points (getD (list .at) i 0)) (λ σ i. refl) (list .count) 0 tt

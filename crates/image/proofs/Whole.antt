@@ -14,6 +14,7 @@ use Rattle.model.specs.Block.{Block, Rule, inputTerms, conclusions}
 use Rattle.model.specs.Block as block
 use Rattle.model.specs.Image.{terms, points, pairWord, pairOf, accuWord, accuOf, actWord, actOf, nameWords, inputTable, outputTable, termTable, pointWords, ruleTable, postfix, conclusionWords, counts, widths, offsets, endOf, headerSize, header, words, image}
 use Rattle.model.specs.Outcome.{accepted, refused, into, lengthIn, bufferAfter}
+use Rattle.laws.proofs.Conditions.{length-pairs}
 use Rattle.words.proofs.Bytes.{length-bytes}
 use Rattle.layout.specs.Tables.{inputRow, inputNext, outputRow, outputNext, termRow, termNext, ruleRow, ruleNext}
 use Rattle.layout.proofs.RowLaws.{length-laid}
@@ -30,7 +31,7 @@ use Rattle.image.specs.Rows.{heldIn, variableRows, ruleRows, countList, 
 use Rattle.image.proofs.Views.{Ordered, inputs-laid, outputs-laid, terms-laid, points-laid, first-output, terms-count, points-count}
 use Rattle.layout.proofs.Whole.{length-conditions}
 use Rattle.layout.proofs.Codes.{pair-code, accu-code, act-code}
-use Rattle.image.proofs.Kept.{length-pairs, words-count, conclusions-count, all-kept}
+use Rattle.image.proofs.Kept.{words-count, conclusions-count, all-kept}
 
 -- HOW LONG the words of a block are
 length-points : (ps : List block.Point) → length (gather pointWords ps) ≡ length ps * 2
@@ -147,7 +148,8 @@ module _ (s : List ℕ) (t : Tables) (h : Heading) (rs : List Rule) (ok : Holds 
       ∙ (λ j. 1 ∷ endOf headerSize (countList whole) widths ∷ (countList whole ++ (offsets headerSize (countList whole) widths
       ++ (pair-code (h .pair) (head .pair) j ∷ accu-code (h .accu) (head .accu) j ∷ act-code (h .act) (head .act) j ∷ 0 ∷ named))))
 
-  pub words-are : words (wholeView s t h rs) ≡ (headWords whole h ++ named) ++ (variableRows s t (own .count) list ++ (ruleRows rules m ++ (take n ws ++ take (k * 2) ks)))
+  pub words-are : words (wholeView s t h rs) ≡ (headWords whole h ++ named)
+      ++ (variableRows s t (own .count) list ++ (ruleRows rules m ++ (take n ws ++ take (k * 2) ks)))
   unfolding words wholeView variableRows ruleRows
   words-are =
       (λ j. header-is j

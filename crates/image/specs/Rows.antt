@@ -51,15 +51,20 @@ inputWords s names v n i = nameWords (nameOf s names i) ++ (bit (v .int) ∷ n �
 unfoldable pub outputWords : List ℕ → List ℕ → Output → ℕ → ℕ → List ℕ
 outputWords s names v n o =
     nameWords (nameOf s names (8 + o))
-    ++ (n ∷ v .terms ∷ bit (v .ranged) ∷ given (v .ranged) (v .least .0) ∷ given (v .ranged) (v .most .0) ∷ bit (v .numbered) ∷ given (v .numbered) (v .default .0) ∷ [])
+    ++ (n ∷ v .terms ∷ bit (v .ranged) ∷ given (v .ranged) (v .least .0) ∷ given (v .ranged)
+    (v .most .0) ∷ bit (v .numbered) ∷ given (v .numbered)
+    (v .default .0) ∷ [])
 
 unfoldable pub inputRows : List ℕ → List ℕ → List Input → ℕ → List ℕ
-inputRows s names inputs k = rows (λ n i. inputWords s names (getD inputs i no-input) n i) (λ n i. n + inputSize inputs i) k 0 0
+inputRows s names inputs k = rows (λ n i. inputWords s names (getD inputs i no-input) n i)
+    (λ n i. n + inputSize inputs i) k 0 0
 
 unfoldable pub outputRows : List ℕ → List ℕ → List Output → ℕ → ℕ → List ℕ
-outputRows s names outputs k n = rows (λ m o. outputWords s names (getD outputs o no-output) m o) (λ m o. m + outputSize outputs o) k 0 n
+outputRows s names outputs k n = rows (λ m o. outputWords s names (getD outputs o no-output) m o)
+    (λ m o. m + outputSize outputs o) k 0 n
 
--- SLOTS: term j of variable v is in slot 7v + j, outputs from variable 8 on. Those of k variables from v on, c giving how many terms each has
+-- SLOTS: term j of variable v is in slot 7v + j, outputs from variable 8 on. Those of k variables from v on, c giving
+-- how many terms each has
 abbrev pub slotRow : (ℕ → ℕ) → ℕ → Unit {0} → ℕ → List ℕ
 slotRow c v σ i = tab (λ j. (v + i) * 7 + j) (c i) 0
 
@@ -87,7 +92,8 @@ unfoldable pub termWords : List ℕ → List ℕ → List ℕ → ℕ → ℕ �
 termWords s names counts n k = nameWords (nameOf s names (14 + k)) ++ (n ∷ held counts k ∷ [])
 
 unfoldable pub termRows : List ℕ → List ℕ → List ℕ → List ℕ → ℕ → List ℕ
-termRows s names counts slots k = rows (λ n i. termWords s names counts n (getD slots i 0)) (λ n i. n + held counts (getD slots i 0)) k 0 0
+termRows s names counts slots k = rows (λ n i. termWords s names counts n (getD slots i 0))
+    (λ n i. n + held counts (getD slots i 0)) k 0 0
 
 -- POINTS of the terms in slots
 abbrev pub pointRow : List Point → ℕ → Unit {0} → ℕ → List ℕ
@@ -99,22 +105,26 @@ pointsIn points singletons counts k =
     else crispWord (getD singletons (k - 56) zero-crisp .0) ∷ M ∷ []
 
 unfoldable pub pointRows : List Point → List Crisp → List ℕ → List ℕ → ℕ → List ℕ
-pointRows points singletons counts slots k = rows (λ σ i. pointsIn points singletons counts (getD slots i 0)) onward k 0 tt
+pointRows points singletons counts slots k = rows (λ σ i. pointsIn points singletons counts (getD slots i 0))
+    onward k 0 tt
 
 -- the four tables, and how many words they are; first is how many of the terms in the list are of inputs
 unfoldable pub variableRows : List ℕ → Tables → ℕ → Slots → List ℕ
 variableRows s t first l =
     inputRows s (t .names) (t .inputs) (t .«input_count»)
     ++ (outputRows s (t .names) (t .outputs) (t .«output_count») first
-    ++ (termRows s (t .names) (t .counts) (l .at) (l .count) ++ pointRows (t .points) (t .singletons) (t .counts) (l .at) (l .count)))
+    ++ (termRows s (t .names) (t .counts) (l .at) (l .count) ++ pointRows (t .points) (t .singletons)
+    (t .counts) (l .at) (l .count)))
 
 abbrev pub variableWords : Tables → Slots → ℕ
-variableWords t l = t .«input_count» * 7 + t .«output_count» * 11 + l .count * 6 + heldIn (t .counts) (l .at) (l .count) * 2
+variableWords t l = t .«input_count» * 7 + t .«output_count» * 11 + l .count * 6 + heldIn (t .counts) (l .at)
+    (l .count) * 2
 
 -- RULES: the first condition word and the first conclusion of the next one, in 32 bits
 unfoldable pub ruleWords : List ℕ → ℕ × ℕ → ℕ → List ℕ
 ruleWords rules σ k =
-    getD rules (k * 4) 0 ∷ σ .0 ∷ getD rules (k * 4 + 1) 0 ∷ σ .1 ∷ getD rules (k * 4 + 2) 0 ∷ getD rules (k * 4 + 3) 0 ∷ []
+    getD rules (k * 4) 0 ∷ σ .0 ∷ getD rules (k * 4 + 1) 0 ∷ σ .1 ∷ getD rules (k * 4 + 2) 0 ∷ getD rules
+    (k * 4 + 3) 0 ∷ []
 
 abbrev pub ruleNext : List ℕ → ℕ × ℕ → ℕ → ℕ × ℕ
 ruleNext rules σ k = ((σ .0 + getD rules (k * 4 + 1) 0) % 2 ^ 32, (σ .1 + getD rules (k * 4 + 2) 0) % 2 ^ 32)

@@ -4,6 +4,7 @@ ghost use mathlib.Core.List.{List, _++_};
 ghost use Prim.Native.Nat.{ℕ, _+_, _*_, _≤_, _<_};
 ghost use lib.ListN.{length, getD};
 ghost use lib.Seq.{slice};
+ghost use Rattle.model.specs.Bounds.{inputLimit, outputLimit, termLimit, pointLimit, ruleLimit, wordLimit, conclusionLimit};
 ghost use Rattle.model.specs.Block.{Rule};
 ghost use Rattle.model.specs.Image.{crispWord, nameWords, image, tab};
 ghost use Rattle.model.specs.Outcome.{into, lengthIn, bufferAfter};
@@ -131,7 +132,7 @@ fn input_row(
     first: usize,
     i: usize,
 ) -> [u32; header::INPUT_WIDTH]
-    requires { ⌜ (i < 8) × (first ≤ 56) × (v .terms ≤ 7) × Placed (now s) (now names) ⌝ }
+    requires { ⌜ (i < inputLimit) × (first ≤ 56) × (v .terms ≤ termLimit) × Placed (now s) (now names) ⌝ }
     ensures { λ r. ⌜ r ≡ inputWords (now (s .entry)) (now (names .entry)) v first i ⌝ }
 {
     let n = name_words(s, names, i);
@@ -147,7 +148,7 @@ fn input_table(
     out: &mut [u8],
     at: usize,
 ) -> usize
-    requires { ⌜ (count ≤ 8) × Placed (now s) (now names) × ((i : ℕ) → inputSize inputs i ≤ 7)
+    requires { ⌜ (count ≤ inputLimit) × Placed (now s) (now names) × ((i : ℕ) → inputSize inputs i ≤ termLimit)
         × ((at + count * 7) * 4 ≤ length (now out)) ⌝ }
     ensures { λ r. ⌜ Wrote at r (inputRows (now (s .entry)) (now (names .entry)) inputs count)
         (now (out .entry)) (now (out .exit)) ⌝ }
@@ -173,7 +174,7 @@ fn output_row(
     first: usize,
     o: usize,
 ) -> [u32; header::OUTPUT_WIDTH]
-    requires { ⌜ (o < 6) × (first ≤ 98) × (v .terms ≤ 7) × Placed (now s) (now names) ⌝ }
+    requires { ⌜ (o < outputLimit) × (first ≤ 98) × (v .terms ≤ termLimit) × Placed (now s) (now names) ⌝ }
     ensures { λ r. ⌜ r ≡ outputWords (now (s .entry)) (now (names .entry)) v first o ⌝ }
 {
     let n = name_words(s, names, lookup::FIRST_OUTPUT + o);
@@ -213,7 +214,8 @@ fn output_table(
     out: &mut [u8],
     at: usize,
 ) -> usize
-    requires { ⌜ (count ≤ 6) × (first ≤ 56) × Placed (now s) (now names) × ((o : ℕ) → outputSize outputs o ≤ 7)
+    requires { ⌜ (count ≤ outputLimit) × (first ≤ 56) × Placed (now s) (now names) × ((o : ℕ)
+        → outputSize outputs o ≤ termLimit)
         × ((at + count * 11) * 4 ≤ length (now out)) ⌝ }
     ensures { λ r. ⌜ Wrote at r (outputRows (now (s .entry)) (now (names .entry)) outputs count first)
         (now (out .entry)) (now (out .exit)) ⌝ }
@@ -235,7 +237,7 @@ fn output_table(
 // TERMS AND POINTS
 // The slots of the n terms of variable v, behind the others.
 fn with_slots(list: Slots, v: usize, n: usize) -> Slots
-    requires { ⌜ (v < 14) × (n ≤ 7) × (list .count + n ≤ 98) × Listed list ⌝ }
+    requires { ⌜ (v < 14) × (n ≤ termLimit) × (list .count + n ≤ 98) × Listed list ⌝ }
     ensures { λ r. ⌜ Listed r × (r .count ≡ list .count + n) × (listOf r ≡ listOf list ++ tab (λ j. v * 7 + j) n 0) ⌝ }
 {
     let mut r = list;
@@ -250,7 +252,7 @@ fn with_slots(list: Slots, v: usize, n: usize) -> Slots
 }
 
 fn input_slots(inputs: [Input; bounds::INPUTS], count: usize) -> Slots
-    requires { ⌜ (count ≤ 8) × ((i : ℕ) → inputSize inputs i ≤ 7) ⌝ }
+    requires { ⌜ (count ≤ inputLimit) × ((i : ℕ) → inputSize inputs i ≤ termLimit) ⌝ }
     ensures { λ r. ⌜ Listed r × (r .count ≤ count * 7) × (listOf r ≡ slotsOf (inputSize inputs) 0 count) ⌝ }
 {
     let mut r = Slots {
@@ -267,7 +269,8 @@ fn input_slots(inputs: [Input; bounds::INPUTS], count: usize) -> Slots
 }
 
 fn output_slots(list: Slots, outputs: [Output; bounds::OUTPUTS], count: usize) -> Slots
-    requires { ⌜ (count ≤ 6) × (list .count ≤ 56) × ((o : ℕ) → outputSize outputs o ≤ 7) × Listed list ⌝ }
+    requires { ⌜ (count ≤ outputLimit) × (list .count ≤ 56) × ((o : ℕ) → outputSize outputs o ≤ termLimit)
+        × Listed list ⌝ }
     ensures { λ r. ⌜ Listed r × (r .count ≤ list .count + count * 7)
         × (listOf r ≡ listOf list ++ slotsOf (outputSize outputs) 8 count) ⌝ }
 {
@@ -283,8 +286,8 @@ fn output_slots(list: Slots, outputs: [Output; bounds::OUTPUTS], count: usize) -
 
 // How many points the term in slot k has: an output's has one.
 fn points_in(counts: &PointCounts, k: usize) -> usize
-    requires { ⌜ ((i : ℕ) → getD (now counts) i 0 ≤ 4) ⌝ }
-    ensures { λ r. ⌜ (r ≡ held (now (counts .entry)) k) × (r ≤ 4) ⌝ }
+    requires { ⌜ ((i : ℕ) → getD (now counts) i 0 ≤ pointLimit) ⌝ }
+    ensures { λ r. ⌜ (r ≡ held (now (counts .entry)) k) × (r ≤ pointLimit) ⌝ }
 {
     if k < bounds::INPUT_TERMS {
         return counts[k];
@@ -293,7 +296,7 @@ fn points_in(counts: &PointCounts, k: usize) -> usize
 }
 
 fn point_count(counts: &PointCounts, slots: &[usize; bounds::ALL_TERMS], n: usize) -> usize
-    requires { ⌜ (n ≤ 98) × ((i : ℕ) → getD (now counts) i 0 ≤ 4) ⌝ }
+    requires { ⌜ (n ≤ 98) × ((i : ℕ) → getD (now counts) i 0 ≤ pointLimit) ⌝ }
     ensures { λ r. ⌜ (r ≡ heldIn (now (counts .entry)) (now (slots .entry)) n) × (r ≤ n * 4) ⌝ }
 {
     let mut r: usize = 0;
@@ -312,7 +315,8 @@ fn term_row(
     first: usize,
     k: usize,
 ) -> [u32; header::TERM_WIDTH]
-    requires { ⌜ (k < 98) × (first ≤ 392) × ((i : ℕ) → getD (now counts) i 0 ≤ 4) × Placed (now s) (now names) ⌝ }
+    requires { ⌜ (k < 98) × (first ≤ 392) × ((i : ℕ) → getD (now counts) i 0 ≤ pointLimit)
+        × Placed (now s) (now names) ⌝ }
     ensures { λ r. ⌜ r ≡ termWords (now (s .entry)) (now (names .entry)) (now (counts .entry)) first k ⌝ }
 {
     let w = name_words(s, names, lookup::FIRST_TERM + k);
@@ -329,7 +333,7 @@ fn term_table(
     out: &mut [u8],
     at: usize,
 ) -> usize
-    requires { ⌜ (n ≤ 98) × ((i : ℕ) → getD (now slots) i 0 < 98) × ((i : ℕ) → getD (now counts) i 0 ≤ 4)
+    requires { ⌜ (n ≤ 98) × ((i : ℕ) → getD (now slots) i 0 < 98) × ((i : ℕ) → getD (now counts) i 0 ≤ pointLimit)
         × Placed (now s) (now names) × ((at + n * 6) * 4 ≤ length (now out)) ⌝ }
     ensures { λ r. ⌜ Wrote at r
         (termRows (now (s .entry)) (now (names .entry)) (now (counts .entry)) (now (slots .entry)) n)
@@ -383,7 +387,7 @@ fn slot_points(
     out: &mut [u8],
     at: usize,
 ) -> usize
-    requires { ⌜ (k < 98) × ((i : ℕ) → getD (now counts) i 0 ≤ 4)
+    requires { ⌜ (k < 98) × ((i : ℕ) → getD (now counts) i 0 ≤ pointLimit)
         × ((at + held (now counts) k * 2) * 4 ≤ length (now out)) ⌝ }
     ensures { λ r. ⌜ Wrote at r (pointsIn points singletons (now (counts .entry)) k)
         (now (out .entry)) (now (out .exit)) ⌝ }
@@ -407,7 +411,7 @@ fn point_table(
     out: &mut [u8],
     at: usize,
 ) -> usize
-    requires { ⌜ (n ≤ 98) × ((i : ℕ) → getD (now slots) i 0 < 98) × ((i : ℕ) → getD (now counts) i 0 ≤ 4)
+    requires { ⌜ (n ≤ 98) × ((i : ℕ) → getD (now slots) i 0 < 98) × ((i : ℕ) → getD (now counts) i 0 ≤ pointLimit)
         × ((at + heldIn (now counts) (now slots) n * 2) * 4 ≤ length (now out)) ⌝ }
     ensures { λ r. ⌜ Wrote at r (pointRows points singletons (now (counts .entry)) (now (slots .entry)) n)
         (now (out .entry)) (now (out .exit)) ⌝ }
@@ -450,8 +454,9 @@ fn rule_table(rules: &[u32], n: usize, out: &mut [u8], at: usize) -> usize
 // THE WHOLE
 // The seven counts of the header.
 fn entries(inputs: usize, outputs: usize, counts: &PointCounts, list: Slots, n: Totals) -> Counts
-    requires { ⌜ (inputs ≤ 8) × (outputs ≤ 6) × (list .count ≤ 98) × ((i : ℕ) → getD (now counts) i 0 ≤ 4)
-        × (n .rules ≤ 64) × (n .words ≤ 640) × (n .conclusions ≤ 128) ⌝ }
+    requires { ⌜ (inputs ≤ inputLimit) × (outputs ≤ outputLimit) × (list .count ≤ 98) × ((i : ℕ)
+        → getD (now counts) i 0 ≤ pointLimit)
+        × (n .rules ≤ ruleLimit) × (n .words ≤ wordLimit) × (n .conclusions ≤ conclusionLimit) ⌝ }
     ensures { λ r. ⌜ r ≡ entriesOf inputs outputs (now (counts .entry)) list n ⌝ }
     ensures few { λ r. ⌜ Few r ⌝ }
 {
@@ -560,7 +565,8 @@ pub fn store(
     n: Totals,
     out: &mut [u8],
 ) -> Written
-    requires { ⌜ Holds (now s) t × Headed (now s) h × (n .rules ≤ 64) × (n .words ≤ 640) × (n .conclusions ≤ 128) ⌝ }
+    requires { ⌜ Holds (now s) t × Headed (now s) h × (n .rules ≤ ruleLimit) × (n .words ≤ wordLimit)
+        × (n .conclusions ≤ conclusionLimit) ⌝ }
     ensures { λ r. ⌜ ((rs : List Rule)
         → Stored rs (now (rules .entry)) (now (words .entry)) (now (conclusions .entry))
         (n .rules) (n .words) (n .conclusions)

@@ -21,7 +21,7 @@ use Rattle.laws.proofs.Places.{At, at-shift, at-cut, tab-at, tab-from}
 use Rattle.layout.specs.Rows.{laid}
 use Rattle.layout.specs.Tables.{inputRow, inputNext, outputRow, outputNext, termRow, termNext, ruleRow, ruleNext, alone, onward}
 use Rattle.layout.proofs.TableLaws.{input-table, output-table, term-table, rule-table, gather-laid}
-use Rattle.layout.proofs.Parts.{wide-input, wide-output, wide-term}
+use Rattle.layout.proofs.Parts.{range-long, wide-input, wide-output, wide-term}
 use Rattle.stored_conditions.proofs.Stored.{tree-at}
 use Rattle.laws.proofs.Each.{Each}
 use Rattle.image_laws.proofs.Fields.{Spelt, name-back, crisp-back}
@@ -174,16 +174,12 @@ module _ (w : ℕ → ℕ) (b : Block) (f : Fine b) (p : Placed w b) where
           let ex : crispOf (w (o + 10)) ≡ x = ap crispOf (on o 10 _ (omega arith) ∙ a .1 .0) ∙ crisp-back x (h x refl) in
           rw (a .0) (λ j. some (ex j))
 
-      three : (g : Option Range) → length (rangeWords g) ≡ 3
-      three none = refl
-      three (some x) = refl
-
       row : (i n : ℕ) (v : Output) (vs : List Output) → At w (w 10 + i * 11) (outputRow n v) → X n (v ∷ vs) → (outputAt w i ≡ v) × X (n + length (v .terms)) vs
       row i n v vs a x =
           let o = w 10 + i * 11 in
           let c = at-cut w o (nameWords (v .name)) (n ∷ length (v .terms) ∷ (rangeWords (v .range) ++ defaultWords (v .default))) a in
           let d = at-cut w (suc (suc (o + 4))) (rangeWords (v .range)) (defaultWords (v .default)) (c .1 .1 .1) in
-          let z : suc (suc (o + 4)) + length (rangeWords (v .range)) ≡ o + 9 = omega (arith, three (v .range)) in
+          let z : suc (suc (o + 4)) + length (rangeWords (v .range)) ≡ o + 9 = omega (arith, range-long (v .range)) in
           let y = at-cut (singletonAt w) n (v .terms) (gather (λ u. u .terms) vs) (x .1) in
           let en = name-back w o (v .name) (x .0 .0 .name) (c .0) in
           let et = entries (singletonAt w) (w (o + 5)) (w (o + 4)) n (v .terms) (on o 5 _ (omega arith) ∙ c .1 .1 .0) (c .1 .0) (y .0) in

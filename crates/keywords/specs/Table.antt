@@ -1,4 +1,5 @@
--- A helper: what the rows of the code's table spell. The contract of `keyword_at` ties the table to `keywords` of the model.
+-- A helper: what the rows of the code's table spell. The contract of `keyword_at` ties the table to the model's
+-- `keywords`.
 use mathlib.Core.List.{List, [], _∷_}
 use Prim.Native.Nat.{ℕ}
 use lib.Dec.{eqb}

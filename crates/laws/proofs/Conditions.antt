@@ -1,10 +1,12 @@
--- Conditions: how many words their postfix has.
+-- Conditions and conclusions: how many words they have.
 use mathlib.Core.Path.{_≡_, refl, _∙_}
-use mathlib.Core.List.{[], _∷_, _++_}
+use mathlib.Core.List.{List, [], _∷_, _++_}
+use Prim.Native.Nat.{_*_}
 use native.Mathlib.Omega.{arith}
 use lib.ListN.{length, length-append}
-use Rattle.model.specs.Block.{Condition, term, neg, two, size}
-use Rattle.model.specs.Image.{opWord, postfix}
+use Rattle.model.specs.Basic.{gather}
+use Rattle.model.specs.Block.{Conclusion, Condition, term, neg, two, size}
+use Rattle.model.specs.Image.{conclusionWords, opWord, postfix}
 
 pub length-postfix : (c : Condition) → length (postfix c) ≡ size c
 unfolding postfix size
@@ -12,3 +14,8 @@ length-postfix (term t) = refl
 length-postfix (neg c) = length-append (postfix c) (0 ∷ []) ∙ omega (arith, length-postfix c)
 length-postfix (two o a b) =
     length-append (postfix a) (postfix b ++ (opWord o ∷ [])) ∙ omega (arith, length-append (postfix b) (opWord o ∷ []), length-postfix a, length-postfix b)
+
+pub length-pairs : (ks : List Conclusion) → length (gather conclusionWords ks) ≡ length ks * 2
+unfolding gather
+length-pairs [] = refl
+length-pairs (k ∷ ks) = omega (arith, length-pairs ks)

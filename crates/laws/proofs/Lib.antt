@@ -11,3 +11,4 @@ pub mod DummyTree
 pub mod Search
 pub mod Slices
 pub mod Again
+pub mod Signed

@@ -6,7 +6,7 @@ use Prim.Native.Nat.{ℕ, zero, suc, _+_, _<_}
 use native.Mathlib.Omega.{arith}
 use lib.ListN.{length, set}
 use lib.Seq.{sets}
-use Rattle.model.specs.Basic.{all, total, gather}
+use Rattle.model.specs.Basic.{updateLast, all, total, gather}
 use Rattle.model.specs.Image.{tab}
 use Rattle.laws.proofs.Tests.{both, and-assoc}
 
@@ -60,3 +60,15 @@ sets-append l p [] ys =
 sets-append l p (x ∷ xs) ys =
     let e : suc p + length xs ≡ p + suc (length xs) = omega arith in
     sets-append (set l p x) (suc p) xs ys ∙ ap (λ (k : ℕ). sets (sets (set l p x) (suc p) xs) k ys) e
+
+pub updateLast-snoc : {A : Type 0} (h : A → A) (xs : List A) (x : A) → updateLast h (xs ++ (x ∷ [])) ≡ xs ++ (h x ∷ [])
+unfolding updateLast
+updateLast-snoc h [] x = refl
+updateLast-snoc h (y ∷ []) x = refl
+updateLast-snoc {A} h (y ∷ z ∷ xs) x = ap (λ (l : List A). y ∷ l) (updateLast-snoc h (z ∷ xs) x)
+
+-- LISTS
+pub total-append : {A : Type 0} (f : A → ℕ) (xs ys : List A) → total f (xs ++ ys) ≡ total f xs + total f ys
+unfolding total
+total-append f [] ys = omega arith
+total-append f (x ∷ xs) ys = let e = total-append f xs ys in omega arith

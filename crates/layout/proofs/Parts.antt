@@ -32,6 +32,11 @@ wide-output n v = go (v .range) (v .default)
     go (some g) none = refl
     go (some g) (some x) = refl
 
+-- flag, min, max
+pub range-long : (g : Option Range) → length (rangeWords g) ≡ 3
+range-long none = refl
+range-long (some g) = refl
+
 pub wide-term : (n : ℕ) (t : Term) → length (termRow n t) ≡ 6
 unfolding nameWords
 wide-term n t = refl

@@ -10,7 +10,7 @@ use borrow.Author.Tests.{eq-eqb, eqb-true, le-leb, leb-true}
 use Rattle.model.specs.Basic.{all, gather, total, same}
 use Rattle.model.specs.Block.{Point, Term, Conclusion, Rule, inputTerms, conclusions, size, Condition, term, neg, two}
 use Rattle.model.specs.Image.{crispWord, crispOf, nameWords, nameAt, opWord, pairWord, pairOf, accuWord, accuOf, actWord, actOf, terms, points, postfix, inputTable, outputTable, termTable, pointWords, ruleTable, conclusionWords, offsets, endOf, header, words, tab, pointAt, termAt, inputAt, outputAt, conclusionAt, ruleAt, decode}
-use Rattle.laws.proofs.Conditions.{length-postfix}
+use Rattle.laws.proofs.Conditions.{length-pairs, length-postfix}
 use Rattle.laws.proofs.Lists.{gather-append}
 use Rattle.laws.proofs.Tests.{both, and-i, Every, passed, pass}
 use Rattle.laws.proofs.Places.{At, at-shift, at-cut, at-join, length-tab}
@@ -112,9 +112,6 @@ module _ (w : ℕ → ℕ) where
   rules-long n m =
       ap length (rule-table n m (tab (ruleAt w) (w 6) 0)) ∙ length-laid ruleRow ruleNext (ruleAt w) w 0 6 (λ σ r. refl) (n, m) (tab (ruleAt w) (w 6) 0)
       ∙ ap (λ (x : ℕ). x * 6) (length-tab (ruleAt w) (w 6) 0)
-
-  conclusions-long : (ks : List Conclusion) → length (gather conclusionWords ks) ≡ length ks * 2
-  conclusions-long ks = ap length (gather-laid conclusionWords ks) ∙ length-laid (alone conclusionWords) onward (conclusionAt w) w 0 2 (λ σ p. refl) tt ks
 
   lay : (o o′ : ℕ) (xs ys : List ℕ) → o ≡ o′ → xs ≡ ys → At w o xs → At w o′ ys
   lay o o′ xs ys e f h = subst (λ (k : ℕ). At w k ys) e (subst (λ (l : List ℕ). At w o l) f h)
@@ -373,7 +370,7 @@ module _ (w : ℕ → ℕ) where
     points′ = points-long (points (decode w)) ∙ ap (λ (x : ℕ). x * 2) p;
     rules = rules-long 0 0;
     words′ = length-conditions (decode w .rules) ∙ c;
-    conclusions′ = conclusions-long (conclusions (decode w)) ∙ ap (λ (x : ℕ). x * 2) k;
+    conclusions′ = length-pairs (conclusions (decode w)) ∙ ap (λ (x : ℕ). x * 2) k;
   }
 
   abbrev tables : List ℕ

@@ -1,28 +1,23 @@
 -- What a well-formed block has, test by test.
 use mathlib.Core.Path.{_≡_}
-use mathlib.Core.Bool.{true, _&&_, not}
+use mathlib.Core.Bool.{true, not}
 use mathlib.Core.List.{List, [], _∷_, _++_, map}
 use Prim.Native.Nat.{ℕ, _+_, _≤_, _<_}
-use borrow.Author.Tests.{leb-true, ltb-true}
+use borrow.Author.Tests.{leb-true, ltb-true, le-leb}
 use lib.Dec.{leb, eqb}
 use lib.ListN.{length}
 use Rattle.model.specs.Basic.{between, isEmpty, all, total, distinct}
 use Rattle.model.specs.Bounds.{inputLimit, outputLimit, termLimit, pointLeast, pointLimit, ruleLimit, wordLimit, conclusionLimit, nameLimit, ruleNumberLeast, ruleNumberLimit, depthLimit}
-use Rattle.model.specs.Tokens.{isName, sameName, starts, startsName, isNameByte, tidy}
-use Rattle.model.specs.Keywords.{isKeyword}
+use Rattle.model.specs.Tokens.{isName, sameName}
 use Rattle.model.specs.Block.{Term, Input, Output, Conclusion, Rule, Block, inputTerms, outputFirst, conclusions, size, singletonsOf}
 use Rattle.model.specs.Parentheses.{depth}
 use Rattle.model.specs.WellFormed
 use Rattle.laws.proofs.Tests.{both, passed}
+use Rattle.listing_laws.proofs.Pieces.{name-facts}
 use Rattle.listing_laws.proofs.Finding.{all-split, distinct-front, distinct-back, distinct-split, named, none-of}
 
 pub name-fits : (w : List ℕ) → isName w ≡ true → leb (length w) nameLimit ≡ true
-unfolding isName
-name-fits w h =
-    let a = both (starts startsName w) (all isNameByte w && (tidy w && (leb (length w) nameLimit && not (isKeyword w)))) h in
-    let b = both (all isNameByte w) (tidy w && (leb (length w) nameLimit && not (isKeyword w))) (a .1) in
-    let c = both (tidy w) (leb (length w) nameLimit && not (isKeyword w)) (b .1) in
-    both (leb (length w) nameLimit) (not (isKeyword w)) (c .1) .0
+name-fits w h = le-leb (length w) nameLimit (name-facts w h .short)
 
 pub counted : (a m n : ℕ) → between a m n ≡ true → (a ≤ n) × (n ≤ m)
 counted a m n h = let b = both (leb a n) (leb n m) h in (leb-true a n (b .0), leb-true n m (b .1))

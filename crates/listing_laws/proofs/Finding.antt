@@ -19,12 +19,6 @@ unfolding update
 update-at g [] y ys = refl
 update-at {A} g (x ∷ xs) y ys = ap (λ (l : List A). x ∷ l) (update-at g xs y ys)
 
-pub update-last : {A : Type 0} (g : A → A) (xs : List A) (y : A) → updateLast g (xs ++ (y ∷ [])) ≡ xs ++ (g y ∷ [])
-unfolding updateLast
-update-last g [] y = refl
-update-last g (x ∷ []) y = refl
-update-last {A} g (x ∷ z ∷ xs) y = ap (λ (l : List A). x ∷ l) (update-last g (z ∷ xs) y)
-
 -- the element in focus passes
 all-mid : {A : Type 0} (p : A → Bool) (xs : List A) (y : A) (ys : List A) → all p (xs ++ (y ∷ ys)) ≡ true → p y ≡ true
 unfolding all
@@ -202,12 +196,6 @@ map-cut {A} {B} g {xs} {n} c =
       split = ap (map g) (c .split) ∙ map-append g (c .before) (c .mid ∷ c .after);
       counted = length-map (c .before) g ∙ c .counted;
     }
-
--- LISTS GATHERED FROM LISTS
-pub total-append : {A : Type 0} (count : A → ℕ) (xs ys : List A) → total count (xs ++ ys) ≡ total count xs + total count ys
-unfolding total
-total-append count [] ys = omega arith
-total-append count (x ∷ xs) ys = omega (arith, total-append count xs ys)
 
 pub length-gather : {A B : Type 0} (h : A → List B) (count : A → ℕ) → ((x : A) → length (h x) ≡ count x)
     → (xs : List A) → length (gather h xs) ≡ total count xs

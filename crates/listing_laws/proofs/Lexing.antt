@@ -24,11 +24,12 @@ use Rattle.model.specs.declared.Activation.{Activation}
 use Rattle.model.specs.declared.Activation.the-variants.{Min as by-min, Prod as by-prod}
 use Rattle.model.specs.Listing.{commaed, digits, crispText, thousandthsText, TermNames, inputTermName, operator, wrapped, conditionText, typeText, inputLine, outputLine, pointText, termLine, fuzzifyText, rangeLine, singletonLine, defaultText, defuzzifyText, andText, orText, actText, accuText, conclusionText, weightText, ruleLine, ruleBlockText, listing}
 use Rattle.model.specs.Parentheses.{form, bareBehindNot, bareLeft, bareRight}
-use Rattle.model.specs.WellFormed.{pointOk, termOk, inputOk, singletonOk, outputOk, termsBelow, figureOk, conditionOk, conclusionOk, ruleOk, wellFormed}
+use Rattle.model.specs.WellFormed.{pointOk, termOk, inputOk, singletonOk, outputOk, termsBelow, figureOk, conclusionOk, ruleOk, wellFormed}
 use Rattle.laws.proofs.Tests.{both, passed}
 use Rattle.listing_laws.proofs.Items
 use Rattle.listing_laws.proofs.Items.{Item, itemOf, name, number, word, wordOf, colon, comma, semicolon, assign, dots, closing, opening, commas, within, conditionItems, typeItem, inputItems, outputItems, pointItems, termItems, fuzzifyItems, rangeItems, singletonItems, defaultItem, defuzzifyItems, conclusionItems, weightItems, ruleItems, ruleBlockItems, listingItems}
 use Rattle.listing_laws.proofs.Pieces.{cut, cut-is, Ends, Keyword, spelt, keyword, name-cut, keyword-cut, digits-cut, thousandths-cut, crisp-cut, opening-cut, crisp-start, name-start}
+use Rattle.listing_laws.proofs.Facts.{term-facts, input-facts, output-facts, rule-facts, block-facts}
 use Rattle.listing_laws.proofs.Names.{input-named, output-named, conclusion-named}
 
 -- the text w, in front of s, is cut into xs, and s into zs
@@ -134,7 +135,7 @@ term-cuts t s h =
     (named (t .name) (passed _ h .0) refl
     (text " := " (assign ∷ []) (λ s. refl)
     (part (commaed (map pointText (t .points))) (commas (map pointItems (t .points)))
-    (commaed-cuts pointText pointItems pointOk (λ p s h e. point-cuts p s) (t .points) _ (passed _ h .1 .1 .0) (refl, refl))
+    (commaed-cuts pointText pointItems pointOk (λ p s h e. point-cuts p s) (t .points) _ (term-facts t h .points) (refl, refl))
     (last ";\n" (semicolon ∷ []) (λ s. refl)))))
 
 pub fuzzify-cuts : (v : Input) (s : List ℕ) → inputOk v ≡ true → Cuts (fuzzifyText v) (fuzzifyItems v) s
@@ -144,7 +145,7 @@ fuzzify-cuts v s h =
     (named (v .name) (passed _ h .0) refl
     (text "\n" [] (λ s. refl)
     (part (gather termLine (v .terms)) (gather termItems (v .terms))
-    (gather-cuts termLine termItems termOk term-cuts (v .terms) _ (passed _ h .1 .1 .0))
+    (gather-cuts termLine termItems termOk term-cuts (v .terms) _ (input-facts v h .terms))
     (last "END_FUZZIFY\n" (word "END_FUZZIFY" ∷ []) (λ s. refl)))))
 
 -- SINGLETONS
@@ -180,7 +181,7 @@ defuzzify-cuts v s h =
     (text "\n" [] (λ s. refl)
     (part (rangeLine (v .range)) (rangeItems (v .range)) (range-cuts (v .range) _)
     (part (gather singletonLine (v .terms)) (gather singletonItems (v .terms))
-    (gather-cuts singletonLine singletonItems (singletonOk (v .range)) (singleton-cuts (v .range)) (v .terms) _ (passed _ h .1 .1 .1 .0))
+    (gather-cuts singletonLine singletonItems (singletonOk (v .range)) (singleton-cuts (v .range)) (v .terms) _ (output-facts v h .terms))
     (text "  METHOD : CoGS;\n  DEFAULT := " (word "METHOD" ∷ colon ∷ word "CoGS" ∷ semicolon ∷ word "DEFAULT" ∷ assign ∷ []) (λ s. refl)
     (part (defaultText (v .default)) (defaultItem (v .default) ∷ []) (default-cuts (v .default) _ (refl, refl))
     (last ";\nEND_DEFUZZIFY\n" (semicolon ∷ word "END_DEFUZZIFY" ∷ []) (λ s. refl))))))))
@@ -309,27 +310,25 @@ module _ (b : Block) (h : wellFormed b ≡ true) where
       go false q = rw q (text " WITH " (word "WITH" ∷ []) (λ s. refl) (record { cuts = thousandths-cut (w / 1000) s e }))
 
   rule-cuts : (r : Rule) (s : List ℕ) → ruleOk b r ≡ true → Cuts (ruleLine b r) (ruleItems b r) s
-  unfolding cut pieceAt wordPiece wordKind run tidy isKeyword ruleOk conditionOk ruleLine ruleItems
+  unfolding cut pieceAt wordPiece wordKind run tidy isKeyword ruleLine ruleItems
   rule-cuts r s o =
-      let f = passed _ o in
-      let t = both (termsBelow (length (inputTerms b)) (r .condition)) _ (f .1 .0) .0 in
+      let f = rule-facts b r o in
       text "  RULE " (word "RULE" ∷ []) (λ s. refl)
       (counted (r .number) (refl, refl)
       (text " : IF " (colon ∷ word "IF" ∷ []) (λ s. refl)
       (part (conditionText (inputTermName b) (r .condition)) (conditionItems (inputTermName b) (r .condition))
-      (condition-cuts (inputTermName b) (length (inputTerms b)) (input-named b h) (r .condition) _ t refl)
+      (condition-cuts (inputTermName b) (length (inputTerms b)) (input-named b h) (r .condition) _ (f .terms) refl)
       (text " THEN " (word "THEN" ∷ []) (λ s. refl)
       (part (commaed (map (conclusionText b) (r .conclusions))) (commas (map (conclusionItems b) (r .conclusions)))
-      (commaed-cuts (conclusionText b) (conclusionItems b) (conclusionOk b) conclusion-cuts (r .conclusions) _ (f .1 .1 .1 .0) (weight-ends (r .weight) s))
+      (commaed-cuts (conclusionText b) (conclusionItems b) (conclusionOk b) conclusion-cuts (r .conclusions) _ (f .conclusions) (weight-ends (r .weight) s))
       (part (weightText (r .weight)) (weightItems (r .weight)) (weight-cuts (r .weight) _ (refl, refl))
       (last ";\n" (semicolon ∷ []) (λ s. refl))))))))
 
   rule-block-cuts : (s : List ℕ) → Cuts (ruleBlockText b) (ruleBlockItems b) s
   unfolding cut pieceAt wordPiece wordKind run tidy isKeyword wellFormed ruleBlockText ruleBlockItems
   rule-block-cuts s =
-      let f = passed _ h in
       text "RULEBLOCK " (word "RULEBLOCK" ∷ []) (λ s. refl)
-      (named (b .ruleBlock) (f .1 .0) refl
+      (named (b .ruleBlock) (passed _ h .1 .0) refl
       (text "\n  AND : " (word "AND" ∷ colon ∷ []) (λ s. refl)
       (keyed (andText (b .pair)) (and-keyword (b .pair)) refl
       (text ";\n  OR : " (semicolon ∷ word "OR" ∷ colon ∷ []) (λ s. refl)
@@ -340,17 +339,16 @@ module _ (b : Block) (h : wellFormed b ≡ true) where
       (keyed (accuText (b .accu)) (accu-keyword (b .accu)) refl
       (text ";\n" (semicolon ∷ []) (λ s. refl)
       (part (gather (ruleLine b) (b .rules)) (gather (ruleItems b) (b .rules))
-      (gather-cuts (ruleLine b) (ruleItems b) (ruleOk b) rule-cuts (b .rules) _ (f .1 .1 .1 .1 .1 .1 .1 .1 .0))
+      (gather-cuts (ruleLine b) (ruleItems b) (ruleOk b) rule-cuts (b .rules) _ (block-facts b h .rules-ok))
       (last "END_RULEBLOCK\n" (word "END_RULEBLOCK" ∷ []) (λ s. refl)))))))))))))
 
   whole-cuts : CutsTo (listing b) (listingItems b) [] []
   unfolding cut pieceAt wordPiece wordKind run tidy isKeyword wellFormed listing listingItems
   whole-cuts =
-      let f = passed _ h in
-      let is = f .1 .1 .1 .1 .0 in
-      let os = f .1 .1 .1 .1 .1 .0 in
+      let is = block-facts b h .inputs-ok in
+      let os = block-facts b h .outputs-ok in
       text "FUNCTION_BLOCK " (word "FUNCTION_BLOCK" ∷ []) (λ s. refl)
-      (named (b .name) (f .0) refl
+      (named (b .name) (passed _ h .0) refl
       (text "\nVAR_INPUT\n" (word "VAR_INPUT" ∷ []) (λ s. refl)
       (part (gather inputLine (b .inputs)) (gather inputItems (b .inputs)) (gather-cuts inputLine inputItems inputOk input-cuts (b .inputs) _ is)
       (text "END_VAR\nVAR_OUTPUT\n" (word "END_VAR" ∷ word "VAR_OUTPUT" ∷ []) (λ s. refl)

@@ -4,7 +4,6 @@ use mathlib.Core.List.{List, [], _∷_, map}
 use mathlib.Core.Bool.{Bool, true, _&&_}
 use Prim.Native.Nat.{ℕ, zero, suc, _+_, _≤_, _<_}
 use native.Mathlib.Omega.{arith}
-use borrow.Author.Tests.{ltb-true}
 use lib.ListN.{length, take, getD, length-append, length-map}
 use Rattle.model.specs.Basic.{all, total, gather}
 use Rattle.model.specs.Tokens.{isName}
@@ -15,6 +14,7 @@ use Rattle.model.specs.WellFormed.{termOk, inputOk, singletonOk, figureOk, outp
 use Rattle.laws.proofs.Tests.{both, and-i, passed}
 use Rattle.laws.proofs.Lists.{all-append}
 use Rattle.listing_laws.proofs.Finding.{all-map, all-imp}
+use Rattle.listing_laws.proofs.Facts.{input-facts, output-facts, conclusion-facts, block-facts}
 
 all-getD : {A : Type 0} (p : A → Bool) (xs : List A) (d : A) (i : ℕ) → all p xs ≡ true → i < length xs → p (getD xs i d) ≡ true
 unfolding all
@@ -35,10 +35,10 @@ unfolding termOk
 term-named t h = passed _ h .0
 
 singletons-named : (v : Output) → outputOk v ≡ true → all (λ t. isName (t .name)) (v .terms) ≡ true
-unfolding outputOk singletonOk
+unfolding singletonOk
 singletons-named v h =
     all-imp (singletonOk (v .range)) (λ t. isName (t .name)) (λ t o. both (isName (t .name)) (figureOk (v .range) (t .at)) o .0)
-    (v .terms) (passed _ h .1 .1 .1 .0)
+    (v .terms) (output-facts v h .terms)
 
 output-terms : (o : ℕ) (vs : List Output)
     → total (λ v. length (v .terms)) (take o vs) + length (getD (map (λ v. v .terms) vs) o []) ≤ length (gather (λ v. v .terms) vs)
@@ -70,36 +70,26 @@ names-named v h =
     (v .terms) (f .1 .1 .0)
 
 terms-named : (v : Input) → inputOk v ≡ true → all (λ t. isName (t .name)) (v .terms) ≡ true
-unfolding inputOk
-terms-named v h = all-imp termOk (λ t. isName (t .name)) term-named (v .terms) (passed _ h .1 .1 .0)
+terms-named v h = all-imp termOk (λ t. isName (t .name)) term-named (v .terms) (input-facts v h .terms)
 
 variable-named : (v : Output) → outputOk v ≡ true → isName (v .name) ≡ true
 unfolding outputOk
 variable-named v h = passed _ h .0
 
 module _ (b : Block) (h : wellFormed b ≡ true) where
-  inputs-ok : all inputOk (b .inputs) ≡ true
-  unfolding wellFormed
-  inputs-ok = passed _ h .1 .1 .1 .1 .0
-
-  outputs-ok : all outputOk (b .outputs) ≡ true
-  unfolding wellFormed
-  outputs-ok = passed _ h .1 .1 .1 .1 .1 .0
-
   pub input-named : (t : ℕ) → t < length (inputTerms b) → (isName (inputTermName b t .variable) ≡ true) × (isName (inputTermName b t .term) ≡ true)
   unfolding inputTermName inputTermNames
   input-named t l =
       both (isName (inputTermName b t .variable)) (isName (inputTermName b t .term))
       (all-getD bothNamed (inputTermNames b) (record { variable = []; term = [] }) t
-      (all-gather inputOk bothNamed namesOf names-named (b .inputs) inputs-ok) (omega (arith, names-length (b .inputs))))
+      (all-gather inputOk bothNamed namesOf names-named (b .inputs) (block-facts b h .inputs-ok)) (omega (arith, names-length (b .inputs))))
 
   module _ (k : Conclusion) (o : conclusionOk b k ≡ true) where
     pub output-named : isName (getD (map (λ v. v .name) (b .outputs)) (k .output) []) ≡ true
-    unfolding conclusionOk
     output-named =
-        let l : k .output < length (b .outputs) = ltb-true (k .output) (length (b .outputs)) (passed _ o .0) in
+        let l = conclusion-facts b k o .output in
         all-getD isName (map (λ v. v .name) (b .outputs)) [] (k .output)
-        (all-map isName (λ v. v .name) (b .outputs) ∙ all-imp outputOk (λ v. isName (v .name)) variable-named (b .outputs) outputs-ok)
+        (all-map isName (λ v. v .name) (b .outputs) ∙ all-imp outputOk (λ v. isName (v .name)) variable-named (b .outputs) (block-facts b h .outputs-ok))
         (omega (arith, length-map (b .outputs) (λ v. v .name)))
 
     all-named : all isName (map (λ t. t .name) (terms b)) ≡ true
@@ -107,14 +97,14 @@ module _ (b : Block) (h : wellFormed b ≡ true) where
         all-map isName (λ t. t .name) (terms b)
         ∙ all-append (λ t. isName (t .name)) (inputTerms b) (map singletonTerm (outputTerms b))
         ∙ and-i (all (λ t. isName (t .name)) (inputTerms b)) (all (λ t. isName (t .name)) (map singletonTerm (outputTerms b)))
-        (all-gather inputOk (λ t. isName (t .name)) (λ v. v .terms) terms-named (b .inputs) inputs-ok)
+        (all-gather inputOk (λ t. isName (t .name)) (λ v. v .terms) terms-named (b .inputs) (block-facts b h .inputs-ok))
         (all-map (λ t. isName (t .name)) singletonTerm (outputTerms b)
-        ∙ all-gather outputOk (λ t. isName (t .name)) (λ v. v .terms) singletons-named (b .outputs) outputs-ok)
+        ∙ all-gather outputOk (λ t. isName (t .name)) (λ v. v .terms) singletons-named (b .outputs) (block-facts b h .outputs-ok))
 
     pub conclusion-named : isName (getD (map (λ t. t .name) (terms b)) (k .term) []) ≡ true
-    unfolding conclusionOk outputFirst singletonsOf
+    unfolding outputFirst singletonsOf
     conclusion-named =
-        let l = ltb-true (k .term) (outputFirst (k .output) b + length (singletonsOf (k .output) b)) (passed _ o .1 .1 .0) in
+        let l = conclusion-facts b k o .most in
         all-getD isName (map (λ t. t .name) (terms b)) [] (k .term) all-named
         (omega (arith, length-map (terms b) (λ t. t .name), length-append (inputTerms b) (map singletonTerm (outputTerms b)),
         length-map (outputTerms b) singletonTerm, output-terms (k .output) (b .outputs)))

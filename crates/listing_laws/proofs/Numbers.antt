@@ -213,7 +213,7 @@ unfolding isCrisp
 is-crisp z h = and-i (digitsFit (crispText z)) (inCrisp (valueOf (crispText z))) (crisp-fits z h) (rw (value-crisp z) h)
 
 module _ (d : ℕ) (h : unitOk d ≡ true) where
-  unit-facts : (d ≤ M) × (d % 1000 ≡ 0)
+  pub unit-facts : (d ≤ M) × (d % 1000 ≡ 0)
   unfolding unitOk
   unit-facts = let b = both (leb d M) (eqb (d % 1000) 0) h in (leb-true d M (b .0), eqb-true (d % 1000) 0 (b .1))
 

@@ -18,10 +18,11 @@ use Rattle.model.specs.Parse.{Parse, Part, kind, text, is, advance, change, exp
 use Rattle.model.specs.Declarations.{inputOf, isInput, termOf, isTerm, addTerm, addPoint, lastPoints, pointsOf, pointPosition, pointDegree, pointBody, point, endOfPoints, termName, inputTerm, fuzzifyOf, fuzzifyVariable, fuzzify}
 use Rattle.model.specs.Listing.{crispText, unitText}
 use Rattle.model.specs.WellFormed.{unitOk, pointOk, rising, termOk}
+use Rattle.laws.proofs.Lists.{updateLast-snoc}
 use Rattle.laws.proofs.Tests.{both}
 use Rattle.listing_laws.proofs.Items.{Item, name, number, word, comma, closing, semicolon, assign, commas, pointItems, termItems, fuzzifyItems}
 use Rattle.listing_laws.proofs.Numbers.{value-crisp, is-crisp, is-unit, unit-back}
-use Rattle.listing_laws.proofs.Finding.{getD-cut, update-at, update-last, all-split, distinct-split, named, none-of, index-at, found, not-found, name-self, filled}
+use Rattle.listing_laws.proofs.Finding.{getD-cut, update-at, all-split, distinct-split, named, none-of, index-at, found, not-found, name-self, filled}
 use Rattle.listing_laws.proofs.Facts.{InputFacts, TermFacts, term-facts}
 use Rattle.listing_laws.proofs.Reading.{at, headKind, judged-pass, expects, listed-reads, some-read}
 use Rattle.listing_laws.proofs.Stages.{staged, focus, bareInput}
@@ -78,7 +79,7 @@ module _ (f : ℕ → ℕ) (n : List ℕ) (os : List Output) (ds rest : List Inp
   unfolding addPoint
   point-added p ts t =
       ap (λ (is : List Input). staged n is os) (update-at (withTerms (updateLast (withPoint p))) ds (part (ts ++ (t ∷ []))) rest)
-      ∙ ap having (update-last (withPoint p) ts t)
+      ∙ ap having (updateLast-snoc (withPoint p) ts t)
 
   -- ONE TERM
   module _ (ts : List Term) (t : Term) (es : List Term) (e : v .terms ≡ ts ++ (t ∷ es)) where

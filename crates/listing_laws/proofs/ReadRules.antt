@@ -24,10 +24,10 @@ use Rattle.model.specs.Rules.{conditionRead, condition, addRule, changeRule, al
 use Rattle.model.specs.Image.{terms}
 use Rattle.model.specs.Listing.{inputTermNames, inputTermName, digits, unitText, andText, orText, actText, accuText}
 use Rattle.model.specs.WellFormed.{unitOk, conclusionOk, ruleOk}
-use Rattle.laws.proofs.Lists.{gather-append, gather-last, total-last}
+use Rattle.laws.proofs.Lists.{gather-append, gather-last, total-last, updateLast-snoc, total-append}
 use Rattle.listing_laws.proofs.Items.{Item, name, number, word, wordOf, colon, semicolon, commas, conditionItems, conclusionItems, weightItems, ruleItems, ruleBlockItems}
 use Rattle.listing_laws.proofs.Numbers.{decimal-digits, is-rule-number, is-unit, unit-back}
-use Rattle.listing_laws.proofs.Finding.{update-last, all-split, all-map, distinct-earlier, total-append, filled, not-empty}
+use Rattle.listing_laws.proofs.Finding.{all-split, all-map, distinct-earlier, filled, not-empty}
 use Rattle.listing_laws.proofs.Facts.{BlockFacts, RuleFacts, rule-facts, conclusion-facts, inputs-apart, outputs-apart}
 use Rattle.listing_laws.proofs.Reading.{at, own-name, headKind, judged-pass, expects, change-at, listed-reads, some-read}
 use Rattle.listing_laws.proofs.Stages.{staged}
@@ -76,7 +76,7 @@ module _ (f : ℕ → ℕ) (b : Block) (h : BlockFacts b) where
 
   changed : (g : Rule → Rule) (ds : List Rule) (q : Rule) → changeRule g (ruled (ds ++ (q ∷ []))) ≡ ruled (ds ++ (g q ∷ []))
   unfolding changeRule
-  changed g ds q = ap ruled (update-last g ds q)
+  changed g ds q = ap ruled (updateLast-snoc g ds q)
 
   no-weight : (xs : List Item) (c : Block) (w : ℕ) → weighted (at f (semicolon ∷ xs) c w) ≡ at f (semicolon ∷ xs) c w
   unfolding weighted at kind

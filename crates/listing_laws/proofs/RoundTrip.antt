@@ -1,7 +1,7 @@
--- A listing that fits a text reads back to its block.
+-- A listing reads back to its block.
 use mathlib.Core.Path.{_≡_}
 use mathlib.Core.Bool.{true}
-use Prim.Native.Nat.{_≤_}
+use native.Mathlib.Omega.{arith}
 use borrow.Author.Tests.{le-ltb}
 use lib.ListN.{length}
 use Rattle.model.specs.Bounds.{textLimit}
@@ -13,7 +13,9 @@ use Rattle.model.specs.Reader.{reads}
 use Rattle.model.specs.WellFormed.{wellFormed}
 use Rattle.listing_laws.proofs.Lexing.{listing-lexes}
 use Rattle.listing_laws.proofs.ReadListing.{items-read}
+use Rattle.listing_laws.proofs.Room.{listing-short}
 
-pub listing-reads : (b : Block) → wellFormed b ≡ true → length (listing b) ≤ textLimit → reads (listing b) ≡ accepted b
+pub listing-reads : (b : Block) → wellFormed b ≡ true → reads (listing b) ≡ accepted b
 unfolding reads
-listing-reads b h l = rw (le-ltb textLimit (length (listing b)) l) (items-read b h (tokens (listing b)) (listing-lexes b h))
+listing-reads b h =
+    rw (le-ltb textLimit (length (listing b)) (omega (arith, listing-short b h))) (items-read b h (tokens (listing b)) (listing-lexes b h))

@@ -21,7 +21,8 @@ module _ (s : List ℕ) (a e b f : ℕ) (he : e ≤ length s) (hf : f ≤ length
   differ-long h = other-length (slice a e s) (slice b f s) (λ q. h (sym (length-slice a e s he) ∙ q ∙ length-slice b f s hf))
 
   module _ (j : ℕ) (ha : a + j < e) (hb : b + j < f) where
-    pub alike-more : getD s (a + j) 0 ≡ getD s (b + j) 0 → sameName (slice (a + j) e s) (slice (b + j) f s) ≡ sameName (slice (a + (j + 1)) e s) (slice (b + (j + 1)) f s)
+    pub alike-more : getD s (a + j) 0 ≡ getD s (b + j) 0
+        → sameName (slice (a + j) e s) (slice (b + j) f s) ≡ sameName (slice (a + (j + 1)) e s) (slice (b + (j + 1)) f s)
     unfolding sameName
     alike-more q =
         let ka : a + (j + 1) ≡ suc (a + j) = omega arith in

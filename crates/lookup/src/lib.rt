@@ -8,8 +8,8 @@ ghost use Rattle.model.specs.Tokens.{sameName};
 ghost use Rattle.model.specs.Image.{tab};
 ghost use Rattle.lookup.specs.Names.{nameOf, Placed};
 
-// Names as places in the text: name k starts at place k of them and ends at place ENDS + k. Name v is that of variable v,
-// inputs first; then come those of the terms, TERMS of them for each variable.
+// Names as places in the text: name k starts at place k of them and ends at place ENDS + k. Name v is that of variable
+// v, inputs first; then come those of the terms, TERMS of them for each variable.
 pub type Names = [usize; ENDS + bounds::NAMES];
 
 pub const ENDS: usize = bounds::NAMES;

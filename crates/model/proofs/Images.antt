@@ -4,7 +4,7 @@ use mathlib.Core.Option.{none}
 use mathlib.Core.Path.{_≡_, refl}
 use Prim.Native.Nat.{ℕ}
 use lib.ListN.{set, take, drop}
-use Rattle.model.specs.Block.{Block}
+use Rattle.model.specs.Block.{Block, Pair, Accumulation, Activation, min-max, prod-asum, bdif-bsum, by-max, by-bsum, by-min, by-prod, withPair, withAccu, withAct}
 use Rattle.model.specs.Outcome.{Outcome, refused}
 use Rattle.model.specs.Image
 use Rattle.model.specs.Image.{words, bytesOf, image, loads}
@@ -20,6 +20,15 @@ header-places :
     ∷ Image.PAIR-WORD ∷ Image.ACCU-WORD ∷ Image.ACT-WORD ∷ Image.BLOCK-NAME ∷ Image.RULE-BLOCK-NAME ∷ []
     ≡ numbersFrom 17 2 ++ (20 ∷ 24 ∷ [])
 header-places = refl
+
+-- pair, ACCU, ACT and a zero
+abbrev codes : Pair → Accumulation → Activation → List ℕ
+codes p c a = take 4 (drop 16 (words (withPair p (withAccu c (withAct a trust)))))
+
+header-codes : codes min-max by-max by-min ∷ codes prod-asum by-bsum by-min ∷ codes bdif-bsum by-max by-prod ∷ []
+    ≡ (0 ∷ 0 ∷ 0 ∷ 0 ∷ []) ∷ (1 ∷ 1 ∷ 0 ∷ 0 ∷ []) ∷ (2 ∷ 0 ∷ 1 ∷ 0 ∷ []) ∷ []
+unfolding opened
+header-codes = refl
 
 pub record Edit : Type 0 where
   pub at : ℕ

@@ -13,11 +13,12 @@ use Rattle.model.specs.Block.{Block}
 use Rattle.model.specs.Keywords.{NUMBER}
 use Rattle.model.specs.Parse.{is, text, aCrisp, aUnit}
 use Rattle.model.specs.Tokens.{isCrisp, isUnit, isRuleNumber, isDigit, valueOf, unitOf, decimal}
+use Rattle.laws.proofs.Tests.{clash}
 use Rattle.laws.proofs.Slices.{part}
 use Rattle.numerals.specs.Written.{crispWritten, unitWritten, ruleNumberWritten}
 use Rattle.cursor.specs.declared.Cursor.{Cursor}
 use Rattle.cursor.specs.View.{seen, textOf, fault}
-use Rattle.cursor.proofs.Laws.{kind-seen, text-seen, clash}
+use Rattle.cursor.proofs.Laws.{kind-seen, text-seen}
 
 -- what stands for a number that passes
 pub value-here : {A : Type 0} (w : ℕ) (x v z : A) → x ≡ (if eqb w 0 then v else z) → w ≡ 0 → x ≡ v
@@ -60,7 +61,8 @@ module _ (s : List ℕ) (c : Cursor) where
     unit-fault true q e = e ∙ sym (simp (kind-seen, text-seen, eq-eqb _ _ h, sym piece-is, q))
     unit-fault false q e = e ∙ sym (simp (kind-seen, text-seen, eq-eqb _ _ h, sym piece-is, q))
 
-    pub number-fault : (t : Bool) → isRuleNumber piece ≡ t → w ≡ (if t then 0 else 3) → w ≡ fault ((is NUMBER (seen s c b n), 2) ∷ (isRuleNumber (text (seen s c b n)), 3) ∷ [])
+    pub number-fault : (t : Bool) → isRuleNumber piece ≡ t → w ≡ (if t then 0 else 3)
+        → w ≡ fault ((is NUMBER (seen s c b n), 2) ∷ (isRuleNumber (text (seen s c b n)), 3) ∷ [])
     unfolding fault
     number-fault true q e = e ∙ sym (simp (kind-seen, text-seen, eq-eqb _ _ h, sym piece-is, q))
     number-fault false q e = e ∙ sym (simp (kind-seen, text-seen, eq-eqb _ _ h, sym piece-is, q))
@@ -95,5 +97,6 @@ module _ (s : List ℕ) (c : Cursor) where
   number-no v h e = by (isRuleNumber piece) refl
     where
       by : (t : Bool) → isRuleNumber piece ≡ t → isRuleNumber piece ≡ false
-      by true q = let z = leb-true 1 (decimal piece) (third (all isDigit piece) (leb (length piece) 7) _ _ q) in let y : v ≡ decimal piece = e ∙ simp q refl in absurd (omega arith)
+      by true q = let z = leb-true 1 (decimal piece) (third (all isDigit piece) (leb (length piece) 7) _ _ q) in let y : v ≡ decimal piece =
+          e ∙ simp q refl in absurd (omega arith)
       by false q = q

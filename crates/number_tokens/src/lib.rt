@@ -1,4 +1,4 @@
-// The number that stands at the cursor: a crisp value, a degree or weight, a rule number; or by which refusal it is none.
+// The number at the cursor: a crisp value, a degree or weight, a rule number; or by which refusal it is none.
 ghost use mathlib.Core.Path.{_≡_};
 ghost use mathlib.Core.List.{[], _∷_};
 ghost use Prim.Native.Nat.{ℕ};

@@ -15,6 +15,8 @@ use mir.ValLaws.{toZ-pos, toZ-ofZ}
 use Rattle.model.specs.Basic.{if_then_else_, all, run, between}
 use Rattle.model.specs.Bounds.{crispLimit, ruleNumberLimit}
 use Rattle.model.specs.Tokens.{isDigit, starts, decimal, magnitude, valueOf, digitsFit, isCrisp, isUnit, unitOf, isRuleNumber}
+use Rattle.laws.proofs.Signed as laws-signed
+use Rattle.laws.proofs.Signed.{taken-from-zero}
 use Rattle.numerals.specs.Written.{magnitudeWritten, crispWritten, unitWritten, unitLimit, ruleNumberWritten}
 use Rattle.numerals.proofs.Digits.{written}
 
@@ -22,18 +24,11 @@ abbrev signed : Bool → ℕ → ℤ
 signed b m = if b then negℤ (pos m) else pos m
 
 -- -m as the code makes it
-minus : (m : ℕ) → m ≤ crispLimit → pos 0 -ℤ toZ w32 m ≡ negℤ (pos m)
-minus m h = ap (λ (z : ℤ). pos 0 -ℤ z) (toZ-pos w32 m (omega arith)) ∙ +ℤ-idl (negℤ (pos m))
-
 pub minus-fits : (m : ℕ) → m ≤ crispLimit → SFits w32 (pos 0 -ℤ toZ w32 m)
-minus-fits m h = rw (minus m h) (go m h)
-  where
-    go : (m : ℕ) → m ≤ crispLimit → SFits w32 (negℤ (pos m))
-    go zero h = record { sfits = omega arith }
-    go (suc m) h = record { sfits = omega arith }
+minus-fits m h = rw (taken-from-zero m h) (laws-signed.minus-fits m h)
 
-pub minus-is : (m : ℕ) → m ≤ crispLimit → toZ w32 (ofZ w32 (pos 0 -ℤ toZ w32 m)) ≡ signed true m
-minus-is m h = toZ-ofZ w32 (pos 0 -ℤ toZ w32 m) (minus-fits m h) ∙ minus m h
+pub minus-is : (m : ℕ) → m ≤ crispLimit → toZ w32 (ofZ w32 (pos 0 -ℤ toZ w32 m)) ≡ negℤ (pos m)
+minus-is = laws-signed.negated
 
 pub plus-is : (m : ℕ) → m ≤ crispLimit → toZ w32 m ≡ signed false m
 plus-is m h = toZ-pos w32 m (omega arith)

@@ -1,4 +1,5 @@
-// Numbers by their text: crisp values, degrees and weights, rule numbers. Any bytes are taken; what is no number is told so.
+// Numbers by their text: crisp values, degrees and weights, rule numbers. Any bytes are taken, and what is
+// no number is told so.
 use model::Crisp;
 use model::Degree;
 ghost use mathlib.Core.Path.{_≡_};
@@ -21,7 +22,7 @@ pub struct UnitText {
     pub value: Degree,
 }
 
-// The digits of a number without its sign: whether there are few enough, and the thousandths; 0 where there are too many.
+// The digits of a number without its sign: whether there are few enough, and the thousandths, 0 for too many.
 struct Amount {
     fits: bool,
     thousandths: u64,

@@ -4,12 +4,13 @@ use mathlib.Core.Bool.{true}
 use mathlib.Core.List.{List, [], _++_, append-nil}
 use Prim.Native.Nat.{ℕ, suc, _≤_, _<_}
 use native.Mathlib.Omega.{arith}
-use borrow.Author.Tests.{eq-eqb}
+use borrow.Author.Tests.{eq-eqb, ne-eqb}
 use lib.ListN.{length}
 use Rattle.model.specs.Block.{Block}
 use Rattle.model.specs.Keywords.{COMMA}
 use Rattle.model.specs.Parse.{Parse, Part, Checks, kind, text, refuse, change, advance, judged, expect, repeatOn, repeated, listed}
-use Rattle.laws.proofs.Again.{Again, again-more, again-end, repeats, once-more, no-more}
+use Rattle.laws.proofs.Again.{Again, again-more, again-end, repeats}
+use Rattle.laws.proofs.Repetition.{turn, no-turn}
 use Rattle.cursor.specs.declared.Cursor.{Cursor}
 use Rattle.cursor.specs.View.{seen, textOf, Fits, left, Step, fault}
 use Rattle.cursor.proofs.Laws as cursor
@@ -91,13 +92,13 @@ module _ (k : ℕ) (part : Part) (s : List ℕ) where
   pub goes : (p₀ p r : ParseState) → Going k part s p₀ p → p .cursor .kind ≡ k → Reads part s p r → left s (r .cursor) < left s (p .cursor)
       → Going k part s p₀ r
   goes p₀ p r g h q m =
-      let turn : (f : ℕ) → repeatOn (suc f) k part (view s p) ≡ repeatOn f k part (view s r) =
-      λ f. once-more k part (view s p) (kind-view s p ∙ h) f ∙ ap (repeatOn f k part) (sym (q .reads)) in
-      (omega arith, q .good, again-more (repeats k part) turn m (g .2))
+      let one : (f : ℕ) → repeatOn (suc f) k part (view s p) ≡ repeatOn f k part (view s r) =
+      λ f. turn k part f (view s p) (eq-eqb _ _ (kind-view s p ∙ h)) ∙ ap (repeatOn f k part) (sym (q .reads)) in
+      (omega arith, q .good, again-more (repeats k part) one m (g .2))
 
   pub leaves : (p₀ p : ParseState) → Going k part s p₀ p → (p .cursor .kind ≡ k → ⊥) → Reads (repeated k part) s p₀ p
   leaves p₀ p g h = record {
-    reads = again-end (repeats k part) (no-more k part (view s p) (λ z. h (sym (kind-view s p) ∙ z))) (g .2);
+    reads = again-end (repeats k part) (λ f. no-turn k part f (view s p) (ne-eqb _ _ (λ z. h (sym (kind-view s p) ∙ z)))) (g .2);
     fewer = g .0;
     good = g .1;
   }

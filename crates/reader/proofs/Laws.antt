@@ -90,7 +90,8 @@ module _ (s : List ℕ) (t : Tables) (h : Heading) where
     read-so =
         ap backText (rules ∙ ap (λ (z : Parse). repeated RULE rule (rule z)) (head ∙ ap opening front)) ∙ sym parts
 
-    module _ (f : Cursor) (x : Ends (seen s f (holding rs (headed s h (blockView s t))) n) (backText (seen s e (holding rs (headed s h (blockView s t))) n))) where
+    module _ (f : Cursor) (x : Ends (seen s f (holding rs (headed s h (blockView s t))) n)
+        (backText (seen s e (holding rs (headed s h (blockView s t))) n))) where
       abbrev end : Parse
       end = functionBlock (start s)
 

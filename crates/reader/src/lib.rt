@@ -1,6 +1,7 @@
 // The reader: an FCL text to its stored image, or the refusal by number and place.
 ghost use mathlib.Core.Path.{_≡_};
 ghost use lib.ListN.{length};
+ghost use Rattle.model.specs.Bounds.{textLimit};
 ghost use Rattle.model.specs.Outcome.{lengthIn, bufferAfter};
 ghost use Rattle.model.specs.Refusals.{writtenOf};
 ghost use Rattle.model.specs.Reader.{start};
@@ -16,7 +17,7 @@ use rule_text::Progress;
 
 // From the rule block on: p is what stands before it.
 fn read_on(s: &[u8], p: ParseState, out: &mut [u8]) -> Written
-    requires { ⌜ Good (now s) p × (view (now s) p ≡ frontText (start (now s))) × (length (now s) ≤ 65536) ⌝ }
+    requires { ⌜ Good (now s) p × (view (now s) p ≡ frontText (start (now s))) × (length (now s) ≤ textLimit) ⌝ }
     ensures { λ r. ⌜ writtenOf r ≡ lengthIn (readsInto (length (now (out .entry))) (now (s .entry))) ⌝ }
     ensures buffer { λ r. ⌜ now (out .exit)
         ≡ bufferAfter (now (out .entry)) (readsInto (length (now (out .entry))) (now (s .entry))) ⌝ }

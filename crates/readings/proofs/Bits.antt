@@ -79,14 +79,3 @@ no-nan (fin s m e) h = tt
 pub is-nan : (x : Float) → ne x x ≡ true → NotFinite ≡ realOf x
 unfolding realOf
 is-nan x h = ap realOf (sym (differs-from-itself x (subst T (sym h) tt)))
-
--- the negated magnitude, as the code makes it
-pub minus-fits : (n : ℕ) → n ≤ crispLimit → SFits w32 (negℤ (pos n))
-minus-fits zero h = record { sfits = omega arith }
-minus-fits (suc n) h = record { sfits = omega arith }
-
-pub taken-from-zero : (n : ℕ) → n ≤ crispLimit → pos 0 -ℤ toZ w32 n ≡ negℤ (pos n)
-taken-from-zero n h = ap (λ (z : ℤ). pos 0 -ℤ z) (toZ-pos w32 n (omega arith)) ∙ +ℤ-idl (negℤ (pos n))
-
-pub negated : (n : ℕ) → n ≤ crispLimit → toZ w32 (ofZ w32 (pos 0 -ℤ toZ w32 n)) ≡ negℤ (pos n)
-negated n h = ap (λ (z : ℤ). toZ w32 (ofZ w32 z)) (taken-from-zero n h) ∙ toZ-ofZ w32 (negℤ (pos n)) (minus-fits n h)

@@ -36,17 +36,64 @@ none-yet = record { start = 0; end = 0; pair = 0; accu = 0; act = 0 }
 
 pub bare : (s : List ℕ) (b : Block) → Bare b → headed s none-yet b ≡ b
 bare s b h =
-    ap (λ (w : List ℕ). record { name = b .name; inputs = b .inputs; outputs = b .outputs; ruleBlock = w; pair = min-max; act = by-min; accu = by-max; rules = b .rules }) (slice-empty 0 s ∙ sym (h .ruleBlock))
-    ∙ ap (λ (w : Pair). record { name = b .name; inputs = b .inputs; outputs = b .outputs; ruleBlock = b .ruleBlock; pair = w; act = by-min; accu = by-max; rules = b .rules }) (sym (h .pair))
-    ∙ ap (λ (w : Activation). record { name = b .name; inputs = b .inputs; outputs = b .outputs; ruleBlock = b .ruleBlock; pair = b .pair; act = w; accu = by-max; rules = b .rules }) (sym (h .act))
-    ∙ ap (λ (w : Accumulation). record { name = b .name; inputs = b .inputs; outputs = b .outputs; ruleBlock = b .ruleBlock; pair = b .pair; act = b .act; accu = w; rules = b .rules }) (sym (h .accu))
+    ap (λ (w : List ℕ). record {
+      name = b .name;
+      inputs = b .inputs;
+      outputs = b .outputs;
+      ruleBlock = w;
+      pair = min-max;
+      act = by-min;
+      accu =
+          by-max;
+      rules = b .rules;
+    }) (slice-empty 0 s ∙ sym (h .ruleBlock))
+    ∙ ap (λ (w : Pair). record {
+      name = b .name;
+      inputs = b .inputs;
+      outputs = b .outputs;
+      ruleBlock = b .ruleBlock;
+      pair = w;
+      act = by-min;
+      accu =
+          by-max;
+      rules = b .rules;
+    }) (sym (h .pair))
+    ∙ ap (λ (w : Activation). record {
+      name = b .name;
+      inputs = b .inputs;
+      outputs = b .outputs;
+      ruleBlock = b .ruleBlock;
+      pair = b .pair;
+      act =
+          w;
+      accu = by-max;
+      rules = b .rules;
+    }) (sym (h .act))
+    ∙ ap (λ (w : Accumulation). record {
+      name = b .name;
+      inputs = b .inputs;
+      outputs = b .outputs;
+      ruleBlock = b .ruleBlock;
+      pair = b .pair;
+      act =
+          b .act;
+      accu = w;
+      rules = b .rules;
+    }) (sym (h .accu))
 
 -- PARTS ONE AFTER THE OTHER
-pub stepped : {f : Part} {s : List ℕ} {d : Cursor} (p : Opened) → Step f s (p .cursor) d → Headed s (p .heading) → Opens f s p (record { cursor = d; heading = p .heading })
+pub stepped : {f : Part} {s : List ℕ} {d : Cursor} (p : Opened) → Step f s (p .cursor) d → Headed s (p .heading)
+    → Opens f s p (record { cursor = d; heading = p .heading })
 stepped {f} {s} p a h = record { reads = λ b n. a .reads (headed s (p .heading) b) n; fewer = a .fewer; fits = a .fits; headed = h }
 
 pub opens-then : {f g : Part} {s : List ℕ} {p q r : Opened} → Opens f s p q → Opens g s q r → Opens (λ y. g (f y)) s p r
-opens-then {f} {g} {s} {p} {q} {r} x y = record { reads = λ b n. y .reads b n ∙ ap g (x .reads b n); fewer = let u = x .fewer in let v = y .fewer in omega arith; fits = y .fits; headed = y .headed }
+opens-then {f} {g} {s} {p} {q} {r} x y = record {
+  reads = λ b n. y .reads b n ∙ ap g (x .reads b n);
+  fewer = let u = x .fewer in let v = y .fewer in
+      omega arith;
+  fits = y .fits;
+  headed = y .headed;
+}
 
 pub opens-as : {f g : Part} {s : List ℕ} {p r : Opened} → ((b : Block) (n : ℕ) → g (view s p b n) ≡ f (view s p b n)) → Opens f s p r → Opens g s p r
 opens-as e x = record { reads = λ b n. x .reads b n ∙ sym (e b n); fewer = x .fewer; fits = x .fits; headed = x .headed }
@@ -56,7 +103,8 @@ pub passed : {g : Part} {s : List ℕ} {d : Cursor} (p : Opened) (h : Heading) �
     → ((b : Block) (n : ℕ) → g (view s p b n) ≡ advance (seen s (p .cursor) (headed s h b) n)) → Opens g s p (record { cursor = d; heading = h })
 passed {g} {s} p h a k e = record { reads = λ b n. a .reads (headed s h b) n ∙ sym (e b n); fewer = a .fewer; fits = a .fits; headed = k }
 
-pub stays : {s : List ℕ} {g : Part} (p : Opened) → Fits s (p .cursor) → Headed s (p .heading) → ((b : Block) (n : ℕ) → g (view s p b n) ≡ view s p b n) → Opens g s p p
+pub stays : {s : List ℕ} {g : Part} (p : Opened) → Fits s (p .cursor) → Headed s (p .heading)
+    → ((b : Block) (n : ℕ) → g (view s p b n) ≡ view s p b n) → Opens g s p p
 stays p f h e = record { reads = λ b n. sym (e b n); fewer = omega arith; fits = f; headed = h }
 
 module _ (s : List ℕ) (p : Opened) where
@@ -70,11 +118,13 @@ module _ (s : List ℕ) (p : Opened) where
   pub name-headed : Fits s (p .cursor) → Headed s h → Headed s with-name
   name-headed f k = record { order = f .order; inside = f .inside; pair = k .pair; accu = k .accu; act = k .act }
 
-  pub name-fault : (w : ℕ) (b : Block) (n : ℕ) → w ≡ fault (aName (view s p b n) []) → (w ≡ 0 → ⊥) → ownName withRuleBlock (view s p b n) ≡ refuse w (view s p b n)
+  pub name-fault : (w : ℕ) (b : Block) (n : ℕ) → w ≡ fault (aName (view s p b n) []) → (w ≡ 0 → ⊥)
+      → ownName withRuleBlock (view s p b n) ≡ refuse w (view s p b n)
   unfolding ownName
   name-fault w b n e z = let y = view s p b n in judged-bad y (advance (change (withRuleBlock (text y)) y)) w (aName y []) [] (sym e) z
 
-  pub name-given : (b : Block) (n : ℕ) → 0 ≡ fault (aName (view s p b n) []) → p .cursor .why ≡ 0 → ownName withRuleBlock (view s p b n) ≡ advance (seen s (p .cursor) (headed s with-name b) n)
+  pub name-given : (b : Block) (n : ℕ) → 0 ≡ fault (aName (view s p b n) []) → p .cursor .why ≡ 0
+      → ownName withRuleBlock (view s p b n) ≡ advance (seen s (p .cursor) (headed s with-name b) n)
   unfolding ownName judged numbered
   name-given b n e z =
       let y = view s p b n in
@@ -112,11 +162,13 @@ module _ (s : List ℕ) (p : Opened) where
   same-pair (suc (suc (suc a))) c u v = absurd (omega arith)
 
   algorithm-some : (second : Bool) (a : ℕ) (b : Block) (n : ℕ) → (a ≡ 3 → ⊥)
-      → algorithm second (pairAt a) (view s p b n) ≡ (if not second || samePair (pairOf a) (pairOf (h .pair)) then advance (change (withPair (pairOf a)) (view s p b n)) else refuse 8 (view s p b n))
+      → algorithm second (pairAt a) (view s p b n) ≡ (if not second || samePair (pairOf a) (pairOf (h .pair)) then advance
+      (change (withPair (pairOf a)) (view s p b n)) else refuse 8 (view s p b n))
   unfolding algorithm judged seen
   algorithm-some second a b n z = ap (λ (x : Option Pair). algorithm second x (view s p b n)) (a-pair a z)
 
-  pub algorithm-other : (second : Bool) (a : ℕ) (b : Block) (n : ℕ) → a ≤ 2 → Headed s h → second ≡ true → (h .pair ≡ a → ⊥) → algorithm second (pairAt a) (view s p b n) ≡ refuse 8 (view s p b n)
+  pub algorithm-other : (second : Bool) (a : ℕ) (b : Block) (n : ℕ) → a ≤ 2 → Headed s h → second ≡ true → (h .pair ≡ a → ⊥)
+      → algorithm second (pairAt a) (view s p b n) ≡ refuse 8 (view s p b n)
   algorithm-other second a b n u k e z =
       algorithm-some second a b n (λ y. omega arith) ∙ simp (e, same-pair a (h .pair) u (k .pair), ne-eqb a (h .pair) (λ y. z (sym y)))
 
@@ -132,8 +184,10 @@ module _ (s : List ℕ) (p : Opened) where
   may-second true a u k e = simp (same-pair a (h .pair) u (k .pair), eq-eqb a (h .pair) (sym e))
   may-second false a u k e = refl
 
-  pub line-pair : (second : Bool) (k w : ℕ) (b : Block) (n : ℕ) → pairs k (p .cursor .kind) ≡ pairAt w → algorithm second (pairs k (kind (view s p b n))) (view s p b n) ≡ algorithm second (pairAt w) (view s p b n)
-  line-pair second k w b n e = ap (λ (x : Option Pair). algorithm second x (view s p b n)) (ap (λ (y : ℕ). pairs k y) (kind-seen s (p .cursor) (headed s h b) n) ∙ e)
+  pub line-pair : (second : Bool) (k w : ℕ) (b : Block) (n : ℕ) → pairs k (p .cursor .kind) ≡ pairAt w
+      → algorithm second (pairs k (kind (view s p b n))) (view s p b n) ≡ algorithm second (pairAt w) (view s p b n)
+  line-pair second k w b n e = ap (λ (x : Option Pair). algorithm second x (view s p b n))
+      (ap (λ (y : ℕ). pairs k y) (kind-seen s (p .cursor) (headed s h b) n) ∙ e)
 
   -- ACTIVATION AND ACCUMULATION
   abbrev with-act : ℕ → Heading

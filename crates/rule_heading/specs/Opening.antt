@@ -50,7 +50,8 @@ pub record Bare (b : Block) : Type 0 where
 
 -- whatever else the block has, part is read from p to r
 pub record Opens (part : Part) (s : List ℕ) (p r : Opened) : Type 0 where
-  pub reads : (b : Block) (n : ℕ) → seen s (r .cursor) (headed s (r .heading) b) n ≡ part (seen s (p .cursor) (headed s (p .heading) b) n)
+  pub reads : (b : Block) (n : ℕ) → seen s (r .cursor) (headed s (r .heading) b) n
+      ≡ part (seen s (p .cursor) (headed s (p .heading) b) n)
   pub fewer : left s (r .cursor) ≤ left s (p .cursor)
   pub fits : Fits s (r .cursor)
   pub headed : Headed s (r .heading)

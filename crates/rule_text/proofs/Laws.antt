@@ -17,15 +17,16 @@ use Rattle.model.specs.Parse.{Parse, Part, kind, text, is, refuse, advance, cha
 use Rattle.model.specs.Tokens.{decimal, unitOf, isRuleNumber}
 use Rattle.model.specs.Declarations.{inputOf, outputOf, termOf, singletonOf, isOutput, isSingleton}
 use Rattle.model.specs.Rules.{ConditionRead, addRule, changeRule, ruleNumber, concludedTerm, conclusion, weight, weighted, condition, conditionWith, parenthesis, ruleGiven, ruleFrom, rule}
+use Rattle.laws.proofs.Tests.{clash}
 use Rattle.laws.proofs.Conditions.{length-postfix}
-use Rattle.laws.proofs.Lists.{gather-append, gather-last, total-last}
-use Rattle.laws.proofs.Again.{Again, again-more, again-end, repeats, once-more, no-more}
+use Rattle.laws.proofs.Lists.{gather-append, gather-last, total-last, updateLast-snoc}
+use Rattle.laws.proofs.Again.{Again, again-more, again-end, repeats}
+use Rattle.laws.proofs.Repetition.{turn, no-turn}
 use Rattle.cursor.specs.declared.Cursor.{Cursor}
 use Rattle.cursor.specs.View.{seen, textOf, Fits, left, Step, fault}
-use Rattle.cursor.proofs.Laws.{kind-seen, text-seen, block-seen, changed, unchanged, clash, judged-bad, judged-good, numbered, lost-is, lost-expect, lost-judged, lost-repeated}
+use Rattle.cursor.proofs.Laws.{kind-seen, text-seen, block-seen, changed, unchanged, judged-bad, judged-good, numbered, lost-is, lost-expect, lost-judged, lost-repeated}
 use Rattle.block_tables.specs.declared.Totals.{Totals}
 use Rattle.block_tables.specs.Stored.{ruleRow}
-use Rattle.block_tables.proofs.Lists.{updateLast-snoc}
 use Rattle.symbol_table.specs.Symbols.{Describes, outputCount, termCount, first, among}
 use Rattle.condition_text.specs.Pending.{Adds}
 use Rattle.condition_text.proofs.Laws.{adds, words-put}
@@ -95,13 +96,15 @@ module _ (s : List ℕ) (c : Cursor) (b : Block) (m : ℕ) where
 
   pub number-fault : (w : ℕ) → w ≡ fault ((is NUMBER now, 2) ∷ (isRuleNumber (text now), 3) ∷ []) → (w ≡ 0 → ⊥) → ruleNumber now ≡ refuse w now
   unfolding ruleNumber
-  number-fault w e h = judged-bad now (advance now) w ((is NUMBER now, 2) ∷ (isRuleNumber (text now), 3) ∷ []) ((all (λ q. not (eqb (q .number) (decimal (text now)))) (now .block .rules), 4) ∷ []) (sym e) h
+  number-fault w e h = judged-bad now (advance now) w ((is NUMBER now, 2) ∷ (isRuleNumber (text now), 3) ∷ [])
+      ((all (λ q. not (eqb (q .number) (decimal (text now)))) (now .block .rules), 4) ∷ []) (sym e) h
 
   module _ (e : 0 ≡ fault ((is NUMBER now, 2) ∷ (isRuleNumber (text now), 3) ∷ [])) (x : ℕ) (v : x ≡ decimal (textOf s c)) where
     number-formed : ruleNumber now ≡ (if all (λ q. not (eqb (q .number) x)) (b .rules) then advance now else refuse 4 now)
     unfolding ruleNumber judged numbered
     number-formed =
-        judged-good now (advance now) ((is NUMBER now, 2) ∷ (isRuleNumber (text now), 3) ∷ []) ((all (λ q. not (eqb (q .number) (decimal (text now)))) (now .block .rules), 4) ∷ []) refl (sym e)
+        judged-good now (advance now) ((is NUMBER now, 2) ∷ (isRuleNumber (text now), 3) ∷ [])
+        ((all (λ q. not (eqb (q .number) (decimal (text now)))) (now .block .rules), 4) ∷ []) refl (sym e)
         ∙ ap (λ (y : ℕ). if all (λ q. not (eqb (q .number) y)) (now .block .rules) then advance now else refuse 4 now) (ap decimal (text-seen s c b m) ∙ sym v)
         ∙ ap (λ (y : Block). if all (λ q. not (eqb (q .number) x)) (y .rules) then advance now else refuse 4 now) (block-seen s c b m)
 
@@ -135,23 +138,28 @@ same-size : {m n : ℕ} {ws old new : List ℕ} → Adds m n ws old new → leng
 same-size {m} {n} {ws} {old} {new} a = ap length (a .said) ∙ length-sets old m ws
 
 pub same-words : {m n n′ : ℕ} {ws ws′ old new : List ℕ} → n ≡ n′ → ws ≡ ws′ → Adds m n ws old new → Adds m n′ ws′ old new
-same-words {m} {n} {n′} {ws} {ws′} {old} {new} e f a = record { put = sym e ∙ a .put ∙ ap (λ (l : List ℕ). m + length l) f; said = a .said ∙ ap (λ (l : List ℕ). sets old m l) f }
+same-words {m} {n} {n′} {ws} {ws′} {old} {new} e f a =
+    record { put = sym e ∙ a .put ∙ ap (λ (l : List ℕ). m + length l) f; said = a .said ∙ ap (λ (l : List ℕ). sets old m l) f }
 
 -- CONCLUSIONS
 gives-none : (q : Rule) → gives [] q ≡ q
-gives-none q = ap (λ (l : List Conclusion). record { number = q .number; condition = q .condition; conclusions = l; weight = q .weight }) (append-nil (q .conclusions))
+gives-none q = ap (λ (l : List Conclusion). record { number = q .number; condition = q .condition; conclusions = l; weight = q .weight })
+    (append-nil (q .conclusions))
 
 gives-more : (q : Rule) (xs ys : List Conclusion) → gives (xs ++ ys) q ≡ gives ys (gives xs q)
-gives-more q xs ys = ap (λ (l : List Conclusion). record { number = q .number; condition = q .condition; conclusions = l; weight = q .weight }) (sym (append-assoc (q .conclusions) xs ys))
+gives-more q xs ys = ap (λ (l : List Conclusion). record { number = q .number; condition = q .condition; conclusions = l; weight = q .weight })
+    (sym (append-assoc (q .conclusions) xs ys))
 
-pub given-count : (rs : List Rule) (q : Rule) (ks : List Conclusion) → length (gather (λ r. r .conclusions) (rs ++ (gives ks q ∷ []))) ≡ length (gather (λ r. r .conclusions) (rs ++ (q ∷ []))) + length ks
+pub given-count : (rs : List Rule) (q : Rule) (ks : List Conclusion)
+    → length (gather (λ r. r .conclusions) (rs ++ (gives ks q ∷ []))) ≡ length (gather (λ r. r .conclusions) (rs ++ (q ∷ []))) + length ks
 given-count rs q ks =
     let f : Rule → List Conclusion = λ r. r .conclusions in
     ap length (gather-last f rs (gives ks q)) ∙ length-append (gather f rs) (q .conclusions ++ ks)
     ∙ (let e = length-append (q .conclusions) ks in let g = ap length (gather-last f rs q) ∙ length-append (gather f rs) (q .conclusions) in omega arith)
 
 pub concludes-none : {part : Part} {s : List ℕ} {b : Block} {rs : List Rule} {q : Rule} {m : ℕ} {p r : Concluded} (w : ℕ) (l : List ℕ)
-    → Step (refuse w) s (p .cursor) (r .cursor) → r .count ≡ p .count → part (seen s (p .cursor) (midst b rs q) m) ≡ refuse w (seen s (p .cursor) (midst b rs q) m) → Concludes part s b rs q m p r l l
+    → Step (refuse w) s (p .cursor) (r .cursor) → r .count ≡ p .count
+    → part (seen s (p .cursor) (midst b rs q) m) ≡ refuse w (seen s (p .cursor) (midst b rs q) m) → Concludes part s b rs q m p r l l
 unfolding gather
 concludes-none {part} {s} {b} {rs} {q} {m} {p} {r} w l a e f = record {
   more = [];
@@ -186,10 +194,12 @@ pub step-concludes : {f g : Part} {s : List ℕ} {b : Block} {rs : List Rule} {q
 step-concludes {f} {g} {s} {b} {rs} {q} {m} a x = record { more = x .more; reads = x .reads ∙ ap g (a .reads (midst b rs q) m); count = x .count; put = x .put }
 
 pub as-well : {part other : Part} {s : List ℕ} {b : Block} {rs : List Rule} {q : Rule} {m : ℕ} {p r : Concluded} {old new : List ℕ}
-    → other (seen s (p .cursor) (midst b rs q) m) ≡ part (seen s (p .cursor) (midst b rs q) m) → Concludes part s b rs q m p r old new → Concludes other s b rs q m p r old new
+    → other (seen s (p .cursor) (midst b rs q) m) ≡ part (seen s (p .cursor) (midst b rs q) m) → Concludes part s b rs q m p r old new
+    → Concludes other s b rs q m p r old new
 as-well e x = record { more = x .more; reads = x .reads ∙ sym e; count = x .count; put = x .put }
 
-pub step-onward : {f : Part} {s : List ℕ} {p r : Concluded} {d : Cursor} → Step f s (p .cursor) d → Onward s (record { cursor = d; count = p .count }) r → Onward s p r
+pub step-onward : {f : Part} {s : List ℕ} {p r : Concluded} {d : Cursor} → Step f s (p .cursor) d
+    → Onward s (record { cursor = d; count = p .count }) r → Onward s p r
 step-onward {f} {s} {p} {r} {d} a x = record { fewer = let u = x .fewer in let v = a .fewer in omega arith; fits = x .fits; grows = x .grows; count = x .count }
 
 module _ (s names symbols : List ℕ) (b : Block) (D : Describes s names symbols b) (rs : List Rule) (q : Rule) (c : Cursor) (m : ℕ) where
@@ -204,7 +214,8 @@ module _ (s names symbols : List ℕ) (b : Block) (D : Describes s names symbols
     unfolding concludedTerm
     term-fault o =
         judged-bad here
-        (advance (change (changeRule (withConclusion (record { output = o; term = outputFirst o (here .block) + singletonOf o (text here) (here .block) }))) here))
+        (advance (change (changeRule (withConclusion (record
+        { output = o; term = outputFirst o (here .block) + singletonOf o (text here) (here .block) }))) here))
         w (aName here []) ((isSingleton o (text here) (here .block), 5) ∷ []) (sym e) h
 
     pub output-fault : conclusion here ≡ refuse w here
@@ -217,7 +228,8 @@ module _ (s names symbols : List ℕ) (b : Block) (D : Describes s names symbols
     the-output : outputOf (text here) (here .block) ≡ o
     the-output = simp (text-seen, block-seen) (D′ .output (textOf s c) ∙ sym f)
 
-    output-named : conclusion here ≡ judged ((ltb o (outputCount symbols), 5) ∷ (ltb (length (conclusions (here .block))) 128, 6) ∷ []) here (concludedTerm o (expect IS (advance here)))
+    output-named : conclusion here ≡ judged ((ltb o (outputCount symbols), 5) ∷ (ltb (length (conclusions (here .block))) 128, 6) ∷ []) here
+        (concludedTerm o (expect IS (advance here)))
     unfolding conclusion numbered
     output-named =
         judged-good here (concludedTerm (outputOf (text here) (here .block)) (expect IS (advance here)))
@@ -240,7 +252,8 @@ module _ (s names symbols : List ℕ) (b : Block) (D : Describes s names symbols
       unfolding judged
       output-known h = output-named ∙ simp (lt-ltb _ _ g, how-many, lt-ltb _ _ h)
 
-  module _ (e : 0 ≡ fault (aName here [])) (o : ℕ) (g : o < outputCount symbols) (j : ℕ) (f : j ≡ among s names (textOf s c) (termCount symbols (8 + o)) (14 + (8 + o) * 7)) where
+  module _ (e : 0 ≡ fault (aName here [])) (o : ℕ) (g : o < outputCount symbols) (j : ℕ)
+      (f : j ≡ among s names (textOf s c) (termCount symbols (8 + o)) (14 + (8 + o) * 7)) where
     the-term : singletonOf o (text here) (here .block) ≡ j
     the-term = simp (text-seen, block-seen) (D′ .singleton (textOf s c) o g ∙ sym f)
 
@@ -251,9 +264,14 @@ module _ (s names symbols : List ℕ) (b : Block) (D : Describes s names symbols
     unfolding concludedTerm judged numbered
     term-named =
         judged-good here
-        (advance (change (changeRule (withConclusion (record { output = o; term = outputFirst o (here .block) + singletonOf o (text here) (here .block) }))) here))
+        (advance (change (changeRule (withConclusion (record
+        { output = o; term = outputFirst o (here .block) + singletonOf o (text here) (here .block) }))) here))
         (aName here []) ((isSingleton o (text here) (here .block), 5) ∷ []) refl (sym e)
-        ∙ simp (the-term, ap (λ (y : Block). length (singletonsOf o y)) (block-seen s c (midst b rs q) m) ∙ D′ .singletons o g, ap (outputFirst o) (block-seen s c (midst b rs q) m) ∙ D′ .outputFirst o g)
+        ∙ simp (
+          the-term,
+          ap (λ (y : Block). length (singletonsOf o y)) (block-seen s c (midst b rs q) m) ∙ D′ .singletons o g,
+          ap (outputFirst o) (block-seen s c (midst b rs q) m) ∙ D′ .outputFirst o g,
+        )
 
     pub term-unknown : termCount symbols (8 + o) ≤ j → concludedTerm o here ≡ refuse 5 here
     term-unknown h = term-named ∙ simp (le-ltb _ _ h)
@@ -262,7 +280,8 @@ module _ (s names symbols : List ℕ) (b : Block) (D : Describes s names symbols
     unfolding changeRule
     term-known h z =
         term-named ∙ simp (lt-ltb _ _ h)
-        (ap advance (changed s c (midst b rs q) m (changeRule (withConclusion its)) z ∙ ap (λ (l : List Rule). seen s c (holding l b) m) (updateLast-snoc (withConclusion its) rs q)))
+        (ap advance (changed s c (midst b rs q) m (changeRule (withConclusion its)) z
+        ∙ ap (λ (l : List Rule). seen s c (holding l b) m) (updateLast-snoc (withConclusion its) rs q)))
 
 -- one conclusion is put
 pub concludes-one : {s : List ℕ} {b : Block} {rs : List Rule} {q : Rule} {d : Cursor} (m o t : ℕ) (p : Concluded) (old : List ℕ) → Step advance s (p .cursor) d
@@ -285,7 +304,7 @@ another y = conclusion (expect COMMA y)
 pub record Lists (s : List ℕ) (b : Block) (rs : List Rule) (q : Rule) (m n : ℕ) (p₀ p : Concluded) (l₀ l : List ℕ) : Type 0 where
   pub more : List Conclusion
   pub again : Again (repeats COMMA another) (left s (p .cursor)) (seen s (p .cursor) (midst b rs (gives more q)) m)
-    (repeatOn n COMMA another (seen s (p₀ .cursor) (midst b rs q) m))
+      (repeatOn n COMMA another (seen s (p₀ .cursor) (midst b rs q) m))
   pub count : p .count ≡ p₀ .count + length more
   pub put : Adds (p₀ .count * 2) (p .count * 2) (gather conclusionWords more) l₀ l
 
@@ -299,33 +318,38 @@ module _ (s : List ℕ) (b : Block) (rs : List Rule) (q : Rule) (m n : ℕ) wher
     put = record { put = omega arith; said = refl };
   }
 
-  pub lists-go : (p₀ p r : Concluded) (d : Cursor) (l₀ l l′ : List ℕ) (x : Lists s b rs q m n p₀ p l₀ l) → p .cursor .kind ≡ COMMA → Step advance s (p .cursor) d
-      → Concludes conclusion s b rs (gives (x .more) q) m (record { cursor = d; count = p .count }) r l l′ → left s (r .cursor) < left s (p .cursor) → Lists s b rs q m n p₀ r l₀ l′
+  pub lists-go : (p₀ p r : Concluded) (d : Cursor) (l₀ l l′ : List ℕ) (x : Lists s b rs q m n p₀ p l₀ l) → p .cursor .kind ≡ COMMA
+      → Step advance s (p .cursor) d
+      → Concludes conclusion s b rs (gives (x .more) q) m (record { cursor = d; count = p .count }) r l l′ → left s (r .cursor) < left s (p .cursor)
+      → Lists s b rs q m n p₀ r l₀ l′
   unfolding another expect
   lists-go p₀ p r d l₀ l l′ x k a y lt = record {
     more = x .more ++ y .more;
-    again = again-more (repeats COMMA another) (λ f. once-more COMMA another (seen s (p .cursor) at m) (kind-seen s (p .cursor) at m ∙ k) f
-        ∙ ap (repeatOn f COMMA another) (sym turn)) lt (x .again);
+    again = again-more (repeats COMMA another) (λ f. turn COMMA another f (seen s (p .cursor) at m)
+        (eq-eqb _ _ (kind-seen s (p .cursor) at m ∙ k)) ∙ ap (repeatOn f COMMA another) (sym one)) lt (x .again);
     count = let u = length-append (x .more) (y .more) in let v = x .count in let w = y .count in omega arith;
-    put = subst (λ (z : List ℕ). Adds (p₀ .count * 2) (r .count * 2) z l₀ l′) (sym (gather-append conclusionWords (x .more) (y .more))) (adds (x .put) (y .put));
+    put = subst (λ (z : List ℕ). Adds (p₀ .count * 2) (r .count * 2) z l₀ l′) (sym (gather-append conclusionWords (x .more) (y .more)))
+        (adds (x .put) (y .put));
   }
     where
       at : Block
       at = midst b rs (gives (x .more) q)
 
-      turn : seen s (r .cursor) (midst b rs (gives (x .more ++ y .more) q)) m ≡ another (seen s (p .cursor) at m)
-      turn =
+      one : seen s (r .cursor) (midst b rs (gives (x .more ++ y .more) q)) m ≡ another (seen s (p .cursor) at m)
+      one =
           ap (λ (z : Rule). seen s (r .cursor) (midst b rs z) m) (gives-more q (x .more) (y .more)) ∙ y .reads ∙ ap conclusion (a .reads at m)
           ∙ simp (kind-seen, eq-eqb _ _ k)
 
-  pub lists-end : (p₀ p : Concluded) (l₀ l : List ℕ) → n ≡ suc (length (seen s (p₀ .cursor) (midst b rs q) m .rest)) → Lists s b rs q m n p₀ p l₀ l → (p .cursor .kind ≡ COMMA → ⊥)
+  pub lists-end : (p₀ p : Concluded) (l₀ l : List ℕ) → n ≡ suc (length (seen s (p₀ .cursor) (midst b rs q) m .rest)) → Lists s b rs q m n p₀ p l₀ l
+      → (p .cursor .kind ≡ COMMA → ⊥)
       → Concludes (repeated COMMA another) s b rs q m p₀ p l₀ l
   unfolding repeated
   lists-end p₀ p l₀ l e x k = record {
     more = x .more;
     reads =
         again-end (repeats COMMA another)
-        (no-more COMMA another (seen s (p .cursor) (midst b rs (gives (x .more) q)) m) (λ z. k (sym (kind-seen s (p .cursor) (midst b rs (gives (x .more) q)) m) ∙ z)))
+        (λ f. no-turn COMMA another f (seen s (p .cursor) (midst b rs (gives (x .more) q)) m)
+        (ne-eqb _ _ (λ z. k (sym (kind-seen s (p .cursor) (midst b rs (gives (x .more) q)) m) ∙ z))))
         (x .again) ∙ ap (λ (i : ℕ). repeatOn i COMMA another (seen s (p₀ .cursor) (midst b rs q) m)) e;
     count = x .count;
     put = x .put;
@@ -348,24 +372,30 @@ module _ (s : List ℕ) (b : Block) (rs : List Rule) (q : Rule) (m : ℕ) (c : C
     unfolding weighted
     weight-follows = simp (kind-seen, eq-eqb _ _ k) (ap weight (sym (a .reads whole m)))
 
-    pub weight-fault : (w : ℕ) (e : Cursor) → w ≡ fault (aUnit (seen s d whole m)) → (w ≡ 0 → ⊥) → Step (refuse w) s d e → q .weight ≡ M → seen s e (midst b rs (withWeight 1000000 q)) m ≡ weighted (seen s c whole m)
+    pub weight-fault : (w : ℕ) (e : Cursor) → w ≡ fault (aUnit (seen s d whole m)) → (w ≡ 0 → ⊥) → Step (refuse w) s d e → q .weight ≡ M
+        → seen s e (midst b rs (withWeight 1000000 q)) m ≡ weighted (seen s c whole m)
     unfolding weight
     weight-fault w e f z x h =
         unweighed e h ∙ x .reads whole m
-        ∙ sym (weight-follows ∙ judged-bad (seen s d whole m) (advance (change (changeRule (withWeight (unitOf (text (seen s d whole m))))) (seen s d whole m))) w (aUnit (seen s d whole m)) [] (sym f) z)
+        ∙ sym (weight-follows ∙ judged-bad (seen s d whole m)
+        (advance (change (changeRule (withWeight (unitOf (text (seen s d whole m))))) (seen s d whole m))) w (aUnit (seen s d whole m)) [] (sym f) z)
 
-    pub weight-given : (w : ℕ) (e : Cursor) → 0 ≡ fault (aUnit (seen s d whole m)) → Step advance s d e → d .why ≡ 0 → w ≡ unitOf (textOf s d) → seen s e (midst b rs (withWeight w q)) m ≡ weighted (seen s c whole m)
+    pub weight-given : (w : ℕ) (e : Cursor) → 0 ≡ fault (aUnit (seen s d whole m)) → Step advance s d e → d .why ≡ 0 → w ≡ unitOf (textOf s d)
+        → seen s e (midst b rs (withWeight w q)) m ≡ weighted (seen s c whole m)
     unfolding weight judged numbered changeRule
     weight-given w e f x z v =
         let u : unitOf (text (seen s d whole m)) ≡ w = ap unitOf (text-seen s d whole m) ∙ sym v in
         x .reads (midst b rs (withWeight w q)) m
-        ∙ ap advance (sym (changed s d whole m (changeRule (withWeight w)) z ∙ ap (λ (l : List Rule). seen s d (holding l b) m) (updateLast-snoc (withWeight w) rs q)))
+        ∙ ap advance (sym (changed s d whole m (changeRule (withWeight w)) z
+        ∙ ap (λ (l : List Rule). seen s d (holding l b) m) (updateLast-snoc (withWeight w) rs q)))
         ∙ ap (λ (y : ℕ). advance (change (changeRule (withWeight y)) (seen s d whole m))) (sym u)
-        ∙ sym (weight-follows ∙ judged-good (seen s d whole m) (advance (change (changeRule (withWeight (unitOf (text (seen s d whole m))))) (seen s d whole m))) (aUnit (seen s d whole m)) [] refl (sym f))
+        ∙ sym (weight-follows ∙ judged-good (seen s d whole m)
+        (advance (change (changeRule (withWeight (unitOf (text (seen s d whole m))))) (seen s d whole m))) (aUnit (seen s d whole m)) [] refl (sym f))
 
 -- A RULE, whole
 -- after a refused condition nothing more is read
-pub given-lost : (s : List ℕ) (d : Cursor) (b : Block) (m n : ℕ) (g : ConditionRead) → Fits s d → (d .why ≡ 0 → ⊥) → seen s d b m ≡ g .parse → ruleGiven n g ≡ seen s d b m
+pub given-lost : (s : List ℕ) (d : Cursor) (b : Block) (m n : ℕ) (g : ConditionRead) → Fits s d → (d .why ≡ 0 → ⊥) → seen s d b m ≡ g .parse
+    → ruleGiven n g ≡ seen s d b m
 unfolding ruleGiven listed conclusion weighted
 given-lost s d b m n g f h e =
     ap (λ (y : Parse). expect SEMICOLON (weighted (listed conclusion (expect THEN (change (addRule n (g .tree)) y))))) (sym e)
@@ -398,7 +428,8 @@ given-begun s d b m n g h e =
     ap (λ (y : Parse). expect SEMICOLON (weighted (listed conclusion (expect THEN (change (addRule n (g .tree)) y))))) (sym e)
     ∙ ap (λ (y : Parse). expect SEMICOLON (weighted (listed conclusion (expect THEN y)))) (changed s d b m (addRule n (g .tree)) h)
 
-pub begun-count : (rs : List Rule) (n k : ℕ) (t : Condition) → length (gather (λ r. r .conclusions) rs) ≡ k → length (gather (λ r. r .conclusions) (rs ++ (begun n t ∷ []))) ≡ k
+pub begun-count : (rs : List Rule) (n k : ℕ) (t : Condition) → length (gather (λ r. r .conclusions) rs) ≡ k
+    → length (gather (λ r. r .conclusions) (rs ++ (begun n t ∷ []))) ≡ k
 begun-count rs n k t e = ap length (gather-last (λ r. r .conclusions) rs (begun n t) ∙ append-nil (gather (λ r. r .conclusions) rs)) ∙ e
 
 module _ (rs : List Rule) (rows ws ks rows′ ws′ ks′ : List ℕ) (n n′ : Totals) (K : Kept rs rows ws ks n) where
@@ -458,7 +489,8 @@ module _ (s : List ℕ) (b : Block) (c : Cursor) (m : ℕ) where
     unfolding rule judged
     rule-room h = simp (kind-seen, eq-eqb _ _ k, how-many-rules, lt-ltb _ _ h)
 
-pub goes-none : {part : Part} {s : List ℕ} {b : Block} {p r : Progress} {rows ws ks : List ℕ} (w : ℕ) → Step (refuse w) s (p .cursor) (r .cursor) → r .totals ≡ p .totals → (r .cursor .why ≡ 0 → ⊥)
+pub goes-none : {part : Part} {s : List ℕ} {b : Block} {p r : Progress} {rows ws ks : List ℕ} (w : ℕ) → Step (refuse w) s (p .cursor) (r .cursor)
+    → r .totals ≡ p .totals → (r .cursor .why ≡ 0 → ⊥)
     → part (seen s (p .cursor) b (p .totals .words)) ≡ refuse w (seen s (p .cursor) b (p .totals .words)) → Goes part s b p r rows ws ks
 goes-none {part} {s} {b} {p} {r} w a e z f = record {
   rules = b .rules;
@@ -476,21 +508,23 @@ within-then {s} {p} {q} {r} x y = record { fewer = let u = x .fewer in let v = y
 pub record Runs (s : List ℕ) (b : Block) (rs₀ : List Rule) (n : ℕ) (q₀ q : Progress) (rows ws ks : List ℕ) : Type 0 where
   pub rules : List Rule
   pub again : Again (repeats RULE rule) (left s (q .cursor)) (seen s (q .cursor) (holding rules b) (q .totals .words))
-    (repeatOn n RULE rule (seen s (q₀ .cursor) (holding rs₀ b) (q₀ .totals .words)))
+      (repeatOn n RULE rule (seen s (q₀ .cursor) (holding rs₀ b) (q₀ .totals .words)))
   pub kept : q .cursor .why ≡ 0 → Kept rules rows ws ks (q .totals)
 
 module _ (s : List ℕ) (b : Block) (rs₀ : List Rule) (n : ℕ) where
-  pub runs-begin : (q : Progress) (rows ws ks : List ℕ) → left s (q .cursor) < n → (q .cursor .why ≡ 0 → Kept rs₀ rows ws ks (q .totals)) → Runs s b rs₀ n q q rows ws ks
+  pub runs-begin : (q : Progress) (rows ws ks : List ℕ) → left s (q .cursor) < n → (q .cursor .why ≡ 0 → Kept rs₀ rows ws ks (q .totals))
+      → Runs s b rs₀ n q q rows ws ks
   runs-begin q rows ws ks h k = record { rules = rs₀; again = (n, h, refl); kept = k }
 
-  pub runs-go : (q₀ q r : Progress) (rows ws ks rows′ ws′ ks′ : List ℕ) (x : Runs s b rs₀ n q₀ q rows ws ks) → q .cursor .kind ≡ RULE → Goes rule s (holding (x .rules) b) q r rows′ ws′ ks′
+  pub runs-go : (q₀ q r : Progress) (rows ws ks rows′ ws′ ks′ : List ℕ) (x : Runs s b rs₀ n q₀ q rows ws ks) → q .cursor .kind ≡ RULE
+      → Goes rule s (holding (x .rules) b) q r rows′ ws′ ks′
       → left s (r .cursor) < left s (q .cursor) → Runs s b rs₀ n q₀ r rows′ ws′ ks′
   runs-go q₀ q r rows ws ks rows′ ws′ ks′ x k y lt =
       let at = seen s (q .cursor) (holding (x .rules) b) (q .totals .words) in
       let stands = kind-seen s (q .cursor) (holding (x .rules) b) (q .totals .words) ∙ k in
-      let turn : (f : ℕ) → repeatOn (suc f) RULE rule at ≡ repeatOn f RULE rule (seen s (r .cursor) (holding (y .rules) b) (r .totals .words)) =
-      λ f. once-more RULE rule at stands f ∙ ap (repeatOn f RULE rule) (sym (y .reads)) in
-      record { rules = y .rules; again = again-more (repeats RULE rule) turn lt (x .again); kept = y .kept }
+      let one : (f : ℕ) → repeatOn (suc f) RULE rule at ≡ repeatOn f RULE rule (seen s (r .cursor) (holding (y .rules) b) (r .totals .words)) =
+      λ f. turn RULE rule f at (eq-eqb _ _ stands) ∙ ap (repeatOn f RULE rule) (sym (y .reads)) in
+      record { rules = y .rules; again = again-more (repeats RULE rule) one lt (x .again); kept = y .kept }
 
 pub runs-end : (s : List ℕ) (b : Block) (p q₀ q : Progress) (rows₀ ws₀ ks₀ rows ws ks : List ℕ) (g : Goes rule s b p q₀ rows₀ ws₀ ks₀)
     → Runs s b (g .rules) (suc (length (seen s (q₀ .cursor) (holding (g .rules) b) (q₀ .totals .words) .rest))) q₀ q rows ws ks → (q .cursor .kind ≡ RULE → ⊥)
@@ -500,8 +534,8 @@ runs-end s b p q₀ q rows₀ ws₀ ks₀ rows ws ks g x k = record {
   rules = x .rules;
   reads =
       again-end (repeats RULE rule)
-      (no-more RULE rule (seen s (q .cursor) (holding (x .rules) b) (q .totals .words))
-      (λ z. k (sym (kind-seen s (q .cursor) (holding (x .rules) b) (q .totals .words)) ∙ z)))
+      (λ f. no-turn RULE rule f (seen s (q .cursor) (holding (x .rules) b) (q .totals .words))
+      (ne-eqb _ _ (λ z. k (sym (kind-seen s (q .cursor) (holding (x .rules) b) (q .totals .words)) ∙ z))))
       (x .again) ∙ ap (repeated RULE rule) (g .reads);
   kept = x .kept;
 }

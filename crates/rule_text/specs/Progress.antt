@@ -41,7 +41,13 @@ midst b rs q = holding (rs ++ (q ∷ [])) b
 
 -- q with the conclusions ks more
 abbrev pub gives : List Conclusion → Rule → Rule
-gives ks q = record { number = q .number; condition = q .condition; conclusions = q .conclusions ++ ks; weight = q .weight }
+gives ks q = record {
+  number = q .number;
+  condition = q .condition;
+  conclusions =
+      q .conclusions ++ ks;
+  weight = q .weight;
+}
 
 -- n rows in rules are those of rs
 pub record Rows (rs : List Rule) (rules : List ℕ) (n : ℕ) : Type 0 where
@@ -49,7 +55,8 @@ pub record Rows (rs : List Rule) (rules : List ℕ) (n : ℕ) : Type 0 where
   pub count : length rs ≡ n
 
 -- in the midst of the rule q, part reads conclusions more, and their words are put
-pub record Concludes (part : Part) (s : List ℕ) (b : Block) (rs : List Rule) (q : Rule) (m : ℕ) (p r : Concluded) (old new : List ℕ) : Type 0 where
+pub record Concludes (part : Part) (s : List ℕ) (b : Block) (rs : List Rule) (q : Rule) (m : ℕ)
+    (p r : Concluded) (old new : List ℕ) : Type 0 where
   pub more : List Conclusion
   pub reads : seen s (r .cursor) (midst b rs (gives more q)) m ≡ part (seen s (p .cursor) (midst b rs q) m)
   pub count : r .count ≡ p .count + length more
@@ -63,10 +70,12 @@ pub record Onward (s : List ℕ) (p r : Concluded) : Type 0 where
   pub count : r .count ≤ 128
 
 -- part reads the rest of the rule q, and its conclusions and its row are put
-pub record Ends (part : Part) (s : List ℕ) (b : Block) (rs : List Rule) (q : Rule) (p r : Progress) (n w : ℕ) (rows rows′ ks ks′ : List ℕ) : Type 0 where
+pub record Ends (part : Part) (s : List ℕ) (b : Block) (rs : List Rule) (q : Rule) (p r : Progress) (n w : ℕ)
+    (rows rows′ ks ks′ : List ℕ) : Type 0 where
   pub more : List Conclusion
   pub weight : ℕ
-  pub reads : seen s (r .cursor) (midst b rs (withWeight weight (gives more q))) (r .totals .words) ≡ part (seen s (p .cursor) (midst b rs q) (p .totals .words))
+  pub reads : seen s (r .cursor) (midst b rs (withWeight weight (gives more q))) (r .totals .words)
+      ≡ part (seen s (p .cursor) (midst b rs q) (p .totals .words))
   pub rules : r .totals .rules ≡ p .totals .rules + 1
   pub words : r .totals .words ≡ p .totals .words
   pub conclusions : r .totals .conclusions ≡ p .totals .conclusions + length more

@@ -8,7 +8,7 @@ ghost use lib.ListN.{length};
 ghost use Rattle.model.specs.Basic.{all};
 ghost use Rattle.model.specs.Block.{Block, Rule, conclusions as conclusionsOf, withWeight};
 ghost use Rattle.model.specs.Keywords.{SEMICOLON, RULE, THEN};
-ghost use Rattle.model.specs.Bounds.{M};
+ghost use Rattle.model.specs.Bounds.{M, ruleLimit, conclusionLimit};
 ghost use Rattle.model.specs.Parse.{refuse, expect, repeated, listed};
 ghost use Rattle.model.specs.Tokens.{decimal};
 ghost use Rattle.model.specs.Rules.{ruleNumber, concludedTerm, conclusion as conclusionOf, weighted as weightedOf, ruleFrom, rule as ruleOf};
@@ -52,7 +52,7 @@ struct Weighed {
 
 // Whether one of the rules has this number.
 fn is_used(rules: &Rules, count: usize, number: u32) -> bool
-    requires { ⌜ count ≤ 64 ⌝ }
+    requires { ⌜ count ≤ ruleLimit ⌝ }
     ensures { λ r. ⌜ ((rs : List Rule) → Rows rs (now (rules .entry)) count
         → r ≡ not (all (λ q. not (eqb (q .number) number)) rs)) ⌝ }
 {
@@ -67,7 +67,7 @@ fn is_used(rules: &Rules, count: usize, number: u32) -> bool
 }
 
 fn rule_number(s: &[u8], rules: &Rules, count: usize, c: Cursor) -> Numbered
-    requires { ⌜ Fits (now s) c × (count ≤ 64) ⌝ }
+    requires { ⌜ Fits (now s) c × (count ≤ ruleLimit) ⌝ }
     ensures { λ r. ⌜ ((b : Block) (m : ℕ) → Rows (b .rules) (now (rules .entry)) count
         → seen (now (s .entry)) (r .cursor) b m ≡ ruleNumber (seen (now (s .entry)) c b m)) ⌝ }
     ensures within { λ r. ⌜ (left (now (s .entry)) (r .cursor) ≤ left (now (s .entry)) c)
@@ -115,7 +115,7 @@ fn concluded_term(
     o: usize,
 ) -> Concluded
     requires { ⌜ Fits (now s) (p .cursor) × Symbols (now s) (now names) (now symbols) × (o < outputCount (now symbols))
-        × (p .count < 128) ⌝ }
+        × (p .count < conclusionLimit) ⌝ }
     ensures { λ r. ⌜ ((b : Block) (rs : List Rule) (q : Rule) (m : ℕ)
         → Describes (now (s .entry)) (now (names .entry)) (now (symbols .entry)) b
         → Concludes (concludedTerm o) (now (s .entry)) b rs q m p r
@@ -150,7 +150,7 @@ fn conclusion(
     conclusions: &mut Conclusions,
     p: Concluded,
 ) -> Concluded
-    requires { ⌜ Fits (now s) (p .cursor) × Symbols (now s) (now names) (now symbols) × (p .count ≤ 128) ⌝ }
+    requires { ⌜ Fits (now s) (p .cursor) × Symbols (now s) (now names) (now symbols) × (p .count ≤ conclusionLimit) ⌝ }
     ensures { λ r. ⌜ ((b : Block) (rs : List Rule) (q : Rule) (m : ℕ)
         → Describes (now (s .entry)) (now (names .entry)) (now (symbols .entry)) b
         → length (conclusionsOf (midst b rs q)) ≡ p .count
@@ -186,7 +186,7 @@ fn conclusion_list(
     conclusions: &mut Conclusions,
     p: Concluded,
 ) -> Concluded
-    requires { ⌜ Fits (now s) (p .cursor) × Symbols (now s) (now names) (now symbols) × (p .count ≤ 128) ⌝ }
+    requires { ⌜ Fits (now s) (p .cursor) × Symbols (now s) (now names) (now symbols) × (p .count ≤ conclusionLimit) ⌝ }
     ensures { λ r. ⌜ ((b : Block) (rs : List Rule) (q : Rule) (m : ℕ)
         → Describes (now (s .entry)) (now (names .entry)) (now (symbols .entry)) b
         → length (conclusionsOf (midst b rs q)) ≡ p .count
@@ -240,7 +240,7 @@ fn weighted(s: &[u8], c: Cursor) -> Weighed
 
 // The row of rule k.
 fn put_row(rules: &mut Rules, k: usize, number: u32, words: u32, conclusions: u32, weight: u32)
-    requires { ⌜ k < 64 ⌝ }
+    requires { ⌜ k < ruleLimit ⌝ }
     ensures { λ r. ⌜ Adds (k * 4) ((k + 1) * 4) (number ∷ words ∷ conclusions ∷ weight ∷ [])
         (now (rules .entry)) (now (rules .exit)) ⌝ }
 {
@@ -262,7 +262,7 @@ fn rule_given(
     words: u32,
 ) -> Progress
     requires { ⌜ Fits (now s) (p .cursor) × Symbols (now s) (now names) (now symbols) × Few (p .totals)
-        × (p .totals .rules < 64) ⌝ }
+        × (p .totals .rules < ruleLimit) ⌝ }
     ensures { λ r. ⌜ ((b : Block) (rs : List Rule) (q : Rule)
         → Describes (now (s .entry)) (now (names .entry)) (now (symbols .entry)) b
         → length (conclusionsOf (midst b rs q)) ≡ p .totals .conclusions → q .weight ≡ M
@@ -308,7 +308,7 @@ fn rule_from(
     p: Progress,
 ) -> Progress
     requires { ⌜ Fits (now s) (p .cursor) × Symbols (now s) (now names) (now symbols) × Few (p .totals)
-        × (p .totals .rules < 64) ⌝ }
+        × (p .totals .rules < ruleLimit) ⌝ }
     ensures { λ r. ⌜ ((b : Block) → Describes (now (s .entry)) (now (names .entry)) (now (symbols .entry)) b
         → Kept (b .rules) (now (rules .entry)) (now (words .entry)) (now (conclusions .entry)) (p .totals)
         → Goes ruleFrom (now (s .entry)) b p r (now (rules .exit)) (now (words .exit)) (now (conclusions .exit))) ⌝ }

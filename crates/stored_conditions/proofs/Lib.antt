@@ -4,5 +4,4 @@ pub mod Passes
 pub mod Accepted
 pub mod Stacks
 pub mod Steps
-pub mod Stored
 pub mod Vectors

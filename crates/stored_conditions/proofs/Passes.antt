@@ -14,6 +14,9 @@ use Rattle.model.specs.Image.{postfix, opWord, tab}
 use Rattle.stored_conditions.specs.Machine.{Meaning, room, added, unary, binary, step, turn}
 use Rattle.stored_conditions.proofs.Room.{Fits, fits, fits-left, fits-right, fits-neg, fits-one}
 
+pub none-some : {A : Type 0} (x : A) → _≡_ {A = Option A} none (some x) → ⊥
+none-some x e = let z : _≡_ {A = ℕ} 0 1 = cc in omega arith
+
 -- what a condition means
 unfoldable pub fold : {A : Type 0} → Meaning A → Condition → A
 fold g (term t) = g .leaf t
@@ -81,9 +84,6 @@ module _ {A : Type 0} (g : Meaning A) where
   unfoldable AllAllowed : List Condition → Type 0
   AllAllowed [] = Unit {0}
   AllAllowed (c ∷ cs) = Allowed c × AllAllowed cs
-
-  none-some : (x : List A) → _≡_ {A = Option (List A)} none (some x) → ⊥
-  none-some x e = let z : _≡_ {A = ℕ} 0 1 = cc in omega arith
 
   added-in : (x : A) (st st′ : List A) → added g x st ≡ some st′ → (g .fine x ≡ true) × (st′ ≡ x ∷ st)
   unfolding added

@@ -1,5 +1,5 @@
--- A helper: which words of an image are a condition, in model's own definitions. What that means of the tree is said by
--- `stored-in` and `stored-at` of proofs/Stored.
+-- A helper: which words of an image are a condition, in model's own definitions; `condition-in` and `condition-postfix`
+-- of proofs/Accepted say what that means of the tree.
 use mathlib.Core.Bool.{Bool, _&&_}
 use mathlib.Core.List.{List}
 use Prim.Native.Nat.{ℕ}

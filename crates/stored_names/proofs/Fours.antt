@@ -17,21 +17,22 @@ four f o =
     let r : suc (suc (suc o)) ≡ o + 3 = omega arith in
     λ j. f o ∷ f (p j) ∷ f (q j) ∷ f (r j) ∷ []
 
-module _ (f g : ℕ → ℕ) (o q : ℕ) where
-  spread : same (tab f 4 o) (tab g 4 q) ≡ eqb (f o) (g q) && (eqb (f (o + 1)) (g (q + 1)) && (eqb (f (o + 2)) (g (q + 2)) && (eqb (f (o + 3)) (g (q + 3)) && true)))
-  spread = λ j. same (four f o j) (four g q j)
+module _ (f : ℕ → ℕ) (o q : ℕ) where
+  spread : same (tab f 4 o) (tab f 4 q)
+      ≡ eqb (f o) (f q) && (eqb (f (o + 1)) (f (q + 1)) && (eqb (f (o + 2)) (f (q + 2)) && (eqb (f (o + 3)) (f (q + 3)) && true)))
+  spread = λ j. same (four f o j) (four f q j)
 
   module _ {x y : ℕ} where
-    pub differs-1 : x ≡ f o → y ≡ g q → (x ≡ y → ⊥) → false ≡ same (tab f 4 o) (tab g 4 q)
-    differs-1 a b h = sym (spread ∙ simp (ne-eqb (f o) (g q) (λ e. h (a ∙ e ∙ sym b))))
+    pub differs-1 : x ≡ f o → y ≡ f q → (x ≡ y → ⊥) → false ≡ same (tab f 4 o) (tab f 4 q)
+    differs-1 a b h = sym (spread ∙ simp (ne-eqb (f o) (f q) (λ e. h (a ∙ e ∙ sym b))))
 
-    pub differs-2 : f o ≡ g q → x ≡ f (o + 1) → y ≡ g (q + 1) → (x ≡ y → ⊥) → false ≡ same (tab f 4 o) (tab g 4 q)
-    differs-2 e₁ a b h = sym (spread ∙ simp (eq-eqb _ _ e₁, ne-eqb (f (o + 1)) (g (q + 1)) (λ e. h (a ∙ e ∙ sym b))))
+    pub differs-2 : f o ≡ f q → x ≡ f (o + 1) → y ≡ f (q + 1) → (x ≡ y → ⊥) → false ≡ same (tab f 4 o) (tab f 4 q)
+    differs-2 e₁ a b h = sym (spread ∙ simp (eq-eqb _ _ e₁, ne-eqb (f (o + 1)) (f (q + 1)) (λ e. h (a ∙ e ∙ sym b))))
 
-    pub differs-3 : f o ≡ g q → f (o + 1) ≡ g (q + 1) → x ≡ f (o + 2) → y ≡ g (q + 2) → (x ≡ y → ⊥) → false ≡ same (tab f 4 o) (tab g 4 q)
+    pub differs-3 : f o ≡ f q → f (o + 1) ≡ f (q + 1) → x ≡ f (o + 2) → y ≡ f (q + 2) → (x ≡ y → ⊥) → false ≡ same (tab f 4 o) (tab f 4 q)
     differs-3 e₁ e₂ a b h =
-        sym (spread ∙ simp (eq-eqb _ _ e₁, eq-eqb _ _ e₂, ne-eqb (f (o + 2)) (g (q + 2)) (λ e. h (a ∙ e ∙ sym b))))
+        sym (spread ∙ simp (eq-eqb _ _ e₁, eq-eqb _ _ e₂, ne-eqb (f (o + 2)) (f (q + 2)) (λ e. h (a ∙ e ∙ sym b))))
 
-    pub only-last : f o ≡ g q → f (o + 1) ≡ g (q + 1) → f (o + 2) ≡ g (q + 2) → x ≡ f (o + 3) → y ≡ g (q + 3) → eqb x y ≡ same (tab f 4 o) (tab g 4 q)
+    pub only-last : f o ≡ f q → f (o + 1) ≡ f (q + 1) → f (o + 2) ≡ f (q + 2) → x ≡ f (o + 3) → y ≡ f (q + 3) → eqb x y ≡ same (tab f 4 o) (tab f 4 q)
     only-last e₁ e₂ e₃ a b =
-        (λ j. eqb (a j) (b j)) ∙ sym (spread ∙ simp (eq-eqb _ _ e₁, eq-eqb _ _ e₂, eq-eqb _ _ e₃) (and-true (eqb (f (o + 3)) (g (q + 3)))))
+        (λ j. eqb (a j) (b j)) ∙ sym (spread ∙ simp (eq-eqb _ _ e₁, eq-eqb _ _ e₂, eq-eqb _ _ e₃) (and-true (eqb (f (o + 3)) (f (q + 3)))))

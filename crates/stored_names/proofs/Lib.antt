@@ -1,5 +1,3 @@
 pub mod Fours
-pub mod Spelling
-pub mod Stored
+pub mod Names
 pub mod Tables
-pub mod Blocks

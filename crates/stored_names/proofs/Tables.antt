@@ -1,6 +1,6 @@
 -- The names of one table, and of two tables one after the other, are distinct where their words are.
-use mathlib.Core.Path.{_≡_, refl, sym, ap, _∙_}
-use mathlib.Core.List.{List, [], _∷_, _++_, map}
+use mathlib.Core.Path.{_≡_, refl, sym, _∙_}
+use mathlib.Core.List.{List, [], _∷_, _++_}
 use mathlib.Core.Bool.{Bool, true, false, _&&_, not}
 use Prim.Native.Nat.{ℕ, zero, suc, _+_, _*_, _-_, _≤_, _<_}
 use native.Mathlib.Omega.{arith}
@@ -9,19 +9,17 @@ use native.Mathlib.Nat.{mul-le-mul-left}
 use Rattle.model.specs.Basic.{all, distinct, same}
 use Rattle.model.specs.Tokens.{sameName}
 use Rattle.model.specs.Image.{tab, nameAt}
+use Rattle.laws.proofs.Places.{step}
 use Rattle.laws.proofs.Lists.{all-append}
-use Rattle.laws.proofs.Tests.{and-assoc}
-use Rattle.stored_names.specs.Stored.{nameStored, wordsIn, absent, apart}
-use Rattle.stored_names.proofs.Stored.{same-names}
+use Rattle.layout.specs.Tables.{nameExact}
+use Rattle.stored_names.specs.Stored.{wordsIn, absent, apart}
+use Rattle.stored_names.proofs.Names.{same-names}
 
 -- an entry's place, for any width up to 11
 pub entry : (i s : ℕ) → i ≤ 4294967295 → s ≤ 11 → i * s ≤ 47244640245
 entry i s h g = omega (arith, mul-le-mul-left i g)
 
 -- WALKS: what is left from i up to e, one entry a turn
-step : (e i : ℕ) → i < e → e - i ≡ suc (e - (i + 1))
-step e i h = omega arith
-
 module _ {A : Type 0} (eq : A → A → Bool) (f : ℕ → A) (e i : ℕ) where
   pub distinct-more : i < e → absent eq (f i) (tab f (e - (i + 1)) (i + 1)) ≡ true → distinct eq (tab f (e - i) i) ≡ distinct eq (tab f (e - (i + 1)) (i + 1))
   unfolding distinct tab
@@ -54,38 +52,38 @@ distinct-append eq (x ∷ xs) ys =
 abbrev pub nameIn : (ℕ → ℕ) → ℕ → ℕ → ℕ → List ℕ
 nameIn w o s i = nameAt w (o + i * s)
 
--- n entries from i on begin with a stored name
-abbrev pub Stored : (ℕ → ℕ) → ℕ → ℕ → ℕ → ℕ → Type 0
-Stored w o s n i = (k : ℕ) → i ≤ k → k < i + n → nameStored w (o + k * s) ≡ true
+-- n entries from i on begin with an exact name
+abbrev pub Exact : (ℕ → ℕ) → ℕ → ℕ → ℕ → ℕ → Type 0
+Exact w o s n i = (k : ℕ) → i ≤ k → k < i + n → nameExact w (o + k * s) ≡ true
 
 module _ (w : ℕ → ℕ) where
-  first : (o s n i : ℕ) → Stored w o s (suc n) i → nameStored w (o + i * s) ≡ true
+  first : (o s n i : ℕ) → Exact w o s (suc n) i → nameExact w (o + i * s) ≡ true
   first o s n i h = h i (omega arith) (omega arith)
 
-  later : (o s n i : ℕ) → Stored w o s (suc n) i → Stored w o s n (suc i)
+  later : (o s n i : ℕ) → Exact w o s (suc n) i → Exact w o s n (suc i)
   later o s n i h k a b = h k (omega arith) (omega arith)
 
-  pub absent-names : (p o s n i : ℕ) → nameStored w p ≡ true → Stored w o s n i
+  pub absent-names : (p o s n i : ℕ) → nameExact w p ≡ true → Exact w o s n i
       → absent same (tab w 4 p) (tab (wordsIn w o s) n i) ≡ absent sameName (nameAt w p) (tab (nameIn w o s) n i)
   unfolding all tab
   absent-names p o s zero i g h = refl
   absent-names p o s (suc n) i g h =
       λ j. not (same-names w p (o + i * s) g (first o s n i h) j) && absent-names p o s n (suc i) g (later o s n i h) j
 
-  pub distinct-names : (o s n i : ℕ) → Stored w o s n i → distinct same (tab (wordsIn w o s) n i) ≡ distinct sameName (tab (nameIn w o s) n i)
+  pub distinct-names : (o s n i : ℕ) → Exact w o s n i → distinct same (tab (wordsIn w o s) n i) ≡ distinct sameName (tab (nameIn w o s) n i)
   unfolding distinct tab
   distinct-names o s zero i h = refl
   distinct-names o s (suc n) i h =
       λ j. absent-names (o + i * s) o s n (suc i) (first o s n i h) (later o s n i h) j && distinct-names o s n (suc i) (later o s n i h) j
 
-  pub apart-names : (o s n i q t m l : ℕ) → Stored w o s n i → Stored w q t m l
+  pub apart-names : (o s n i q t m l : ℕ) → Exact w o s n i → Exact w q t m l
       → apart same (tab (wordsIn w o s) n i) (tab (wordsIn w q t) m l) ≡ apart sameName (tab (nameIn w o s) n i) (tab (nameIn w q t) m l)
   unfolding all tab
   apart-names o s zero i q t m l h g = refl
   apart-names o s (suc n) i q t m l h g =
       λ j. absent-names (o + i * s) q t m l (first o s n i h) g j && apart-names o s n (suc i) q t m l (later o s n i h) g j
 
-  pub joined-names : (o s n q t m : ℕ) → Stored w o s n 0 → Stored w q t m 0
+  pub joined-names : (o s n q t m : ℕ) → Exact w o s n 0 → Exact w q t m 0
       → distinct sameName (tab (nameIn w o s) n 0 ++ tab (nameIn w q t) m 0)
       ≡ distinct same (tab (wordsIn w o s) n 0) && (apart same (tab (wordsIn w o s) n 0) (tab (wordsIn w q t) m 0) && distinct same (tab (wordsIn w q t) m 0))
   joined-names o s n q t m h g =

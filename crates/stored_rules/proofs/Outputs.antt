@@ -37,7 +37,8 @@ module _ (w : ℕ → ℕ) (frame : tablesOk w ≡ true) where
   unfolding conclusionOk every
   own-is j t = go (ltb j (w 3)) refl
     where
-      go : (b : Bool) → ltb j (w 3) ≡ b → conclusionOk (decode w) (record { output = j; term = t }) ≡ every (own (w 3) j (outputFirstAt w j) (outputCount w j) t)
+      go : (b : Bool) → ltb j (w 3) ≡ b
+          → conclusionOk (decode w) (record { output = j; term = t }) ≡ every (own (w 3) j (outputFirstAt w j) (outputCount w j) t)
       go true e = let l : j < w 3 = ltb-true j (w 3) e in rw (outputs-count w, output-first w frame j l, output-terms j l) refl
       go false e = rw (outputs-count w, e) refl
 

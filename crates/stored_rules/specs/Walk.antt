@@ -1,5 +1,5 @@
--- A helper: the rules of an image one by one, as tests on words. The law `rules-words` of proofs/Rules ties the walk over
--- them to layout's `rulesOk`, which stands on model's `ruleOk`.
+-- A helper: the rules of an image one by one, as tests on words. `rules-words` of proofs/Rules ties the walk over them
+-- to layout's `rulesOk`, which stands on model's `ruleOk`.
 use mathlib.Core.Bool.{Bool, _&&_}
 use mathlib.Core.List.{[], _∷_}
 use Prim.Native.Nat.{ℕ, zero, suc, _+_}

@@ -2,19 +2,14 @@
 use mathlib.Core.Path.{_≡_, sym, ap, _∙_}
 use mathlib.Core.List.{List}
 use mathlib.Core.Bool.{Bool, true, false}
-use Prim.Native.Nat.{ℕ, suc, _+_, _*_, _-_, _≤_, _<_}
+use Prim.Native.Nat.{ℕ, _+_, _*_, _-_, _≤_, _<_}
 use native.Mathlib.Omega.{arith}
 use native.Mathlib.Numerals.{add-one}
 use Rattle.model.specs.Basic.{same}
 use Rattle.model.specs.Image.{tab}
+use Rattle.laws.proofs.Places.{step, gone}
 use Rattle.layout.specs.Rows.{rowsOk}
 use Rattle.layout.specs.Tables.{sums}
-
-step : (e i : ℕ) → i < e → e - i ≡ suc (e - (i + 1))
-step e i h = omega arith
-
-gone : (e i : ℕ) → e ≤ i → e - i ≡ 0
-gone e i h = omega arith
 
 -- rows i up to e are left, and what they give is b
 abbrev pub Rest : {R S : Type 0} → (S → R → List ℕ) → (S → R → S) → (ℕ → R) → (ℕ → ℕ) → ℕ → ℕ → ℕ → ℕ → S → Bool → Type 0

@@ -18,6 +18,7 @@ use Rattle.laws.proofs.Tests.{and-i, and-assoc}
 use Rattle.laws.proofs.Places.{length-tab}
 use Rattle.layout.specs.Tables.{inputRow, inputNext, outputRow, outputNext, termRow, termNext, outputTermAt, outputPointAt, inputCount, outputCount, termCount, nameExact}
 use Rattle.layout.proofs.Whole.{word-crisp}
+use Rattle.layout.proofs.Parts.{range-long}
 use Rattle.stored_tables.specs.Tests.{rangeTest, defaultTest, inputTest, outputTest, termTest, singletonTest}
 
 same-append : (xs ys us bs : List ℕ) → length xs ≡ length ys → same (xs ++ us) (ys ++ bs) ≡ same xs ys && same us bs
@@ -64,10 +65,6 @@ default-case f a ha = go (eqb f 0) refl
         → same (f ∷ a ∷ []) (defaultWords (if eqb f 0 then none else some (crispOf a))) ≡ (if eqb f 0 then eqb a 0 else eqb f 1)
     go true e = simp (e, and-true)
     go false e = simp (e, crisp-same a ha, and-true)
-
-range-long : (g : Option Range) → length (rangeWords g) ≡ 3
-range-long none = refl
-range-long (some g) = refl
 
 module _ (w : ℕ → ℕ) where
   -- a row of 4 + n words that starts with a name

@@ -1,4 +1,5 @@
--- Where the tables are laid out as a block's, each row begins with the exact words of its name, and a variable's terms are rows of the table of terms.
+-- Where the tables are laid out as a block's, each row begins with the exact words of its name, and a variable's terms
+-- are rows of the table of terms.
 use mathlib.Core.Path.{_≡_, refl, subst}
 use mathlib.Core.List.{List, _++_}
 use mathlib.Core.Bool.{Bool, true, false}
@@ -11,7 +12,8 @@ use Rattle.model.specs.Image.{nameWords, nameAt, tab, termAt, singletonAt, inpu
 use Rattle.laws.proofs.Tests.{both, passed}
 use Rattle.laws.proofs.Places.{at-cut}
 use Rattle.layout.specs.Rows.{rowsOk}
-use Rattle.layout.specs.Tables.{inputRow, inputNext, outputRow, outputNext, termRow, termNext, sums, outputTermAt, inputCount, outputCount, outputFirstAt, inputTermsIn, outputTermsIn, inputPointsIn, inputRows, outputRows, inputTermRows, outputTermRows, nameExact, headerOk}
+use Rattle.layout.specs.Tables.{inputRow, inputNext, outputRow, outputNext, termRow, termNext, sums, outputTermAt, inputCount, outputCount, outputFirstAt, inputTermsIn, outputTermsIn, inputPointsIn, inputRows, outputRows, inputTermRows, outputTermRows, nameExact}
+use Rattle.stored_names.proofs.Tables.{Exact}
 use Rattle.layout.specs.Groups.{tablesOk}
 use Rattle.layout.proofs.RowLaws.{stands, stood}
 use Rattle.layout.proofs.TableLaws.{Runs, runs-from}
@@ -30,10 +32,6 @@ span P n i p q k a b = go (eqb i k) refl
     go : (t : Bool) → eqb i k ≡ t → P k
     go true e = subst P (eqb-true i k e) p
     go false e = let z = eqb-false i k e in q k (omega arith) (omega arith)
-
--- n rows of s words from the i-th on, in the table that starts at o, have exact names
-abbrev pub Exact : (ℕ → ℕ) → ℕ → ℕ → ℕ → ℕ → Type 0
-Exact w o s n i = Span (λ k. nameExact w (o + k * s) ≡ true) n i
 
 exact-row : (w : ℕ → ℕ) (o s : ℕ) (xs : List ℕ) → same (tab w s o) (nameWords (nameAt w o) ++ xs) ≡ true → nameExact w o ≡ true
 unfolding nameExact nameWords
@@ -88,25 +86,20 @@ module _ (w : ℕ → ℕ) where
 
   -- all names are exact
   pub record Names : Type 0 where
-    pub block : nameExact w 20 ≡ true
-    pub ruleBlock : nameExact w 24 ≡ true
     pub inputs : Exact w (w 9) 7 (w 2) 0
     pub outputs : Exact w (w 10) 11 (w 3) 0
     pub inputTerms : (i : ℕ) → i < w 2 → Exact w (w 11) 6 (inputCount w i) (inputFirst w i)
     pub outputTerms : (i : ℕ) → i < w 3 → Exact w (w 11) 6 (outputCount w i) (outputFirstAt w i)
 
-  pub frame-names : tablesOk w ≡ true → Names
-  unfolding tablesOk headerOk
-  frame-names h =
+  pub exact-names : tablesOk w ≡ true → Names
+  unfolding tablesOk
+  exact-names h =
       let f = passed _ h in
-      let d = passed _ (f .0) in
       let ir = f .1 .0 in
       let or = f .1 .1 .0 in
       let ti = input-terms-exact (f .1 .1 .1 .0) in
       let to = output-terms-exact (f .1 .1 .1 .1 .0) in
       record {
-        block = d .1 .1 .1 .1 .1 .1 .1 .1 .1 .1 .1 .1 .1 .0;
-        ruleBlock = d .1 .1 .1 .1 .1 .1 .1 .1 .1 .1 .1 .1 .1 .1 .0;
         inputs = inputs-exact ir;
         outputs = outputs-exact or;
         inputTerms = λ i l k a b.

@@ -11,12 +11,13 @@ use borrow.Author.Tests.{eq-eqb, ne-eqb}
 use Rattle.model.specs.Basic.{if_then_else_, between, every, all, distinct, same}
 use Rattle.model.specs.Bounds.{termLimit, pointLeast, pointLimit}
 use Rattle.model.specs.Block.{Range, inRange}
-use Rattle.model.specs.Tokens.{inCrisp}
-use Rattle.model.specs.WellFormed.{unitOk, pointOk, rising, rangeOk, figureOk, defaultOk}
-use Rattle.model.specs.Image.{crispOf, tab, inputPlace, outputPlace, termPlace, pointPlace, pointAt, termAt, singletonAt}
+use Rattle.model.specs.Tokens.{isName, inCrisp}
+use Rattle.model.specs.WellFormed.{unitOk, pointOk, rising, termOk, rangeOk, figureOk, defaultOk, singletonOk}
+use Rattle.model.specs.Image.{crispOf, tab, inputPlace, outputPlace, termPlace, pointPlace, nameAt, pointAt, termAt, singletonAt}
 use Rattle.crisp.specs.Crisp.{rangeGiven}
-use Rattle.stored_names.specs.Stored.{nameStored, wordsIn, apart}
-use Rattle.stored_variables.specs.Stored.{termStored, termsApart, inputStored, rangeAt, defaultAt, singletonStored, outputStored, variablesApart}
+use Rattle.laws.proofs.Places.{length-tab}
+use Rattle.stored_names.specs.Stored.{wordsIn, apart}
+use Rattle.stored_variables.specs.Stored.{termsApart, inputStored, rangeAt, defaultAt, outputStored, variablesApart}
 
 given : (t : Bool) (a b : ℤ) → rangeGiven (not t) a b ≡ (if t then none else some (record { least = a; most = b }))
 given true a b = refl
@@ -35,22 +36,35 @@ module _ (w : ℕ → ℕ) where
   -- a row that starts at o, with k points or terms from s on
   abbrev pub termTests : ℕ → ℕ → ℕ → List Bool
   termTests o k s =
-      nameStored w o
+      isName (nameAt w o)
       ∷ between pointLeast pointLimit k
       ∷ all pointOk (tab (pointAt w) k s)
       ∷ rising [] (map (λ p. p .at) (tab (pointAt w) k s))
       ∷ []
 
+  -- a count is the length of what is read by it
+  term-same : (t : ℕ) → every (termTests (termPlace w t) (w (termPlace w t + 5)) (w (termPlace w t + 4))) ≡ termOk (termAt w t)
+  unfolding termOk termAt
+  term-same t =
+      let o = termPlace w t in
+      let ps = tab (pointAt w) (w (o + 5)) (w (o + 4)) in
+      let long = length-tab (pointAt w) (w (o + 5)) (w (o + 4)) in
+      λ j. every (
+      isName (nameAt w o)
+      ∷ between pointLeast pointLimit (sym long j)
+      ∷ all pointOk ps
+      ∷ rising [] (map (λ p. p .at) ps)
+      ∷ [])
+
   pub term-spelt : (t o k s : ℕ) → o ≡ termPlace w t → k ≡ w (o + 5) → s ≡ w (o + 4)
-      → every (termTests o k s) ≡ termStored w t
-  unfolding termStored termAt
-  term-spelt t o k s eo ek es = rw (ek, es, eo)
+      → every (termTests o k s) ≡ termOk (termAt w t)
+  term-spelt t o k s eo ek es = rw (ek, es, eo) (term-same t)
 
   abbrev pub inputTests : ℕ → ℕ → ℕ → List Bool
   inputTests o k s =
-      nameStored w o
+      isName (nameAt w o)
       ∷ between 1 termLimit k
-      ∷ all (termStored w) (tab (λ t. t) k s)
+      ∷ all termOk (tab (termAt w) k s)
       ∷ termsApart w s k
       ∷ []
 
@@ -61,10 +75,10 @@ module _ (w : ℕ → ℕ) where
 
   abbrev pub outputTests : ℕ → ℕ → ℕ → List Bool
   outputTests o k s =
-      nameStored w o
+      isName (nameAt w o)
       ∷ between 1 termLimit k
       ∷ rangeOk (rangeAt w o)
-      ∷ all (singletonStored w (rangeAt w o)) (tab (λ t. t) k s)
+      ∷ all (singletonOk (rangeAt w o)) (tab (singletonAt w) k s)
       ∷ termsApart w s k
       ∷ defaultOk (rangeAt w o) (defaultAt w o)
       ∷ []
@@ -75,8 +89,8 @@ module _ (w : ℕ → ℕ) where
   output-spelt i o k s eo ek es = rw (ek, es, eo)
 
   pub singleton-spelt : (g : Option Range) (t q p r : ℕ) (x : ℤ) → q ≡ termPlace w t → p ≡ w (q + 4) → r ≡ pointPlace w p → x ≡ crispOf (w r)
-      → nameStored w q && figureOk g x ≡ singletonStored w g t
-  unfolding singletonStored singletonAt pointAt
+      → isName (nameAt w q) && figureOk g x ≡ singletonOk g (singletonAt w t)
+  unfolding singletonOk singletonAt pointAt
   singleton-spelt g t q p r x eq ep er ex = rw (ex, er, ep, eq)
 
   pub terms-spelt : (s o k : ℕ) → o ≡ termPlace w s → distinct same (tab (wordsIn w o 6) k 0) ≡ termsApart w s k

@@ -1,27 +1,18 @@
--- A helper: what is tested of stored variables, as of a block's, but a name by its four words, zero padded.
+-- A helper: what is tested of stored variables, as of a block's, but names compared by their words.
 -- `variables-spelt` ties the tests to those of model's `inputOk` and `outputOk`, by `variablesOk`.
 use mathlib.Core.Bool.{Bool, _&&_}
-use mathlib.Core.List.{[], _∷_, map}
+use mathlib.Core.List.{[], _∷_}
 use mathlib.Core.Option.{Option, none, some}
 use Prim.Native.Nat.{ℕ, _+_}
 use lib.Dec.{eqb}
 use lib.IntN.{ℤ}
 use Rattle.model.specs.Basic.{if_then_else_, between, every, all, distinct, same}
-use Rattle.model.specs.Bounds.{termLimit, pointLeast, pointLimit}
+use Rattle.model.specs.Bounds.{termLimit}
 use Rattle.model.specs.Block.{Range}
-use Rattle.model.specs.WellFormed.{pointOk, rising, rangeOk, figureOk, defaultOk}
-use Rattle.model.specs.Image.{inputWidth, outputWidth, termWidth, INPUTS, OUTPUTS, INPUT-TABLE, OUTPUT-TABLE, inputPlace, outputPlace, termPlace, crispOf, tab, termAt, singletonAt}
-use Rattle.stored_names.specs.Stored.{nameStored, wordsIn, apart}
-
-unfoldable pub termStored : (ℕ → ℕ) → ℕ → Bool
-termStored w t =
-    let o : ℕ = termPlace w t in
-    every (
-    nameStored w o
-    ∷ between pointLeast pointLimit (w (o + 5))
-    ∷ all pointOk (termAt w t .points)
-    ∷ rising [] (map (λ p. p .at) (termAt w t .points))
-    ∷ [])
+use Rattle.model.specs.Tokens.{isName}
+use Rattle.model.specs.WellFormed.{termOk, rangeOk, defaultOk, singletonOk}
+use Rattle.model.specs.Image.{inputWidth, outputWidth, termWidth, INPUTS, OUTPUTS, INPUT-TABLE, OUTPUT-TABLE, inputPlace, outputPlace, termPlace, crispOf, tab, nameAt, termAt, singletonAt}
+use Rattle.stored_names.specs.Stored.{wordsIn, apart}
 
 -- the names of k terms from s on are distinct
 unfoldable pub termsApart : (ℕ → ℕ) → ℕ → ℕ → Bool
@@ -31,9 +22,9 @@ unfoldable pub inputStored : (ℕ → ℕ) → ℕ → Bool
 inputStored w i =
     let o : ℕ = inputPlace w i in
     every (
-    nameStored w o
+    isName (nameAt w o)
     ∷ between 1 termLimit (w (o + 6))
-    ∷ all (termStored w) (tab (λ t. t) (w (o + 6)) (w (o + 5)))
+    ∷ all termOk (tab (termAt w) (w (o + 6)) (w (o + 5)))
     ∷ termsApart w (w (o + 5)) (w (o + 6))
     ∷ [])
 
@@ -45,17 +36,14 @@ rangeAt w o =
 unfoldable pub defaultAt : (ℕ → ℕ) → ℕ → Option ℤ
 defaultAt w o = if eqb (w (o + 9)) 0 then none else some (crispOf (w (o + 10)))
 
-unfoldable pub singletonStored : (ℕ → ℕ) → Option Range → ℕ → Bool
-singletonStored w g t = nameStored w (termPlace w t) && figureOk g (singletonAt w t .at)
-
 unfoldable pub outputStored : (ℕ → ℕ) → ℕ → Bool
 outputStored w i =
     let o : ℕ = outputPlace w i in
     every (
-    nameStored w o
+    isName (nameAt w o)
     ∷ between 1 termLimit (w (o + 5))
     ∷ rangeOk (rangeAt w o)
-    ∷ all (singletonStored w (rangeAt w o)) (tab (λ t. t) (w (o + 5)) (w (o + 4)))
+    ∷ all (singletonOk (rangeAt w o)) (tab (singletonAt w) (w (o + 5)) (w (o + 4)))
     ∷ termsApart w (w (o + 4)) (w (o + 5))
     ∷ defaultOk (rangeAt w o) (defaultAt w o)
     ∷ [])

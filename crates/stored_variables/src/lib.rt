@@ -4,11 +4,11 @@ ghost use mathlib.Core.Bool.{true};
 ghost use mathlib.Core.List.{[], map};
 ghost use Prim.Native.Nat.{_≤_};
 ghost use Rattle.model.specs.Basic.{all};
-ghost use Rattle.model.specs.WellFormed.{pointOk, rising, rangeOk, figureOk, defaultOk};
-ghost use Rattle.model.specs.Image.{wordAt, tab, pointAt};
+ghost use Rattle.model.specs.WellFormed.{pointOk, rising, termOk, rangeOk, figureOk, defaultOk, singletonOk};
+ghost use Rattle.model.specs.Image.{wordAt, tab, pointAt, termAt, singletonAt};
 ghost use Rattle.header.specs.Header.{Heads};
 ghost use Rattle.layout.specs.Groups.{tablesOk, variablesOk};
-ghost use Rattle.stored_variables.specs.Stored.{termStored, termsApart, inputStored, rangeAt, defaultAt, singletonStored, outputStored, variablesApart};
+ghost use Rattle.stored_variables.specs.Stored.{termsApart, inputStored, rangeAt, defaultAt, outputStored, variablesApart};
 use bounds::within;
 use header::Header;
 use model::Crisp;
@@ -63,7 +63,7 @@ fn rising_ok(img: &[u8], h: Header, s: usize, k: usize) -> bool
 
 fn term_ok(img: &[u8], h: Header, t: usize) -> bool
     requires { ⌜ Heads (wordAt (now img)) h × (t ≤ 10000000000) ⌝ }
-    ensures { λ r. ⌜ r ≡ termStored (wordAt (now (img .entry))) t ⌝ }
+    ensures { λ r. ⌜ r ≡ termOk (termAt (wordAt (now (img .entry))) t) ⌝ }
 {
     let o = header::term_row(h, t);
     if !name_ok(img, o) {
@@ -83,7 +83,7 @@ fn term_ok(img: &[u8], h: Header, t: usize) -> bool
 // The k terms from s on.
 fn terms_ok(img: &[u8], h: Header, s: usize, k: usize) -> bool
     requires { ⌜ Heads (wordAt (now img)) h × ((s ≤ 4294967295) × (k ≤ 4294967295)) ⌝ }
-    ensures { λ r. ⌜ r ≡ all (termStored (wordAt (now (img .entry)))) (tab (λ t. t) k s) ⌝ }
+    ensures { λ r. ⌜ r ≡ all termOk (tab (termAt (wordAt (now (img .entry)))) k s) ⌝ }
 {
     let e = s + k;
     let mut i = s;
@@ -185,7 +185,8 @@ fn default_ok(img: &[u8], o: usize) -> bool
 // Term t of the output whose row starts at o.
 fn singleton_ok(img: &[u8], h: Header, o: usize, t: usize) -> bool
     requires { ⌜ Heads (wordAt (now img)) h × ((o ≤ 900000000000) × (t ≤ 10000000000)) ⌝ }
-    ensures { λ r. ⌜ r ≡ singletonStored (wordAt (now (img .entry))) (rangeAt (wordAt (now (img .entry))) o) t ⌝ }
+    ensures { λ r. ⌜ r ≡ singletonOk (rangeAt (wordAt (now (img .entry))) o)
+        (singletonAt (wordAt (now (img .entry))) t) ⌝ }
 {
     let q = header::term_row(h, t);
     if !name_ok(img, q) {
@@ -198,8 +199,8 @@ fn singleton_ok(img: &[u8], h: Header, o: usize, t: usize) -> bool
 // The k terms from s on of that output.
 fn singletons_ok(img: &[u8], h: Header, o: usize, s: usize, k: usize) -> bool
     requires { ⌜ Heads (wordAt (now img)) h × ((o ≤ 900000000000) × ((s ≤ 4294967295) × (k ≤ 4294967295))) ⌝ }
-    ensures { λ r. ⌜ r ≡ all (singletonStored (wordAt (now (img .entry))) (rangeAt (wordAt (now (img .entry))) o))
-        (tab (λ t. t) k s) ⌝ }
+    ensures { λ r. ⌜ r ≡ all (singletonOk (rangeAt (wordAt (now (img .entry))) o))
+        (tab (singletonAt (wordAt (now (img .entry)))) k s) ⌝ }
 {
     let e = s + k;
     let mut i = s;

@@ -33,7 +33,8 @@ pub record Symbols (s names symbols : List ℕ) : Type 0 where
   pub placed : Placed s names
   pub inputs : inputCount symbols ≤ 8
   pub outputs : outputCount symbols ≤ 6
-  pub rises : (v : ℕ) → v < 14 → (first symbols v ≤ first symbols (v + 1)) × (first symbols (v + 1) ≤ first symbols v + 7)
+  pub rises : (v : ℕ) → v < 14 → (first symbols v ≤ first symbols (v + 1))
+      × (first symbols (v + 1) ≤ first symbols v + 7)
   pub small : (v : ℕ) → v ≤ 14 → first symbols v ≤ 98
 
 -- they say what block b declares
@@ -44,7 +45,9 @@ pub record Describes (s names symbols : List ℕ) (b : Block) : Type 0 where
   pub output : (w : List ℕ) → outputOf w b ≡ among s names w (outputCount symbols) 8
   pub terms : (i : ℕ) → i < inputCount symbols → length (termsOf i b) ≡ termCount symbols i
   pub singletons : (o : ℕ) → o < outputCount symbols → length (singletonsOf o b) ≡ termCount symbols (8 + o)
-  pub term : (w : List ℕ) (i : ℕ) → i < inputCount symbols → termOf i w b ≡ among s names w (termCount symbols i) (14 + i * 7)
-  pub singleton : (w : List ℕ) (o : ℕ) → o < outputCount symbols → singletonOf o w b ≡ among s names w (termCount symbols (8 + o)) (14 + (8 + o) * 7)
+  pub term : (w : List ℕ) (i : ℕ) → i < inputCount symbols
+      → termOf i w b ≡ among s names w (termCount symbols i) (14 + i * 7)
+  pub singleton : (w : List ℕ) (o : ℕ) → o < outputCount symbols
+      → singletonOf o w b ≡ among s names w (termCount symbols (8 + o)) (14 + (8 + o) * 7)
   pub inputFirst : (i : ℕ) → i < inputCount symbols → inputFirst i b ≡ first symbols i
   pub outputFirst : (o : ℕ) → o < outputCount symbols → outputFirst o b ≡ first symbols (8 + o)

@@ -1,6 +1,7 @@
 // What the name at the cursor was declared as: an input, an output, or a term of one of them.
 ghost use mathlib.Core.Path.{_≡_};
 ghost use Prim.Native.Nat.{_+_, _*_, _≤_, _<_};
+ghost use Rattle.model.specs.Bounds.{inputLimit, outputLimit, termLimit};
 ghost use Rattle.cursor.specs.View.{Fits, textOf};
 ghost use Rattle.symbol_table.specs.Symbols.{Symbols, termCount, inputCount, outputCount, among};
 use cursor::Cursor;
@@ -19,7 +20,7 @@ pub fn input_of(s: &[u8], names: &Names, symbols: &SymbolTable, c: Cursor) -> us
     requires { ⌜ Fits (now s) c × Symbols (now s) (now names) (now symbols) ⌝ }
     ensures { λ r. ⌜ r ≡ among (now (s .entry)) (now (names .entry)) (textOf (now (s .entry)) c)
         (inputCount (now (symbols .entry))) 0 ⌝ }
-    ensures within { λ r. ⌜ r ≤ 8 ⌝ }
+    ensures within { λ r. ⌜ r ≤ inputLimit ⌝ }
 {
     lookup::find(s, names, 0, symbols[INPUT_COUNT], c.start, c.end)
 }
@@ -29,7 +30,7 @@ pub fn output_of(s: &[u8], names: &Names, symbols: &SymbolTable, c: Cursor) -> u
     requires { ⌜ Fits (now s) c × Symbols (now s) (now names) (now symbols) ⌝ }
     ensures { λ r. ⌜ r ≡ among (now (s .entry)) (now (names .entry)) (textOf (now (s .entry)) c)
         (outputCount (now (symbols .entry))) 8 ⌝ }
-    ensures within { λ r. ⌜ r ≤ 6 ⌝ }
+    ensures within { λ r. ⌜ r ≤ outputLimit ⌝ }
 {
     lookup::find(
         s,
@@ -46,7 +47,7 @@ pub fn term_of(s: &[u8], names: &Names, symbols: &SymbolTable, v: usize, c: Curs
     requires { ⌜ Fits (now s) c × Symbols (now s) (now names) (now symbols) × (v < 14) ⌝ }
     ensures { λ r. ⌜ r ≡ among (now (s .entry)) (now (names .entry)) (textOf (now (s .entry)) c)
         (termCount (now (symbols .entry)) v) (14 + v * 7) ⌝ }
-    ensures within { λ r. ⌜ r ≤ 7 ⌝ }
+    ensures within { λ r. ⌜ r ≤ termLimit ⌝ }
 {
     lookup::find(
         s,

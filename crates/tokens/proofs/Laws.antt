@@ -106,7 +106,7 @@ comment-begins s = longer-zero (commentPart (drop 2 s))
 
 module _ (s : List ℕ) (i : ℕ) (g : 2 ≤ i) (b : Bool) where
   at-byte : i < length s → b ≡ eqb (getD s i 0) 42 && starts (eqb 41) (drop (i + 1) s)
-    → commentPart (drop i s) ≡ if b then some 2 else longer 1 (commentPart (drop (i + 1) s))
+      → commentPart (drop i s) ≡ if b then some 2 else longer 1 (commentPart (drop (i + 1) s))
   at-byte h e = rw (add-one, drop-cons s i 0 h) (comment-cons (getD s i 0) (drop (suc i) s) b (rw add-one at e))
 
   pub comment-more : i < length s → b ≡ eqb (getD s i 0) 42 && starts (eqb 41) (drop (i + 1) s) → b ≡ false → commentFrom s i ≡ commentFrom s (i + 1)

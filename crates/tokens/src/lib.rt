@@ -65,7 +65,7 @@ fn is_stray(w: &[u8], i: usize) -> bool
     w[i] == 95 && (w.len() <= i + 1 || w[i + 1] == 95)
 }
 
-fn is_tidy(w: &[u8]) -> bool
+pub fn is_tidy(w: &[u8]) -> bool
     ensures { λ r. ⌜ r ≡ tidy (now (w .entry)) ⌝ }
 {
     let mut i = 0;

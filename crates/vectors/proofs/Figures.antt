@@ -12,12 +12,6 @@ use mir.Val.{Fits, SFits, toZ, ofZ, sel}
 use mir.ValLaws.{toZ-pos}
 use borrow.Author.Tests.{ltb-true, ltb-false, le-ltb}
 
-pub no-nan : (x : Float) → ne x x ≡ false → T (not (isNan x))
-unfolding isNan ne
-no-nan nan h = subst T h tt
-no-nan (inf s) h = tt
-no-nan (fin s m e) h = tt
-
 -- a number as 32 bits hold it
 abbrev pub stored : ℤ → ℤ
 stored z = toZ w32 (ofZ w32 z)

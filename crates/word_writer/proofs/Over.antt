@@ -50,7 +50,8 @@ module _ (at : ℕ) (xs ys old : List ℕ) (room : (at + length xs) * 4 ≤ leng
       let r : p + length ys * 4 ≡ (at + length (xs ++ ys)) * 4 = omega (arith, length-append xs ys) in
       ap (λ (l : List ℕ). take p l ++ (bytesOf ys ++ drop ((at + length xs + length ys) * 4) l)) split
       ∙ (λ j. take-at front (drop p old) p front-length j ++ (bytesOf ys ++ drop (q j) (front ++ drop p old)))
-      ∙ ap (λ (l : List ℕ). front ++ (bytesOf ys ++ l)) (drop-append-add front (drop p old) (length ys * 4) ∙ drop-drop (length ys * 4) p old ∙ ap (λ (n : ℕ). drop n old) r)
+      ∙ ap (λ (l : List ℕ). front ++ (bytesOf ys ++ l)) (drop-append-add front (drop p old) (length ys * 4) ∙ drop-drop (length ys * 4) p old
+      ∙ ap (λ (n : ℕ). drop n old) r)
       ∙ simp (append-assoc, bytes-append)
 
 pub joined : {at m r : ℕ} {xs ys old mid new : List ℕ} → m * 4 ≤ length old → Wrote at m xs old mid → Wrote m r ys mid new → Wrote at r (xs ++ ys) old new

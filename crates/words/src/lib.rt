@@ -11,11 +11,12 @@ pub fn wide(b: u8) -> u32
     b as u32
 }
 
-fn byte(img: &[u8], k: usize) -> u32
-    ensures { λ r. ⌜ (r ≡ getD (now (img .entry)) k 0) × (r ≤ 255) ⌝ }
+// The byte at place k.
+pub fn byte(img: &[u8], k: usize) -> u8
+    ensures { λ r. ⌜ r ≡ getD (now (img .entry)) k 0 ⌝ }
 {
     if k < img.len() {
-        return wide(img[k]);
+        return img[k];
     }
     0
 }
@@ -43,10 +44,10 @@ pub fn word(img: &[u8], i: usize) -> usize
         );
     }
     joined(
-        byte(img, k),
-        byte(img, k + 1),
-        byte(img, k + 2),
-        byte(img, k + 3),
+        wide(byte(img, k)),
+        wide(byte(img, k + 1)),
+        wide(byte(img, k + 2)),
+        wide(byte(img, k + 3)),
     )
 }
 

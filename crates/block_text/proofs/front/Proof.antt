@@ -29,10 +29,17 @@ defuzzify-parts-requires c κs = c .fuzzify-parts .ensures .good
 
 returns : tie.Need-returns
 unfolding frontText
-returns c = let s = c .before .before .before .before .before .before .before .before .args .s .now in
-    let t = c .before .before .before .before .empty-tables .result in
-    let x = reading.next (reading.next (reading.next (reading.next (reading.step t (c .before .before .before .before .empty-tables .ensures .1 s) (c .before .before .before .before .before .expect .ensures .0)) (c .before .before .before .block-name .ensures)) (c .before .before .variables .ensures)) (c .before .fuzzify-parts .ensures)) (c .defuzzify-parts .ensures) in
-    (x .reads ∙ ap frontText (laws.begun s (c .before .before .before .before .before .before .begin .result) t (c .before .before .before .before .before .before .begin .ensures .0) (c .before .before .before .before .empty-tables .ensures .0 s)), x .good)
+returns c =
+    let c3 = c .before .before .before in
+    let c4 = c3 .before in
+    let c5 = c4 .before in
+    let c6 = c5 .before in
+    let c8 = c6 .before .before in
+    let s = c8 .args .s .now in
+    let t = c4 .empty-tables .result in
+    let x = reading.next (reading.next (reading.next (reading.next (reading.step t (c4 .empty-tables .ensures .1 s) (c5 .expect .ensures .0))
+    (c3 .block-name .ensures)) (c .before .before .variables .ensures)) (c .before .fuzzify-parts .ensures)) (c .defuzzify-parts .ensures) in
+    (x .reads ∙ ap frontText (laws.begun s (c6 .begin .result) t (c6 .begin .ensures .0) (c4 .empty-tables .ensures .0 s)), x .good)
 
 pub front-spec : {M : Type 1} → statement M
 front-spec =

@@ -13,7 +13,8 @@ use Rattle.block_text.proofs.have_terms.Statement.{statement}
 use Rattle.block_text.proofs.have_terms.Tie as tie
 
 abbrev Inv-loop : tie.InvT-loop
-Inv-loop symbols v n e k₀ k = (e ≡ v + n) × (e ≤ 14) × (all (λ j. ltb (first symbols j) (first symbols (j + 1))) (tab (λ j. j) (e - k) k) ≡ haveTerms symbols v n)
+Inv-loop symbols v n e k₀ k = (e ≡ v + n) × (e ≤ 14)
+    × (all (λ j. ltb (first symbols j) (first symbols (j + 1))) (tab (λ j. j) (e - k) k) ≡ haveTerms symbols v n)
 
 abbrev μ-loop : tie.MeasureT-loop
 μ-loop symbols v n e k₀ k = e - k
@@ -40,7 +41,12 @@ element-copy-out-if1-2 : tie.Need-element-copy-out-if1-2 Inv-loop μ-loop
 element-copy-out-if1-2 c = search needs
 
 returns : tie.Need-returns Inv-loop μ-loop
-returns c = sym (all-stop (λ j. ltb (first (c .before .before .before .before .before .args .symbols .now) j) (first (c .before .before .before .before .before .args .symbols .now) (j + 1))) (λ j. j) (c .before .before .before .before .before .args .v + c .before .before .before .before .before .args .n) (c .before .before .before .before .loop .k) (c .before .before .before .loop-test .taken) (le-ltb _ _ (c .if1 .taken))) ∙ c .before .before .before .before .loop .inv .2
+returns c =
+    let c3 = c .before .before .before in
+    let c4 = c3 .before in
+    let c5 = c4 .before in
+    sym (all-stop (λ j. ltb (first (c5 .args .symbols .now) j) (first (c5 .args .symbols .now) (j + 1))) (λ j. j) (c5 .args .v + c5 .args .n)
+    (c4 .loop .k) (c3 .loop-test .taken) (le-ltb _ _ (c .if1 .taken))) ∙ c4 .loop .inv .2
 
 add-k : tie.Need-add-k Inv-loop μ-loop
 add-k c = search needs
@@ -49,10 +55,20 @@ loop-less : tie.Need-loop-less Inv-loop μ-loop
 loop-less c = search needs
 
 loop-again : tie.Need-loop-again Inv-loop μ-loop
-loop-again c = (c .before .before .before .before .loop .inv .0, c .before .before .before .before .loop .inv .1, sym (all-more (λ j. ltb (first (c .before .before .before .before .before .args .symbols .now) j) (first (c .before .before .before .before .before .args .symbols .now) (j + 1))) (λ j. j) (c .before .before .before .before .before .args .v + c .before .before .before .before .before .args .n) (c .before .before .before .before .loop .k) (c .before .before .before .loop-test .taken) (lt-ltb _ _ (c .if1 .left))) ∙ c .before .before .before .before .loop .inv .2)
+loop-again c =
+    let c3 = c .before .before .before in
+    let c4 = c3 .before in
+    let c5 = c4 .before in (
+      c4 .loop .inv .0,
+      c4 .loop .inv .1,
+      sym (all-more (λ j. ltb (first (c5 .args .symbols .now) j) (first (c5 .args .symbols .now) (j + 1))) (λ j. j)
+          (c5 .args .v + c5 .args .n) (c4 .loop .k) (c3 .loop-test .taken) (lt-ltb _ _ (c .if1 .left))) ∙ c4 .loop .inv .2,
+    )
 
 returns-2 : tie.Need-returns-2 Inv-loop μ-loop
-returns-2 c = sym (all-end (λ j. ltb (first (c .before .before .args .symbols .now) j) (first (c .before .before .args .symbols .now) (j + 1))) (λ j. j) (c .before .before .args .v + c .before .before .args .n) (c .before .loop .k) (c .loop-test .left)) ∙ c .before .loop .inv .2
+returns-2 c =
+    sym (all-end (λ j. ltb (first (c .before .before .args .symbols .now) j) (first (c .before .before .args .symbols .now) (j + 1))) (λ j. j)
+    (c .before .before .args .v + c .before .before .args .n) (c .before .loop .k) (c .loop-test .left)) ∙ c .before .loop .inv .2
 
 pub have-terms-spec : {M : Type 1} → statement M
 have-terms-spec =

@@ -17,7 +17,9 @@ have-terms-requires-2 : tie.Need-have-terms-requires-2
 have-terms-requires-2 c κs = search needs
 
 returns : tie.Need-returns
-returns c = λ s names b d. c .have-terms2 .ensures ∙ sym (laws.parts-there s names _ b d ∙ simp (sym (c .before .before .before .have-terms .ensures) ∙ c .before .before .if1 .taken) refl)
+returns c =
+    let c3 = c .before .before .before in
+    λ s names b d. c .have-terms2 .ensures ∙ sym (laws.parts-there s names _ b d ∙ simp (sym (c3 .have-terms .ensures) ∙ c .before .before .if1 .taken) refl)
 
 returns-2 : tie.Need-returns-2
 returns-2 c = λ s names b d. sym (laws.parts-there s names _ b d ∙ simp (sym (c .before .have-terms .ensures) ∙ c .if1 .left) refl)

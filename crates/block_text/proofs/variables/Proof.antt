@@ -25,9 +25,16 @@ expect-requires-4 c κs = (c .before .output-declarations .ensures .good .fits, 
 
 returns : tie.Need-returns
 unfolding variablesText
-returns c = let x = c .before .before .before .before .before .before .input-declarations .ensures in
+returns c =
+    let c3 = c .before .before .before in
+    let c4 = c3 .before in
+    let c6 = c4 .before .before in
+    let c7 = c6 .before in
+    let c10 = c7 .before .before .before in
+    let x = c6 .input-declarations .ensures in
     let y = c .before .before .output-declarations .ensures in
-    reading.next (reading.next (reading.next (reading.next (reading.step _ (c .before .before .before .before .before .before .before .before .before .before .pre .holds) (c .before .before .before .before .before .before .before .expect .ensures .0)) x) (reading.step _ (x .good .holds) (steps (c .before .before .before .before .expect2 .ensures .0) (c .before .before .before .expect3 .ensures .0)))) y) (reading.step _ (y .good .holds) (c .expect4 .ensures .0))
+    reading.next (reading.next (reading.next (reading.next (reading.step _ (c10 .pre .holds) (c7 .expect .ensures .0)) x)
+    (reading.step _ (x .good .holds) (steps (c4 .expect2 .ensures .0) (c3 .expect3 .ensures .0)))) y) (reading.step _ (y .good .holds) (c .expect4 .ensures .0))
 
 pub variables-spec : {M : Type 1} → statement M
 variables-spec =

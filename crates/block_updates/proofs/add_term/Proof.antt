@@ -54,9 +54,10 @@ element-set-from-v c = search needs
 
 returns : tie.Need-returns
 returns c =
-    let a = c .before .args in
-    ((λ s g b o l. laws.term-added s (a .t1) (a .i) _ (a .start) (a .end) refl b (c .before .pre .1) g o l),
-    λ s g b. laws.is-last s (a .t1) (a .i) _ (a .start) (a .end) refl b g)
+    let a = c .before .args in (
+      (λ s g b o l. laws.term-added s (a .t1) (a .i) _ (a .start) (a .end) refl b (c .before .pre .1) g o l),
+      λ s g b. laws.is-last s (a .t1) (a .i) _ (a .start) (a .end) refl b g,
+    )
 
 pub add-term-spec : {M : Type 1} → statement M
 add-term-spec =

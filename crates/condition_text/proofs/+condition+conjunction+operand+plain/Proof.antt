@@ -75,7 +75,8 @@ plain-below t = and 4 plain-kinds.ps (falls 4 plain-kinds.ps _<_ μ-plain t) pla
 
 abbrev condition-Inv-loop : condition-lts.InvT-loop
 condition-Inv-loop s names symbols words₀ depth q₀ words q =
-    Within s 0 q₀ q words₀ words × ((b : Block) → Describes s names symbols b → laws.Going (chain (operandOf (parenthesis depth)) AND andOf) OR orOf s b q₀ words₀ q words)
+    Within s 0 q₀ q words₀ words × ((b : Block) → Describes s names symbols b
+    → laws.Going (chain (operandOf (parenthesis depth)) AND andOf) OR orOf s b q₀ words₀ q words)
 
 abbrev condition-μ-loop : condition-lts.MeasureT-loop
 condition-μ-loop s names symbols words₀ depth q₀ words q = left s (q .cursor)
@@ -130,8 +131,17 @@ condition-put-requires : (t : ℕ) → condition-lts.Need-put-requires (
 ) (condition-at t) condition.Post condition-Inv-loop condition-μ-loop
 condition-put-requires t c κs =
     let n = c .before .before .before .count .ensures .1 in
-    let w = c .before .conjunction2 .ensures .1 in
-    (w .room .put, w .room .words, λ h. omega (arith, n .words (w .sticky h), n .put, w .even h, c .before .before .before .before .before .before .loop .inv .0 .room .put))
+    let w = c .before .conjunction2 .ensures .1 in (
+      w .room .put,
+      w .room .words,
+      λ h. omega (
+        arith,
+        n .words (w .sticky h),
+        n .put,
+        w .even h,
+        c .before .before .before .before .before .before .loop .inv .0 .room .put,
+      ),
+    )
 
 condition-loop-less : (t : ℕ) → condition-lts.Need-loop-less (
   conjunction-below t,
@@ -141,7 +151,8 @@ condition-loop-less : (t : ℕ) → condition-lts.Need-loop-less (
   put-reads.Asked,
   put-reads.Learnt,
 ) (condition-at t) condition.Post condition-Inv-loop condition-μ-loop
-condition-loop-less t c = rw (c .put .ensures .cursor) (omega (arith, c .before .before .before .before .count .ensures .1 .fewer, c .before .before .conjunction2 .ensures .1 .fewer))
+condition-loop-less t c = rw (c .put .ensures .cursor)
+    (omega (arith, c .before .before .before .before .count .ensures .1 .fewer, c .before .before .conjunction2 .ensures .1 .fewer))
 
 condition-loop-again : (t : ℕ) → condition-lts.Need-loop-again (
   conjunction-below t,
@@ -159,7 +170,8 @@ condition-loop-again t c =
     let w = laws.turned z (n .1) (m .1) (c .put .ensures) in (
       laws.within-then (l .inv .0) w,
       λ b d. laws.goes _ _ _ _ b _ (l .q) (c .before .before .before .before .count .result) (c .before .before .conjunction2 .result) (c .put .result) _ _ _ _
-          (l .inv .1 b d) (c .before .before .before .before .before .if1 .taken) z (n .0 b) (n .1 .put) (m .0 b d) (c .put .ensures) (rw (c .put .ensures .cursor) (omega (arith, n .1 .fewer, m .1 .fewer))),
+          (l .inv .1 b d) (c .before .before .before .before .before .if1 .taken) z (n .0 b) (n .1 .put) (m .0 b d) (c .put .ensures)
+          (rw (c .put .ensures .cursor) (omega (arith, n .1 .fewer, m .1 .fewer))),
     )
 
 condition-returns : (t : ℕ) → condition-lts.Need-returns (
@@ -233,8 +245,17 @@ conjunction-put-requires : (t : ℕ) → conjunction-lts.Need-put-requires (
 ) (conjunction-at t) conjunction.Post conjunction-Inv-loop conjunction-μ-loop
 conjunction-put-requires t c κs =
     let n = c .before .before .before .count .ensures .1 in
-    let w = c .before .operand2 .ensures .1 in
-    (w .room .put, w .room .words, λ h. omega (arith, n .words (w .sticky h), n .put, w .even h, c .before .before .before .before .before .before .loop .inv .0 .room .put))
+    let w = c .before .operand2 .ensures .1 in (
+      w .room .put,
+      w .room .words,
+      λ h. omega (
+        arith,
+        n .words (w .sticky h),
+        n .put,
+        w .even h,
+        c .before .before .before .before .before .before .loop .inv .0 .room .put,
+      ),
+    )
 
 conjunction-loop-less : (t : ℕ) → conjunction-lts.Need-loop-less (
   operand-below t,
@@ -244,7 +265,8 @@ conjunction-loop-less : (t : ℕ) → conjunction-lts.Need-loop-less (
   put-reads.Asked,
   put-reads.Learnt,
 ) (conjunction-at t) conjunction.Post conjunction-Inv-loop conjunction-μ-loop
-conjunction-loop-less t c = rw (c .put .ensures .cursor) (omega (arith, c .before .before .before .before .count .ensures .1 .fewer, c .before .before .operand2 .ensures .1 .fewer))
+conjunction-loop-less t c = rw (c .put .ensures .cursor)
+    (omega (arith, c .before .before .before .before .count .ensures .1 .fewer, c .before .before .operand2 .ensures .1 .fewer))
 
 conjunction-loop-again : (t : ℕ) → conjunction-lts.Need-loop-again (
   operand-below t,
@@ -262,7 +284,8 @@ conjunction-loop-again t c =
     let w = laws.turned z (n .1) (m .1) (c .put .ensures) in (
       laws.within-then (l .inv .0) w,
       λ b d. laws.goes _ _ _ _ b _ (l .q) (c .before .before .before .before .count .result) (c .before .before .operand2 .result) (c .put .result) _ _ _ _
-          (l .inv .1 b d) (c .before .before .before .before .before .if1 .taken) z (n .0 b) (n .1 .put) (m .0 b d) (c .put .ensures) (rw (c .put .ensures .cursor) (omega (arith, n .1 .fewer, m .1 .fewer))),
+          (l .inv .1 b d) (c .before .before .before .before .before .if1 .taken) z (n .0 b) (n .1 .put) (m .0 b d) (c .put .ensures)
+          (rw (c .put .ensures .cursor) (omega (arith, n .1 .fewer, m .1 .fewer))),
     )
 
 conjunction-returns : (t : ℕ) → conjunction-lts.Need-returns (
@@ -329,8 +352,17 @@ operand-put-requires : (t : ℕ) → operand-lts.Need-put-requires (
 ) (operand-at t) operand.Post
 operand-put-requires t c κs =
     let n = c .before .before .before .count .ensures .1 in
-    let w = c .before .plain2 .ensures .1 in
-    (w .room .put, w .room .words, λ h. omega (arith, n .words (w .sticky h), n .put, w .even h, c .before .before .before .before .before .before .before .before .pre .1 .0 .put))
+    let w = c .before .plain2 .ensures .1 in (
+      w .room .put,
+      w .room .words,
+      λ h. omega (
+        arith,
+        n .words (w .sticky h),
+        n .put,
+        w .even h,
+        c .before .before .before .before .before .before .before .before .pre .1 .0 .put,
+      ),
+    )
 
 operand-returns-2 : (t : ℕ) → operand-lts.Need-returns-2 (
   plain-below t,
@@ -344,8 +376,10 @@ unfolding operandOf
 operand-returns-2 t c =
     let n = c .before .before .before .before .count .ensures in
     let w = c .before .before .plain2 .ensures in
-    let z = c .before .before .before .before .before .before .before .before .before .pre .1 .0 .fits .halted (λ k. omega (arith, c .before .before .before .before .before .if1 .left)) in (
-      (λ b d. simp (kind-seen, eq-eqb _ _ (c .before .before .before .before .before .if1 .left), sym (n .0 b)) (laws.from (n .1 .put) (laws.negates (w .0 b d) (c .put .ensures)))),
+    let z = c .before .before .before .before .before .before .before .before .before .pre .1 .0 .fits .halted
+    (λ k. omega (arith, c .before .before .before .before .before .if1 .left)) in (
+      (λ b d. simp (kind-seen, eq-eqb _ _ (c .before .before .before .before .before .if1 .left), sym (n .0 b))
+          (laws.from (n .1 .put) (laws.negates (w .0 b d) (c .put .ensures)))),
       laws.turned z (n .1) (w .1) (c .put .ensures),
     )
 
@@ -408,8 +442,10 @@ unfolding plainOf
 plain-returns-2 t c =
     let g = c .before .before .before .before .before .before .pre .1 .0 in
     let a = c .refused .ensures .0 (c .before .before .before .before .before .before .args .s .now) (g .fits) in
-    let z = c .refused .ensures .1 in
-    ((λ b d. simp (kind-seen, eq-eqb _ _ (c .before .before .if1 .left), laws.paren-none _ (c .before .if2 .taken)) (laws.refuses 6 z a refl)), laws.stopped 0 _ g a z)
+    let z = c .refused .ensures .1 in (
+      (λ b d. simp (kind-seen, eq-eqb _ _ (c .before .before .if1 .left), laws.paren-none _ (c .before .if2 .taken)) (laws.refuses 6 z a refl)),
+      laws.stopped 0 _ g a z,
+    )
 
 plain-advance-requires : (t : ℕ) → plain-lts.Need-advance-requires (
   subcondition-reads.Asked,
@@ -485,9 +521,15 @@ plain-returns-3 t c =
     let g = c .before .before .before .before .before .before .before .before .before .before .pre .1 .0 in
     let a = c .before .before .before .before .advance .ensures .0 in
     let m = c .before .before .condition .ensures in (
-      (λ b d. simp (kind-seen, eq-eqb _ _ (c .before .before .before .before .before .before .if1 .left), laws.paren-more _ (c .before .before .before .before .before .if2 .left), sym (a .reads b (p .words)))
+      (λ b d. simp (
+        kind-seen,
+        eq-eqb _ _ (c .before .before .before .before .before .before .if1 .left),
+        laws.paren-more _ (c .before .before .before .before .before .if2 .left),
+        sym (a .reads b (p .words)),
+      )
           (laws.closes (laws.from refl (m .0 b d)) (c .expect .ensures .0))),
-      laws.within-then (laws.stepped p _ g a) (laws.within-then (m .1) (laws.stepped (c .before .before .condition .result) _ (m .1 .room) (c .expect .ensures .0))),
+      laws.within-then (laws.stepped p _ g a) (laws.within-then (m .1)
+          (laws.stepped (c .before .before .condition .result) _ (m .1 .room) (c .expect .ensures .0))),
     )
 
 pub +condition+conjunction+operand+plain-spec : {M : Type 1} → statement M

@@ -21,7 +21,15 @@ returns-2 : tie.Need-returns-2
 returns-2 c =
     let t = c .before .before .before in
     let h = t .pre .2 (c .if1 .left) in
-    record { cursor = refl; words = refl; grows = search needs; most = search needs; stays = take-set-le (t .args .p .put) (t .args .words .now) (t .args .p .put) (t .args .w) (omega arith); adds = λ q. record { put = refl; said = refl } }
+    record {
+      cursor = refl;
+      words = refl;
+      grows = search needs;
+      most = search needs;
+      stays =
+          take-set-le (t .args .p .put) (t .args .words .now) (t .args .p .put) (t .args .w) (omega arith);
+      adds = λ q. record { put = refl; said = refl };
+    }
 
 pub put-spec : {M : Type 1} → statement M
 put-spec = tie.close (tie.spec returns mul-words element-write-words add-t7 returns-2)

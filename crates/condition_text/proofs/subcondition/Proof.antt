@@ -20,7 +20,8 @@ returns c =
     let a = c .refused .ensures .0 s (g .0 .fits) in
     let z = c .refused .ensures .1 in (
       (λ b d. laws.refuses _ z a
-          (laws.input-fault s _ _ b d (p .cursor) (p .words) _ (c .before .before .name-fault .ensures .0 s (g .0 .fits) b (p .words)) (c .before .if1 .taken) _ a (z .why))),
+          (laws.input-fault s _ _ b d (p .cursor) (p .words) _ (c .before .before .name-fault .ensures .0 s (g .0 .fits) b (p .words))
+          (c .before .if1 .taken) _ a (z .why))),
       laws.stopped 0 _ (g .0) a z,
     )
 
@@ -35,19 +36,27 @@ refused-requires-2 c κs = search needs
 
 returns-2 : tie.Need-returns-2
 returns-2 c =
-    let t = c .before .before .before .before .before .before .before .before in
+    let c3 = c .before .before .before in
+    let c4 = c3 .before in
+    let c5 = c4 .before in
+    let t = c5 .before .before .before in
     let p = t .args .p in
     let g = t .pre in
     let s = t .args .s .now in
     let a = c .refused2 .ensures .0 s (g .0 .fits) in
     let z = c .refused2 .ensures .1 in (
       (λ b d. laws.refuses _ z a
-          (laws.input-unknown s _ _ b d (p .cursor) (p .words) (sym (c .before .before .before .before .if1 .left) ∙ c .before .before .before .before .before .name-fault .ensures .0 s (g .0 .fits) b (p .words)) _ (c .before .before .before .input-of .ensures .0) _ (c .before .if2 .taken) a (z .why))),
+          (laws.input-unknown s _ _ b d (p .cursor) (p .words) (sym (c4 .if1 .left) ∙ c5 .name-fault .ensures .0 s (g .0 .fits) b (p .words)) _
+          (c3 .input-of .ensures .0) _ (c .before .if2 .taken) a (z .why))),
       laws.stopped 0 _ (g .0) a z,
     )
 
 count-requires : tie.Need-count-requires
-count-requires c κs = (c .before .before .before .before .before .before .before .pre .0, λ z. let k = c .before .before .before .before .name-fault .ensures .1 (c .before .before .before .if1 .left) in omega arith)
+count-requires c κs =
+    let c3 = c .before .before .before in
+    let c4 = c3 .before in
+    let c7 = c4 .before .before .before in
+    (c7 .pre .0, λ z. let k = c4 .name-fault .ensures .1 (c3 .if1 .left) in omega arith)
 
 expect-requires : tie.Need-expect-requires
 expect-requires c κs = search needs
@@ -61,19 +70,24 @@ term-here-requires c κs =
 
 returns-3 : tie.Need-returns-3
 returns-3 c =
-    let t = c .before .before .before .before .before .before .before .before .before .before .before .before in
+    let c4 = c .before .before .before .before in
+    let c7 = c4 .before .before .before in
+    let c8 = c7 .before in
+    let c9 = c8 .before in
+    let t = c9 .before .before .before in
     let p = t .args .p in
     let g = t .pre in
     let s = t .args .s .now in
-    let n = c .before .before .before .before .count .ensures .1 in
+    let n = c4 .count .ensures .1 in
     let a = c .before .before .expect .ensures .0 in
-    let z = g .0 .fits .halted (λ z. let k = c .before .before .before .before .before .before .before .before .before .name-fault .ensures .1 (c .before .before .before .before .before .before .before .before .if1 .left) in omega arith) in (
+    let z = g .0 .fits .halted (λ z. let k = c9 .name-fault .ensures .1 (c8 .if1 .left) in omega arith) in (
       (λ b d. simp (
-        sym (laws.input-known s _ _ b d (p .cursor) (p .words) (sym (c .before .before .before .before .before .before .before .before .if1 .left) ∙ c .before .before .before .before .before .before .before .before .before .name-fault .ensures .0 s (g .0 .fits) b (p .words)) _ (c .before .before .before .before .before .before .before .input-of .ensures .0) (search needs)),
-        sym (c .before .before .before .before .count .ensures .0 b),
-        sym (a .reads b (c .before .before .before .before .count .result .words)),
+        sym (laws.input-known s _ _ b d (p .cursor) (p .words) (sym (c8 .if1 .left) ∙ c9 .name-fault .ensures .0 s (g .0 .fits) b (p .words)) _
+            (c7 .input-of .ensures .0) (search needs)),
+        sym (c4 .count .ensures .0 b),
+        sym (a .reads b (c4 .count .result .words)),
       ) (laws.from (n .put) (c .term-here .ensures .0 b d))),
-      laws.counted-then 0 z n (laws.within-then (laws.stepped (c .before .before .before .before .count .result) _ (n .room) a) (c .term-here .ensures .1)),
+      laws.counted-then 0 z n (laws.within-then (laws.stepped (c4 .count .result) _ (n .room) a) (c .term-here .ensures .1)),
     )
 
 pub subcondition-spec : {M : Type 1} → statement M

@@ -35,11 +35,15 @@ put-requires c κs =
 returns-2 : tie.Need-returns-2
 unfolding termOrNot
 returns-2 c =
-    let n = c .before .before .before .before .count .ensures .1 in
-    let g = c .before .before .before .before .before .before .before .before .before .pre in
+    let c4 = c .before .before .before .before in
+    let c5 = c4 .before in
+    let c9 = c5 .before .before .before .before in
+    let n = c4 .count .ensures .1 in
+    let g = c9 .pre in
     let w = c .before .before .term-named2 .ensures .1 in
-    let z = g .0 .fits .halted (λ k. omega (arith, c .before .before .before .before .before .if1 .left)) in (
-      (λ b d. simp (kind-seen, eq-eqb _ _ (c .before .before .before .before .before .if1 .left), sym (c .before .before .before .before .count .ensures .0 b)) (laws.from (n .put) (laws.negates (c .before .before .term-named2 .ensures .0 b d) (c .put .ensures)))),
+    let z = g .0 .fits .halted (λ k. omega (arith, c5 .if1 .left)) in (
+      (λ b d. simp (kind-seen, eq-eqb _ _ (c5 .if1 .left), sym (c4 .count .ensures .0 b))
+          (laws.from (n .put) (laws.negates (c .before .before .term-named2 .ensures .0 b d) (c .put .ensures)))),
       laws.turned z n w (c .put .ensures),
     )
 

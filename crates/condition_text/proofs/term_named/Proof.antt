@@ -19,7 +19,8 @@ returns c =
     let s = t .args .s .now in
     let a = c .refused .ensures .0 s (g .0 .fits) in (
       (λ b d. laws.refuses _ (c .refused .ensures .1) a
-          (laws.term-fault s _ _ b d (p .cursor) (p .words) _ (c .before .before .name-fault .ensures .0 s (g .0 .fits) b (p .words)) (c .before .if1 .taken) _)),
+          (laws.term-fault s _ _ b d (p .cursor) (p .words) _ (c .before .before .name-fault .ensures .0 s (g .0 .fits) b (p .words))
+          (c .before .if1 .taken) _)),
       laws.stopped 1 _ (g .0) a (c .refused .ensures .1),
     )
 
@@ -50,18 +51,26 @@ refused-requires-2 c κs = search needs
 
 returns-2 : tie.Need-returns-2
 returns-2 c =
-    let t = c .before .before .before .before .before .before .before .before .before in
+    let c4 = c .before .before .before .before in
+    let c5 = c4 .before in
+    let c6 = c5 .before in
+    let t = c6 .before .before .before in
     let p = t .args .p in
     let g = t .pre in
     let s = t .args .s .now in
     let a = c .refused2 .ensures .0 s (g .0 .fits) in (
       (λ b d. laws.refuses _ (c .refused2 .ensures .1) a
-          (laws.term-unknown s _ _ b d (p .cursor) (p .words) (sym (c .before .before .before .before .before .if1 .left) ∙ c .before .before .before .before .before .before .name-fault .ensures .0 s (g .0 .fits) b (p .words)) _ (g .2) _ (c .before .before .before .before .term-of .ensures .0) (c .before .if2 .taken))),
+          (laws.term-unknown s _ _ b d (p .cursor) (p .words) (sym (c5 .if1 .left) ∙ c6 .name-fault .ensures .0 s (g .0 .fits) b (p .words)) _ (g .2)
+          _ (c4 .term-of .ensures .0) (c .before .if2 .taken))),
       laws.stopped 1 _ (g .0) a (c .refused2 .ensures .1),
     )
 
 advance-requires : tie.Need-advance-requires
-advance-requires c κs = (c .before .before .before .before .before .before .before .before .pre .0 .fits, λ z. let k = c .before .before .before .before .before .name-fault .ensures .1 (c .before .before .before .before .if1 .left) in omega arith)
+advance-requires c κs =
+    let c4 = c .before .before .before .before in
+    let c5 = c4 .before in
+    let c8 = c5 .before .before .before in
+    (c8 .pre .0 .fits, λ z. let k = c5 .name-fault .ensures .1 (c4 .if1 .left) in omega arith)
 
 mul-put : tie.Need-mul-put
 mul-put c = search needs
@@ -71,33 +80,43 @@ element-copy-out-put c = search needs
 
 add-put : tie.Need-add-put
 add-put c =
-    let t = c .before .before .before .before .before .before .before .before .before .before .before in omega (arith, t .pre .1 .small (t .args .i) (omega (arith, t .pre .1 .inputs)))
+    let t = c .before .before .before .before .before .before .before .before .before .before .before in
+    omega (arith, t .pre .1 .small (t .args .i) (omega (arith, t .pre .1 .inputs)))
 
 add-put-2 : tie.Need-add-put-2
 add-put-2 c =
-    let t = c .before .before .before .before .before .before .before .before .before .before .before in omega (arith, t .pre .1 .small (t .args .i) (omega (arith, t .pre .1 .inputs)))
+    let t = c .before .before .before .before .before .before .before .before .before .before .before in
+    omega (arith, t .pre .1 .small (t .args .i) (omega (arith, t .pre .1 .inputs)))
 
 cast-put : tie.Need-cast-put
 cast-put c =
-    let t = c .before .before .before .before .before .before .before .before .before .before .before in omega (arith, t .pre .1 .small (t .args .i) (omega (arith, t .pre .1 .inputs)))
+    let t = c .before .before .before .before .before .before .before .before .before .before .before in
+    omega (arith, t .pre .1 .small (t .args .i) (omega (arith, t .pre .1 .inputs)))
 
 put-requires : tie.Need-put-requires
 put-requires c κs =
-    let g = c .before .before .before .before .before .before .before .before .before .before .before .pre in (g .0 .put, g .0 .words, λ h. g .3 (c .before .before .advance .ensures .0 .sticky h))
+    let c11 = c .before .before .before .before .before .before .before .before .before .before .before in
+    let g = c11 .pre in
+    (g .0 .put, g .0 .words, λ h. g .3 (c .before .before .advance .ensures .0 .sticky h))
 
 returns-3 : tie.Need-returns-3
 returns-3 c =
-    let t = c .before .before .before .before .before .before .before .before .before .before .before .before in
+    let c3 = c .before .before .before in
+    let c4 = c3 .before in
+    let c7 = c4 .before .before .before in
+    let c8 = c7 .before in
+    let c9 = c8 .before in
+    let t = c9 .before .before .before in
     let p = t .args .p in
     let g = t .pre in
     let s = t .args .s .now in
-    let a = c .before .before .before .advance .ensures .0 in
+    let a = c3 .advance .ensures .0 in
     let w = laws.stepped p _ (g .0) a in (
       (λ b d.
-          let e = sym (c .before .before .before .before .before .before .before .before .if1 .left) ∙ c .before .before .before .before .before .before .before .before .before .name-fault .ensures .0 s (g .0 .fits) b (p .words) in
+          let e = sym (c8 .if1 .left) ∙ c9 .name-fault .ensures .0 s (g .0 .fits) b (p .words) in
           laws.names-term a (c .put .ensures)
-          (laws.term-known s _ _ b d (p .cursor) (p .words) e _ (g .2) _ (c .before .before .before .before .before .before .before .term-of .ensures .0) (c .before .before .before .before .if2 .left))
-          (laws.term-words s _ _ b d (p .cursor) (p .words) e _ (g .2) _ (c .before .before .before .before .before .before .before .term-of .ensures .0) _ refl)),
+          (laws.term-known s _ _ b d (p .cursor) (p .words) e _ (g .2) _ (c7 .term-of .ensures .0) (c4 .if2 .left))
+          (laws.term-words s _ _ b d (p .cursor) (p .words) e _ (g .2) _ (c7 .term-of .ensures .0) _ refl)),
       laws.within-then w (laws.put-within (w .room) (c .put .ensures)),
     )
 

@@ -16,15 +16,19 @@ sub-if2 c = search needs
 
 returns-2 : tie.Need-returns-2
 unfolding fault
-returns-2 c =
-    ((λ s g b n. simp (laws.kind-seen, laws.text-seen, laws.text-length s _ g, eq-eqb _ _ (c .before .before .if1 .left), lt-leb _ _ (c .if2 .taken))
-    refl), λ h. absurd (omega arith))
+returns-2 c = (
+  (λ s g b n. simp (laws.kind-seen, laws.text-seen, laws.text-length s _ g, eq-eqb _ _ (c .before .before .if1 .left), lt-leb _ _ (c .if2 .taken))
+      refl),
+  λ h. absurd (omega arith),
+)
 
 returns-3 : tie.Need-returns-3
 unfolding fault
-returns-3 c =
-    ((λ s g b n. simp (laws.kind-seen, laws.text-seen, laws.text-length s _ g, eq-eqb _ _ (c .before .before .if1 .left), le-leb _ _ (c .if2 .left))
-    refl), λ h. c .before .before .if1 .left)
+returns-3 c = (
+  (λ s g b n. simp (laws.kind-seen, laws.text-seen, laws.text-length s _ g, eq-eqb _ _ (c .before .before .if1 .left), le-leb _ _ (c .if2 .left))
+      refl),
+  λ h. c .before .before .if1 .left,
+)
 
 pub name-fault-spec : {M : Type 1} → statement M
 name-fault-spec = tie.close (tie.spec returns sub-if2 returns-2 returns-3)

@@ -25,10 +25,9 @@ returns c =
     let x = c5 .inputs .ensures in
     let a = c3 .expect .ensures .0 in
     let y = c .before .before .input-type .ensures in
-    let b = c .expect2 .ensures .0 in
-    (
+    let b = c .expect2 .ensures .0 in (
       reading.also (reading.next (reading.next (reading.next (x .0) (reading.step _ (x .0 .good .holds) a)) y) (reading.step _ (y .good .holds) b))
-      (laws.declaration-is _ (c7 .args .p)),
+          (laws.declaration-is _ (c7 .args .p)),
       λ h. omega (arith, x .1 h, a .fewer, y .fewer, b .fewer),
     )
 

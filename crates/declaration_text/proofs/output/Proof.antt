@@ -17,12 +17,11 @@ returns : tie.Need-returns
 returns c =
     let c8 = c .before .before .before .before .before .before .before .before in
     let a = c8 .args in
-    let g = c8 .pre in
-    (
+    let g = c8 .pre in (
       laws.variable-bad addOutput outputCount outputLimit (a .s .now) (a .p .cursor) (a .p .tables) _
-      (laws.declares (a .s .now) (a .p .tables) .outputs) (c .refuse .result) _
-      (c .before .before .new-fault .ensures .0 _ 0 (laws.declares (a .s .now) (a .p .tables))) (g .holds) (c .before .if1 .taken)
-      (c .refuse .ensures .0 _ (g .fits)),
+          (laws.declares (a .s .now) (a .p .tables) .outputs) (c .refuse .result) _
+          (c .before .before .new-fault .ensures .0 _ 0 (laws.declares (a .s .now) (a .p .tables))) (g .holds) (c .before .if1 .taken)
+          (c .refuse .ensures .0 _ (g .fits)),
       c .refuse .ensures .1 .0 _ (g .fits),
     )
 
@@ -41,10 +40,9 @@ returns-2 c =
     let a = c9 .args in
     let g = c9 .pre in
     let e = c3 .new-fault .ensures in
-    let z = c .before .before .if1 .left in
-    (
+    let z = c .before .before .if1 .left in (
       laws.variable-good addOutput outputCount outputLimit (a .s .now) (a .p .cursor) (a .p .tables) _
-      (laws.declares (a .s .now) (a .p .tables) .outputs) (c .advance .result) _ (e .0 _ 0 (laws.declares (a .s .now) (a .p .tables)))
+          (laws.declares (a .s .now) (a .p .tables) .outputs) (c .advance .result) _ (e .0 _ 0 (laws.declares (a .s .now) (a .p .tables)))
           (c .before .add-output .result) (g .fits) (λ q. omega (arith, e .1 z .0)) z
           (c .before .add-output .ensures _ (g .holds) (g .fits .order) (g .fits .inside)) (c .advance .ensures .0),
       λ h. c .advance .ensures .1 .0,

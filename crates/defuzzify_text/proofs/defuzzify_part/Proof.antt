@@ -12,7 +12,11 @@ defuzzify-named-requires c κs = record { fits = c .expect .ensures .0 .fits; ho
 
 returns : tie.Need-returns
 unfolding defuzzify
-returns c = (reading.next (reading.step _ (c .before .before .before .before .pre .holds) (c .before .expect .ensures .0)) (c .defuzzify-named .ensures), λ h. omega (arith, c .before .expect .ensures .1 h, c .defuzzify-named .ensures .fewer))
+returns c =
+    let c4 = c .before .before .before .before in (
+      reading.next (reading.step _ (c4 .pre .holds) (c .before .expect .ensures .0)) (c .defuzzify-named .ensures),
+      λ h. omega (arith, c .before .expect .ensures .1 h, c .defuzzify-named .ensures .fewer),
+    )
 
 pub defuzzify-part-spec : {M : Type 1} → statement M
 defuzzify-part-spec = tie.close (tie.spec expect-requires defuzzify-named-requires returns)

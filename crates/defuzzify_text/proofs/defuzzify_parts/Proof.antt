@@ -24,10 +24,15 @@ loop-less : tie.Need-loop-less Inv-loop μ-loop
 loop-less c = c .defuzzify-part2 .ensures .1 (λ z. omega (arith, c .before .if1 .taken))
 
 loop-again : tie.Need-loop-again Inv-loop μ-loop
-loop-again c = reading.goes 138 _ _ _ (c .before .before .before .loop .q) (c .defuzzify-part2 .result) (c .before .before .before .loop .inv) (c .before .if1 .taken) (c .defuzzify-part2 .ensures .0) (c .defuzzify-part2 .ensures .1 (λ z. omega (arith, c .before .if1 .taken)))
+loop-again c =
+    let c3 = c .before .before .before in
+    reading.goes 138 _ _ _ (c3 .loop .q) (c .defuzzify-part2 .result) (c3 .loop .inv) (c .before .if1 .taken) (c .defuzzify-part2 .ensures .0)
+    (c .defuzzify-part2 .ensures .1 (λ z. omega (arith, c .before .if1 .taken)))
 
 returns : tie.Need-returns Inv-loop μ-loop
-returns c = reading.next (c .before .before .before .defuzzify-part .ensures .0) (reading.leaves 138 _ _ _ (c .before .before .loop .q) (c .before .before .loop .inv) (c .if1 .left))
+returns c =
+    let c3 = c .before .before .before in
+    reading.next (c3 .defuzzify-part .ensures .0) (reading.leaves 138 _ _ _ (c .before .before .loop .q) (c .before .before .loop .inv) (c .if1 .left))
 
 pub defuzzify-parts-spec : {M : Type 1} → statement M
 defuzzify-parts-spec =

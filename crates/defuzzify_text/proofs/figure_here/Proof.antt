@@ -18,14 +18,28 @@ inside-requires : tie.Need-inside-requires
 inside-requires c κs = search needs
 
 returns-2 : tie.Need-returns-2
-returns-2 c = let e = c .before .before .before .before .before .crisp-here .ensures in
-    let z = c .before .before .before .if1 .left in
-    ((λ b n. z ∙ sym (laws.figure-judged (c .before .before .before .before .before .before .before .args .s .now) (c .before .before .before .before .before .before .before .args .c) b n (c .before .before .before .before .before .before .before .args .v) _ true (sym z ∙ e .0 b n) (value-here _ _ _ _ (e .1 .0) z) (sym (c .before .inside .ensures) ∙ c .if2 .taken))), λ h. (e .1 .1 z, value-here _ _ _ _ (e .1 .0) z))
+returns-2 c =
+    let c3 = c .before .before .before in
+    let c5 = c3 .before .before in
+    let c7 = c5 .before .before in
+    let e = c5 .crisp-here .ensures in
+    let z = c3 .if1 .left in (
+      (λ b n. z ∙ sym (laws.figure-judged (c7 .args .s .now) (c7 .args .c) b n (c7 .args .v) _ true (sym z ∙ e .0 b n) (value-here _ _ _ _ (e .1 .0) z)
+          (sym (c .before .inside .ensures) ∙ c .if2 .taken))),
+      λ h. (e .1 .1 z, value-here _ _ _ _ (e .1 .0) z),
+    )
 
 returns-3 : tie.Need-returns-3
-returns-3 c = let e = c .before .before .before .before .before .crisp-here .ensures in
-    let z = c .before .before .before .if1 .left in
-    ((λ b n. sym (laws.figure-judged (c .before .before .before .before .before .before .before .args .s .now) (c .before .before .before .before .before .before .before .args .c) b n (c .before .before .before .before .before .before .before .args .v) _ false (sym z ∙ e .0 b n) (value-here _ _ _ _ (e .1 .0) z) (sym (c .before .inside .ensures) ∙ c .if2 .left))), λ h. absurd (omega arith))
+returns-3 c =
+    let c3 = c .before .before .before in
+    let c5 = c3 .before .before in
+    let c7 = c5 .before .before in
+    let e = c5 .crisp-here .ensures in
+    let z = c3 .if1 .left in (
+      (λ b n. sym (laws.figure-judged (c7 .args .s .now) (c7 .args .c) b n (c7 .args .v) _ false (sym z ∙ e .0 b n) (value-here _ _ _ _ (e .1 .0) z)
+          (sym (c .before .inside .ensures) ∙ c .if2 .left))),
+      λ h. absurd (omega arith),
+    )
 
 pub figure-here-spec : {M : Type 1} → statement M
 figure-here-spec =

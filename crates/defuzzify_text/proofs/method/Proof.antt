@@ -24,7 +24,12 @@ expect-requires-6 c κs = (c .expect5 .ensures .0 .fits, omega arith)
 
 returns : tie.Need-returns
 unfolding methodText
-returns c = steps (steps (steps (steps (steps (c .before .before .before .before .before .expect .ensures .0) (c .before .before .before .before .expect2 .ensures .0)) (c .before .before .before .expect3 .ensures .0)) (c .before .before .expect4 .ensures .0)) (c .before .expect5 .ensures .0)) (c .expect6 .ensures .0)
+returns c =
+    let c3 = c .before .before .before in
+    let c4 = c3 .before in
+    let c5 = c4 .before in
+    steps (steps (steps (steps (steps (c5 .expect .ensures .0) (c4 .expect2 .ensures .0)) (c3 .expect3 .ensures .0))
+    (c .before .before .expect4 .ensures .0)) (c .before .expect5 .ensures .0)) (c .expect6 .ensures .0)
 
 pub method-spec : {M : Type 1} → statement M
 method-spec =

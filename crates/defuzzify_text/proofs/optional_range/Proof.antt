@@ -16,12 +16,18 @@ expect-requires : tie.Need-expect-requires
 expect-requires c κs = (c .advance .ensures .0 .fits, omega arith)
 
 range-from-requires : tie.Need-range-from-requires
-range-from-requires c κs = (record { fits = c .expect .ensures .0 .fits; holds = c .before .before .before .before .before .before .pre .0 .holds }, c .before .before .before .before .before .before .pre .1)
+range-from-requires c κs =
+    let c6 = c .before .before .before .before .before .before in
+    (record { fits = c .expect .ensures .0 .fits; holds = c6 .pre .0 .holds }, c6 .pre .1)
 
 returns-2 : tie.Need-returns-2
-returns-2 c = let a = c .before .before .before .before .before .before .before .args in
-    let g = c .before .before .before .before .before .before .before .pre in
-    laws.range-given (a .s .now) (a .p .cursor) (a .p .tables) (a .o) (c .before .expect .result) _ (c .before .before .before .if1 .left) (g .0 .holds) (steps (c .before .before .advance .ensures .0) (c .before .expect .ensures .0)) (c .range-from .ensures)
+returns-2 c =
+    let c3 = c .before .before .before in
+    let c7 = c3 .before .before .before .before in
+    let a = c7 .args in
+    let g = c7 .pre in
+    laws.range-given (a .s .now) (a .p .cursor) (a .p .tables) (a .o) (c .before .expect .result) _ (c3 .if1 .left) (g .0 .holds)
+    (steps (c .before .before .advance .ensures .0) (c .before .expect .ensures .0)) (c .range-from .ensures)
 
 pub optional-range-spec : {M : Type 1} → statement M
 optional-range-spec =

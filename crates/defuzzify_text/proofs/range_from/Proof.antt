@@ -15,18 +15,25 @@ refuse-requires : tie.Need-refuse-requires
 refuse-requires c κs = search needs
 
 returns : tie.Need-returns
-returns c = let a = c .before .before .before .before .before .args in
-    let g = c .before .before .before .before .before .pre in
-    laws.range-lost (a .s .now) (a .p .cursor) (c .refuse .result) (a .p .tables) (a .o) _ (c .before .before .crisp-here .ensures .0 _ 0) (c .before .if1 .taken) (g .0 .holds) (c .refuse .ensures .1 .1) (c .refuse .ensures .0 _ (g .0 .fits))
+returns c =
+    let c5 = c .before .before .before .before .before in
+    let a = c5 .args in
+    let g = c5 .pre in
+    laws.range-lost (a .s .now) (a .p .cursor) (c .refuse .result) (a .p .tables) (a .o) _ (c .before .before .crisp-here .ensures .0 _ 0)
+    (c .before .if1 .taken) (g .0 .holds) (c .refuse .ensures .1 .1) (c .refuse .ensures .0 _ (g .0 .fits))
 
 advance-requires : tie.Need-advance-requires
-advance-requires c κs = (c .before .before .before .before .before .pre .0 .fits, λ q. omega (arith, c .before .before .crisp-here .ensures .1 .1 (c .before .if1 .left)))
+advance-requires c κs =
+    let c5 = c .before .before .before .before .before in
+    (c5 .pre .0 .fits, λ q. omega (arith, c .before .before .crisp-here .ensures .1 .1 (c .before .if1 .left)))
 
 expect-requires : tie.Need-expect-requires
 expect-requires c κs = (c .advance .ensures .0 .fits, omega arith)
 
 upper-end-requires : tie.Need-upper-end-requires
-upper-end-requires c κs = (record { fits = c .expect .ensures .0 .fits; holds = c .before .before .before .before .before .before .before .pre .0 .holds }, c .before .before .before .before .before .before .before .pre .1)
+upper-end-requires c κs =
+    let c7 = c .before .before .before .before .before .before .before in
+    (record { fits = c .expect .ensures .0 .fits; holds = c7 .pre .0 .holds }, c7 .pre .1)
 
 expect-requires-2 : tie.Need-expect-requires-2
 expect-requires-2 c κs = (c .before .upper-end .ensures .reads .good .fits, omega arith)
@@ -35,13 +42,23 @@ expect-requires-3 : tie.Need-expect-requires-3
 expect-requires-3 c κs = (c .expect2 .ensures .0 .fits, omega arith)
 
 returns-2 : tie.Need-returns-2
-returns-2 c = let a = c .before .before .before .before .before .before .before .before .before .before .before .args in
-    let g = c .before .before .before .before .before .before .before .before .before .before .before .pre in
-    let e = c .before .before .before .before .before .before .before .before .crisp-here .ensures in
-    let z = c .before .before .before .before .before .before .before .if1 .left in
-    let u = c .before .before .before .upper-end .ensures in
+returns-2 c =
+    let c3 = c .before .before .before in
+    let c4 = c3 .before in
+    let c5 = c4 .before in
+    let c7 = c5 .before .before in
+    let c8 = c7 .before in
+    let c11 = c8 .before .before .before in
+    let a = c11 .args in
+    let g = c11 .pre in
+    let e = c8 .crisp-here .ensures in
+    let z = c7 .if1 .left in
+    let u = c3 .upper-end .ensures in
     record {
-      reads = reading.also (reading.next (reading.next (reading.next (laws.is-crisp (a .s .now) (a .p .cursor) (c .before .before .before .before .before .advance .result) (a .p .tables) (a .o) (sym z ∙ e .0 _ 0) (g .0 .holds) (c .before .before .before .before .before .advance .ensures .0)) (reading.step _ (g .0 .holds) (c .before .before .before .before .expect .ensures .0))) (u .reads)) (reading.step _ (u .reads .good .holds) (steps (c .before .expect2 .ensures .0) (c .expect3 .ensures .0))))
+      reads = reading.also (reading.next (reading.next (reading.next
+          (laws.is-crisp (a .s .now) (a .p .cursor) (c5 .advance .result) (a .p .tables) (a .o) (sym z ∙ e .0 _ 0) (g .0 .holds)
+          (c5 .advance .ensures .0)) (reading.step _ (g .0 .holds) (c4 .expect .ensures .0))) (u .reads))
+          (reading.step _ (u .reads .good .holds) (steps (c .before .expect2 .ensures .0) (c .expect3 .ensures .0))))
           (laws.range-is (a .s .now) (a .p) (a .o) _ (value-here _ _ _ _ (e .1 .0) z));
       count = u .count;
     }

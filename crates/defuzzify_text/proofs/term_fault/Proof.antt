@@ -11,7 +11,9 @@ name-fault-requires : tie.Need-name-fault-requires
 name-fault-requires c κs = c .before .pre .0 .order
 
 returns : tie.Need-returns
-returns c = ((λ b n h. laws.term-none _ _ _ _ _ b n h _ (c .before .name-fault .ensures .0 _ (c .before .before .before .pre .0) b n) (c .if1 .taken)), λ h. absurd (c .if1 .taken h))
+returns c =
+    let c3 = c .before .before .before in
+    ((λ b n h. laws.term-none _ _ _ _ _ b n h _ (c .before .name-fault .ensures .0 _ (c3 .pre .0) b n) (c .if1 .taken)), λ h. absurd (c .if1 .taken h))
 
 mul-find : tie.Need-mul-find
 mul-find c = search needs
@@ -23,10 +25,24 @@ find-requires : tie.Need-find-requires
 find-requires c κs = search needs
 
 returns-2 : tie.Need-returns-2
-returns-2 c = ((λ b n h. sym (laws.term-judged (c .before .before .before .before .before .args .s .now) _ (c .before .before .before .before .before .args .c) _ _ b n h _ true (sym (c .before .before .if1 .left) ∙ c .before .before .before .name-fault .ensures .0 _ (c .before .before .before .before .before .pre .0) b n) (laws.found-at _ _ _ _ _ _ b h (c .before .find .ensures .0)) (lt-ltb _ _ (c .if2 .taken)))), λ h. absurd (omega arith))
+returns-2 c =
+    let c3 = c .before .before .before in
+    let c5 = c3 .before .before in (
+      (λ b n h. sym (laws.term-judged (c5 .args .s .now) _ (c5 .args .c) _ _ b n h _ true
+          (sym (c .before .before .if1 .left) ∙ c3 .name-fault .ensures .0 _ (c5 .pre .0) b n) (laws.found-at _ _ _ _ _ _ b h (c .before .find .ensures .0))
+          (lt-ltb _ _ (c .if2 .taken)))),
+      λ h. absurd (omega arith),
+    )
 
 returns-3 : tie.Need-returns-3
-returns-3 c = ((λ b n h. sym (laws.term-judged (c .before .before .before .before .before .args .s .now) _ (c .before .before .before .before .before .args .c) _ _ b n h _ false (sym (c .before .before .if1 .left) ∙ c .before .before .before .name-fault .ensures .0 _ (c .before .before .before .before .before .pre .0) b n) (laws.found-at _ _ _ _ _ _ b h (c .before .find .ensures .0)) (le-ltb _ _ (c .if2 .left)))), λ h. c .before .before .before .name-fault .ensures .1 (c .before .before .if1 .left))
+returns-3 c =
+    let c3 = c .before .before .before in
+    let c5 = c3 .before .before in (
+      (λ b n h. sym (laws.term-judged (c5 .args .s .now) _ (c5 .args .c) _ _ b n h _ false
+          (sym (c .before .before .if1 .left) ∙ c3 .name-fault .ensures .0 _ (c5 .pre .0) b n) (laws.found-at _ _ _ _ _ _ b h (c .before .find .ensures .0))
+          (le-ltb _ _ (c .if2 .left)))),
+      λ h. c3 .name-fault .ensures .1 (c .before .before .if1 .left),
+    )
 
 pub term-fault-spec : {M : Type 1} → statement M
 term-fault-spec =

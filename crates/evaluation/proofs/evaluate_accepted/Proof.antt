@@ -1,130 +1,122 @@
 use borrow.Author.Needs.{needs}
 use mathlib.Core.Path.{_≡_, refl, sym, ap, _∙_, subst}
 use mathlib.Core.List.{List, map}
-use mathlib.Core.Bool.{true, false}
+use mathlib.Core.Bool.{true}
+use mathlib.Core.Option.{some}
 use Prim.Native.Nat.{ℕ, _≤_, _<_}
 use native.Mathlib.Omega.{arith}
 use lib.ListN.{length}
 use borrow.Author.Tests.{not-true, not-false}
 use Rattle.model.specs.Bounds.{M}
 use Rattle.model.specs.Image.{wordAt, decode}
-use mathlib.Core.Option.{some}
-use Rattle.model.specs.Outcome.{Outcome, refused}
-use Rattle.model.specs.declared.Verdict.the-variants.{Accepted}
-use Rattle.model.specs.Evaluation.{CallResult, evaluateBlock, blockAnswers, noAnswer, padded, heldOf, heldOk, figuresOf}
+use Rattle.model.specs.Outcome.{refused}
+use Rattle.model.specs.Evaluation.{noAnswer, padded, heldOf, heldOk, figuresOf}
 use Rattle.model.specs.declared.Answer.{Answer}
-use Rattle.model.specs.declared.Evaluation.{Evaluation}
 use Rattle.layout.proofs.Whole.{inputs-count}
 use Rattle.aggregation.proofs.Degrees.{number-at}
-use Rattle.evaluation.specs.Tells.{Tells}
-use Rattle.evaluation.proofs.Laws.{tells-12, tells-13, tells-14, called-12, called-13, called-14, called-ok, answers-are}
+use Rattle.fuzzification.specs.Values.{valuesRead}
+use Rattle.evaluation.proofs.Laws.{tells-as, called-12, called-13, called-14, called-ok, answers-are}
 use Rattle.evaluation.proofs.evaluate_accepted.Statement.{statement}
 use Rattle.evaluation.proofs.evaluate_accepted.Tie as tie
-use Rattle.evaluation.proofs.evaluate_accepted.Reads as reads
-use Rattle.evaluation.proofs.evaluate_accepted.Lts as lts
-use Rattle.accumulation.proofs.heights.Reads as heights-reads
-use Rattle.defuzzification.proofs.outputs.Reads as outputs-reads
-use Rattle.evaluation.proofs.refused.Reads as refused-reads
-use Rattle.fuzzification.proofs.input_values.Reads as input-values-reads
-use Rattle.fuzzification.proofs.term_degrees.Reads as term-degrees-reads
-use Rattle.held.proofs.record_ok.Reads as record-ok-reads
-use Rattle.words.proofs.word.Reads as word-reads
 
-inputs-are : (c : tie.After-word) → length (decode (wordAt (c .before .before .args .img .now)) .inputs) ≡ c .word .result
-inputs-are c = inputs-count (wordAt (c .before .before .args .img .now)) ∙ sym (c .word .ensures .0)
+inputs-are : (s : tie.Start) → length (decode (wordAt (s .args .img .now)) .inputs) ≡ s .args .h .inputs
+inputs-are s = inputs-count (wordAt (s .args .img .now)) ∙ sym (s .pre .1 .inputs)
 
-count-right : (c : tie.Else1) → c .before .before .before .before .before .args .n ≡ length (decode (wordAt (c .before .before .before .before .before .args .img .now)) .inputs)
+count-right : (c : tie.Else1) →
+    let a = c .before .before .before .args in
+    a .n ≡ length (decode (wordAt (a .img .now)) .inputs)
 count-right c = c .if1 .left ∙ sym (inputs-are (c .before .before .before))
 
 held-right : (c : tie.Else2) →
-    let a = c .before .before .before .before .before .before .args in
+    let a = c .before .before .before .before .args in
     heldOk (decode (wordAt (a .img .now)) .outputs) (figuresOf (a .before)) ≡ true
-held-right c = sym (c .before .before .record-ok .ensures) ∙ not-false (c .before .before .record-ok .result) (c .if2 .left)
-
-word-requires : tie.Need-word-requires
-word-requires c κs = search needs
+held-right c = let k = c .before .before .record-ok in sym (k .ensures) ∙ not-false (k .result) (c .if2 .left)
 
 record-ok-requires : tie.Need-record-ok-requires
-record-ok-requires c κs = search needs
+record-ok-requires c κs = (c .before .pre .0, c .before .pre .1)
 
 refused-requires : tie.Need-refused-requires
 refused-requires c κs = search needs
 
 returns : tie.Need-returns
 returns c =
-    let w = c .before .before .before .before in
-    let a = w .before .before .args in
-    let b = decode (wordAt (a .img .now)) in
-    subst (λ (r : Evaluation). Tells r (a .before) (evaluateBlock b (a .rs) (a .n) (a .before))) (sym (c .refused .ensures))
-    (tells-12 (a .before) (evaluateBlock b (a .rs) (a .n) (a .before)) (called-12 b (a .rs) (a .n) (a .before) (λ e. c .before .if1 .taken (e ∙ inputs-are w))))
+    let s = c .before .before .before .before in
+    let a = s .args in
+    let e = called-12 (decode (wordAt (a .img .now))) (a .rs) (a .n) (a .before) (λ e. c .before .if1 .taken (e ∙ inputs-are s)) in
+    tells-as _ (a .before) _ _ e (c .refused .ensures)
 
 refused-requires-2 : tie.Need-refused-requires-2
 refused-requires-2 c κs = search needs
 
 returns-2 : tie.Need-returns-2
 returns-2 c =
-    let e = c .before .before in
-    let a = e .before .before .before .before .before .args in
-    let b = decode (wordAt (a .img .now)) in
-    subst (λ (r : Evaluation). Tells r (a .before) (evaluateBlock b (a .rs) (a .n) (a .before))) (sym (c .refused2 .ensures))
-    (tells-13 (a .before) (evaluateBlock b (a .rs) (a .n) (a .before))
-    (called-13 b (a .rs) (a .n) (a .before) (count-right e) (sym (e .before .record-ok .ensures) ∙ not-true (e .before .record-ok .result) (c .before .if2 .taken))))
+    let one = c .before .before in
+    let k = one .before .record-ok in
+    let a = one .before .before .before .args in
+    let no = sym (k .ensures) ∙ not-true (k .result) (c .before .if2 .taken) in
+    tells-as _ (a .before) _ _ (called-13 (decode (wordAt (a .img .now))) (a .rs) (a .n) (a .before) (count-right one) no) (c .refused2 .ensures)
 
 input-values-requires : tie.Need-input-values-requires
-input-values-requires c κs = search needs
+input-values-requires c κs = let s = c .before .before .before .before in (s .pre .0, s .pre .1)
 
 refused-requires-3 : tie.Need-refused-requires-3
 refused-requires-3 c κs = search needs
 
 returns-3 : tie.Need-returns-3
 returns-3 c =
-    let k = c .before .before .before in
-    let e = k .before in
-    let a = e .before .before .before .before .before .args in
+    let v = c .before .before in
+    let two = v .before in
+    let one = two .before in
+    let s = one .before .before .before in
+    let a = s .args in
     let b = decode (wordAt (a .img .now)) in
-    let v = c .before .before .input-values in
-    let h : v .result .wrong < length (b .inputs) = omega (arith, inputs-are (e .before .before .before), c .before .if3 .taken) in
-    subst (λ (r : Evaluation). Tells r (a .before) (evaluateBlock b (a .rs) (a .n) (a .before))) (sym (c .refused3 .ensures))
-    (tells-14 (a .before) (evaluateBlock b (a .rs) (a .n) (a .before)) (v .result .wrong)
-    (called-14 b (a .rs) (a .n) (a .before) (count-right e) (held-right k) (subst (λ (k : ℕ). k < length (b .inputs)) (v .ensures .0) h)
-    ∙ ap (λ (k : ℕ). refused 14 (some k)) (sym (v .ensures .0))))
+    let ew = v .input-values .ensures .0 in
+    let few : length (valuesRead (b .inputs) (a .rs)) < length (b .inputs) = omega (arith, inputs-are s, ew, c .before .if3 .taken) in
+    let e = called-14 b (a .rs) (a .n) (a .before) (count-right one) (held-right two) few ∙ ap (λ (k : ℕ). refused 14 (some k)) (sym ew) in
+    tells-as _ (a .before) _ _ e (c .refused3 .ensures)
 
 term-degrees-requires : tie.Need-term-degrees-requires
-term-degrees-requires c κs = search needs
+term-degrees-requires c κs =
+    let v = c .before .before in
+    let s = v .before .before .before .before .before in
+    (s .pre .0, s .pre .1, v .input-values .ensures .1 .1)
 
 heights-requires : tie.Need-heights-requires
-heights-requires c κs = search needs
+heights-requires c κs =
+    let s = c .before .before .before .before .before .before .before .before in
+    (s .pre .0, s .pre .1, s .pre .2, c .term-degrees .ensures .1)
 
 outputs-requires : tie.Need-outputs-requires
 outputs-requires c κs =
-    let t = c .before .before .before .before .before .before .before .before .before .before .before in
-    (t .pre .0, t .pre .1, (λ k. subst (λ (x : ℕ). x ≤ M) (sym (number-at (c .heights .result) k)) (c .heights .ensures .1 k)))
+    let s = c .before .before .before .before .before .before .before .before .before in
+    let hs = c .heights .result in
+    ((s .pre .0, s .pre .1), (s .pre .2, (λ k. subst (λ (x : ℕ). x ≤ M) (sym (number-at hs k)) (c .heights .ensures .1 k))))
 
 returns-4 : tie.Need-returns-4
 returns-4 c =
-    let o = c .before .before .outputs in
-    let p = c .before .before .before in
+    let o = c .before .before in
+    let p = o .before in
     let d = p .before in
     let i = d .before .before in
-    let k = i .before .before in
-    let e = k .before in
-    let t = e .before .before .before .before .before in
-    let a = t .args in
+    let v = i .before in
+    let two = v .before in
+    let one = two .before in
+    let s = one .before .before .before in
+    let a = s .args in
     let w = wordAt (a .img .now) in
     let b = decode w in
-    let v = i .before .input-values in
-    let l : length (b .inputs) ≤ v .result .wrong = omega (arith, inputs-are (e .before .before .before), i .if3 .left) in
-    let g = answers-are w (t .pre .0) (a .rs) (figuresOf (a .before)) (a .m) (t .pre .1) (v .result .wrong) (v .result .at) (d .term-degrees .result) (p .heights .result)
-    (omega (arith, l, inputs-count w)) (v .ensures .1 .0) (d .term-degrees .ensures .0) (p .heights .ensures .0) in
-    subst (λ (x : Outcome CallResult). Tells (record { verdict = Accepted; answers = o .result .answers; held = o .result .held }) (a .before) x)
-    (sym (called-ok b (a .rs) (a .n) (a .before) (count-right e) (held-right k) (subst (λ (k : ℕ). length (b .inputs) ≤ k) (v .ensures .0) l)))
-    (record { verdict = refl; answers = o .ensures .0 ∙ ap (padded noAnswer) g; held = o .ensures .1 ∙ ap (λ (x : List Answer). heldOf (map (λ y. y .thousandths .0) x)) g })
+    let u = v .input-values in
+    let all : length (b .inputs) ≤ length (valuesRead (b .inputs) (a .rs)) = omega (arith, inputs-are s, u .ensures .0, i .if3 .left) in
+    let g = answers-are w (s .pre .0) (a .rs) (a .before) (a .m) (s .pre .2) (u .result .at) (d .term-degrees .result) (p .heights .result) all
+    (u .ensures .1 .0) (d .term-degrees .ensures .0) (p .heights .ensures .0) in
+    let r = o .outputs .ensures in
+    tells-as _ (a .before) _ _ (called-ok b (a .rs) (a .n) (a .before) (count-right one) (held-right two) all)
+    (record { verdict = refl; answers = r .0 ∙ ap (padded noAnswer) g; held = r .1 ∙ ap (λ (x : List Answer). heldOf (map (λ y. y .thousandths .0) x)) g })
 
 pub evaluate-accepted-spec : {M : Type 1} → statement M
 evaluate-accepted-spec =
     tie.close
     (tie.spec
-    word-requires
     record-ok-requires
     refused-requires
     returns

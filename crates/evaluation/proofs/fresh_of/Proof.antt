@@ -1,25 +1,22 @@
+use borrow.Author.Needs.{needs}
 use mathlib.Core.Path.{sym, ap, _∙_}
 use Rattle.model.specs.Outcome.{Outcome, verdictIn}
 use Rattle.model.specs.Evaluation.{recordIn}
 use Rattle.model.specs.declared.Held.{Held}
 use Rattle.evaluation.proofs.Laws.{fresh-yes, fresh-no}
-use borrow.Author.Needs.{needs}
 use Rattle.evaluation.proofs.fresh_of.Statement.{statement}
 use Rattle.evaluation.proofs.fresh_of.Tie as tie
-use Rattle.evaluation.proofs.fresh_of.Reads as reads
-use Rattle.evaluation.proofs.fresh_of.Lts as lts
-use Rattle.held.proofs.fresh_record.Reads as fresh-record-reads
-use Rattle.load.proofs.examine.Reads as examine-reads
 
 examine-requires : tie.Need-examine-requires
 examine-requires c κs = search needs
 
 fresh-record-requires : tie.Need-fresh-record-requires
-fresh-record-requires c κs = c .before .examine .ensures .1 .0 (c .if1 .taken) .0
+fresh-record-requires c κs = let x = c .before .before .examine .ensures in (x .1 .0 .0 (c .before .if1 .taken) .0, x .1 .1)
 
 returns : tie.Need-returns
 returns c =
-    let e = fresh-yes (c .before .before .before .before .args .img .now) (sym (c .before .before .examine .ensures .0) ∙ c .before .if1 .taken) in
+    let x = c .before .before .before in
+    let e = fresh-yes (x .before .before .args .img .now) (sym (x .examine .ensures .0) ∙ c .before .before .if1 .taken) in
     (ap (λ (o : Outcome Held). verdictIn o) (sym e), c .fresh-record .ensures ∙ ap recordIn (sym e))
 
 returns-2 : tie.Need-returns-2

@@ -1,5 +1,6 @@
 use mathlib.Core.List.{[], _∷_}
-use Rattle.model.specs.declared.Verdict.the-variants.{Refused}
+use mathlib.Core.Path.{_∙_}
+use Rattle.evaluation.proofs.Laws.{refused-tells}
 use borrow.Author.Needs.{needs}
 use Rattle.evaluation.proofs.refused.Statement.{statement}
 use Rattle.evaluation.proofs.refused.Tie as tie
@@ -12,8 +13,10 @@ no-answer-requires c κs = search needs
 
 returns : tie.Need-returns
 returns c =
+    let a = c .before .args in
+    let t = refused-tells (a .why) (a .before) in
     let e = c .no-answer .ensures in
-    λ j. record { verdict = Refused (c .before .args .why); answers = e j ∷ e j ∷ e j ∷ e j ∷ e j ∷ e j ∷ []; held = c .before .args .before }
+    record { verdict = t .verdict; answers = (λ j. e j ∷ e j ∷ e j ∷ e j ∷ e j ∷ e j ∷ []) ∙ t .answers; held = t .held }
 
 pub refused-spec : {M : Type 1} → statement M
 refused-spec = tie.close (tie.spec no-answer-requires returns)

@@ -27,7 +27,8 @@ abbrev μ-loop : tie.MeasureT-loop
 μ-loop img h rs n at₀ i₀ at i = n - i
 
 -- the values that were found when all were read
-whole : (xs : List ℤ) (at : List Crisp) (i : ℕ) → i ≤ 8 → length xs ≡ i → figures at ≡ sets (replicate 8 (pos 0)) 0 (take i xs) → figures at ≡ filled 8 (pos 0) xs
+whole : (xs : List ℤ) (at : List Crisp) (i : ℕ) → i ≤ 8 → length xs ≡ i → figures at ≡ sets (replicate 8 (pos 0)) 0 (take i xs)
+    → figures at ≡ filled 8 (pos 0) xs
 whole xs at i h e g =
     g ∙ ap (λ (ys : List ℤ). sets (replicate 8 (pos 0)) 0 ys) (take-all i xs (omega arith)) ∙ filled-sets 8 (pos 0) xs (omega arith)
 

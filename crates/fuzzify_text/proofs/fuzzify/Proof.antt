@@ -15,9 +15,12 @@ fuzzify-named-requires c κs = search needs
 returns : tie.Need-returns
 unfolding fuzzify
 returns c =
-    let a = c .before .before .before .before .args in
-    let g = c .before .before .before .before .pre in
-    (reading.also (reading.next (reading.step (a .p .tables) (g .holds) (c .before .expect .ensures .0)) (c .fuzzify-named .ensures)) refl, λ z. omega (arith, c .fuzzify-named .ensures .fewer, c .before .expect .ensures .1 z))
+    let c4 = c .before .before .before .before in
+    let a = c4 .args in
+    let g = c4 .pre in (
+      reading.also (reading.next (reading.step (a .p .tables) (g .holds) (c .before .expect .ensures .0)) (c .fuzzify-named .ensures)) refl,
+      λ z. omega (arith, c .fuzzify-named .ensures .fewer, c .before .expect .ensures .1 z),
+    )
 
 pub fuzzify-spec : {M : Type 1} → statement M
 fuzzify-spec = tie.close (tie.spec expect-requires fuzzify-named-requires returns)

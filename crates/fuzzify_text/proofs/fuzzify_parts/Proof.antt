@@ -27,13 +27,20 @@ loop-less c = c .fuzzify2 .ensures .1 (λ z. omega (arith, c .before .if1 .taken
 
 loop-again : tie.Need-loop-again Inv-loop μ-loop
 loop-again c =
-    let a = c .before .before .before .before .before .before .args in
-    reading.goes FUZZIFY _ (a .s .now) (c .before .before .before .before .fuzzify .result) (c .before .before .before .loop .q) (c .fuzzify2 .result) (c .before .before .before .loop .inv) (c .before .if1 .taken) (c .fuzzify2 .ensures .0) (c .fuzzify2 .ensures .1 (λ z. omega (arith, c .before .if1 .taken)))
+    let c3 = c .before .before .before in
+    let c4 = c3 .before in
+    let c6 = c4 .before .before in
+    let a = c6 .args in
+    reading.goes FUZZIFY _ (a .s .now) (c4 .fuzzify .result) (c3 .loop .q) (c .fuzzify2 .result) (c3 .loop .inv) (c .before .if1 .taken)
+    (c .fuzzify2 .ensures .0) (c .fuzzify2 .ensures .1 (λ z. omega (arith, c .before .if1 .taken)))
 
 returns : tie.Need-returns Inv-loop μ-loop
 returns c =
-    let a = c .before .before .before .before .before .args in
-    reading.next (c .before .before .before .fuzzify .ensures .0) (reading.leaves FUZZIFY _ (a .s .now) (c .before .before .before .fuzzify .result) (c .before .before .loop .q) (c .before .before .loop .inv) (c .if1 .left))
+    let c3 = c .before .before .before in
+    let c5 = c3 .before .before in
+    let a = c5 .args in
+    reading.next (c3 .fuzzify .ensures .0) (reading.leaves FUZZIFY _ (a .s .now) (c3 .fuzzify .result) (c .before .before .loop .q)
+    (c .before .before .loop .inv) (c .if1 .left))
 
 pub fuzzify-parts-spec : {M : Type 1} → statement M
 fuzzify-parts-spec =

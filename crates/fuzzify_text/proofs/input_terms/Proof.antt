@@ -28,13 +28,22 @@ loop-less c = c .input-term2 .ensures .1 .0 (λ z. omega (arith, c .before .if1 
 
 loop-again : tie.Need-loop-again Inv-loop μ-loop
 loop-again c =
-    let a = c .before .before .before .before .before .before .args in
-    (reading.goes TERM _ (a .s .now) (c .before .before .before .before .input-term .result) (c .before .before .before .loop .q) (c .input-term2 .result) (c .before .before .before .loop .inv .0) (c .before .if1 .taken) (c .input-term2 .ensures .0) (c .input-term2 .ensures .1 .0 (λ z. omega (arith, c .before .if1 .taken))), c .input-term2 .ensures .1 .1)
+    let c3 = c .before .before .before in
+    let c4 = c3 .before in
+    let c6 = c4 .before .before in
+    let a = c6 .args in (
+      reading.goes TERM _ (a .s .now) (c4 .input-term .result) (c3 .loop .q) (c .input-term2 .result) (c3 .loop .inv .0) (c .before .if1 .taken)
+          (c .input-term2 .ensures .0) (c .input-term2 .ensures .1 .0 (λ z. omega (arith, c .before .if1 .taken))),
+      c .input-term2 .ensures .1 .1,
+    )
 
 returns : tie.Need-returns Inv-loop μ-loop
 returns c =
-    let a = c .before .before .before .before .before .args in
-    reading.next (c .before .before .before .input-term .ensures .0) (reading.leaves TERM _ (a .s .now) (c .before .before .before .input-term .result) (c .before .before .loop .q) (c .before .before .loop .inv .0) (c .if1 .left))
+    let c3 = c .before .before .before in
+    let c5 = c3 .before .before in
+    let a = c5 .args in
+    reading.next (c3 .input-term .ensures .0) (reading.leaves TERM _ (a .s .now) (c3 .input-term .result) (c .before .before .loop .q)
+    (c .before .before .loop .inv .0) (c .if1 .left))
 
 pub input-terms-spec : {M : Type 1} → statement M
 input-terms-spec =

@@ -26,24 +26,40 @@ advance-requires : tie.Need-advance-requires Inv-loop μ-loop
 advance-requires c κs = (c .before .before .before .loop .inv .0 .1 .fits, λ z. omega (arith, c .before .if1 .taken))
 
 point-requires-2 : tie.Need-point-requires-2 Inv-loop μ-loop
-point-requires-2 c κs = (record { fits = c .advance .ensures .0 .fits; holds = c .before .before .before .before .loop .inv .0 .1 .holds }, c .before .before .before .before .loop .inv .1)
+point-requires-2 c κs =
+    let c4 = c .before .before .before .before in
+    (record { fits = c .advance .ensures .0 .fits; holds = c4 .loop .inv .0 .1 .holds }, c4 .loop .inv .1)
 
 loop-less : tie.Need-loop-less Inv-loop μ-loop
 loop-less c = omega (arith, c .point2 .ensures .0 .fewer, c .before .advance .ensures .1 .0)
 
 loop-again : tie.Need-loop-again Inv-loop μ-loop
 loop-again c =
-    let a = c .before .before .before .before .before .before .before .before .args in
-    let q = c .before .before .before .before .before .loop .q in
-    let i = c .before .before .before .before .before .loop .inv in
-    let h = c .before .before .before .if1 .taken in
-    (reading.goes COMMA _ (a .s .now) (c .before .before .before .before .before .before .point .result) q (c .point2 .result) (i .0) h (reading.next (reading.also (reading.step (q .tables) (i .0 .1 .holds) (c .before .advance .ensures .0)) (sym (reading.expect-advance COMMA (a .s .now) q h))) (c .point2 .ensures .0)) (omega (arith, c .point2 .ensures .0 .fewer, c .before .advance .ensures .1 .0)), c .point2 .ensures .1)
+    let c3 = c .before .before .before in
+    let c5 = c3 .before .before in
+    let c6 = c5 .before in
+    let c8 = c6 .before .before in
+    let a = c8 .args in
+    let q = c5 .loop .q in
+    let i = c5 .loop .inv in
+    let h = c3 .if1 .taken in (
+      reading.goes COMMA _ (a .s .now) (c6 .point .result) q (c .point2 .result) (i .0) h
+          (reading.next (reading.also (reading.step (q .tables) (i .0 .1 .holds) (c .before .advance .ensures .0))
+          (sym (reading.expect-advance COMMA (a .s .now) q h))) (c .point2 .ensures .0))
+          (omega (arith, c .point2 .ensures .0 .fewer, c .before .advance .ensures .1 .0)),
+      c .point2 .ensures .1,
+    )
 
 returns : tie.Need-returns Inv-loop μ-loop
 unfolding listed
 returns c =
-    let a = c .before .before .before .before .before .args in
-    (reading.also (reading.next (c .before .before .before .point .ensures .0) (reading.leaves COMMA _ (a .s .now) (c .before .before .before .point .result) (c .before .before .loop .q) (c .before .before .loop .inv .0) (c .if1 .left))) refl, c .before .before .loop .inv .1)
+    let c3 = c .before .before .before in
+    let c5 = c3 .before .before in
+    let a = c5 .args in (
+      reading.also (reading.next (c3 .point .ensures .0)
+          (reading.leaves COMMA _ (a .s .now) (c3 .point .result) (c .before .before .loop .q) (c .before .before .loop .inv .0) (c .if1 .left))) refl,
+      c .before .before .loop .inv .1,
+    )
 
 pub points-spec : {M : Type 1} → statement M
 points-spec =

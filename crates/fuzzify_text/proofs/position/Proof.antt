@@ -18,34 +18,58 @@ refuse-requires c κs = search needs
 
 returns : tie.Need-returns
 returns c =
-    let a = c .before .before .before .before .before .before .args in
-    let g = c .before .before .before .before .before .before .pre in
-    (laws.position-none (a .s .now) (a .c) (c .refuse .result) (a .n) (a .last .0) _ (c .before .before .before .before .crisp-here .ensures .0) (c .before .if1 .taken) (c .refuse .ensures .0 _ g), λ z. absurd (c .refuse .ensures .1 .1 z))
+    let c4 = c .before .before .before .before in
+    let c6 = c4 .before .before in
+    let a = c6 .args in
+    let g = c6 .pre in (
+      laws.position-none (a .s .now) (a .c) (c .refuse .result) (a .n) (a .last .0) _ (c4 .crisp-here .ensures .0) (c .before .if1 .taken)
+          (c .refuse .ensures .0 _ g),
+      λ z. absurd (c .refuse .ensures .1 .1 z),
+    )
 
 may-stand-requires : tie.Need-may-stand-requires
 may-stand-requires c κs = search needs
 
 advance-requires : tie.Need-advance-requires
-advance-requires c κs = (c .before .before .before .before .before .before .before .pre, λ z. omega (arith, c .before .before .before .before .before .crisp-here .ensures .1 .1 (c .before .before .if1 .left)))
+advance-requires c κs =
+    let c5 = c .before .before .before .before .before in
+    let c7 = c5 .before .before in
+    (c7 .pre, λ z. omega (arith, c5 .crisp-here .ensures .1 .1 (c .before .before .if1 .left)))
 
 returns-2 : tie.Need-returns-2
 returns-2 c =
-    let a = c .before .before .before .before .before .before .before .before .args in
-    let g = c .before .before .before .before .before .before .before .before .pre in
-    let z = c .before .before .before .if1 .left in
-    let v = value-here (c .before .before .before .before .before .before .crisp-here .result .fault) (c .before .before .before .before .before .before .crisp-here .result .value .0) (valueOf (textOf (a .s .now) (a .c))) (pos 0) (c .before .before .before .before .before .before .crisp-here .ensures .1 .0) z in
-    (laws.position-good (a .s .now) (a .c) (c .advance .result) (a .n) (a .last .0) (λ b m. sym z ∙ c .before .before .before .before .before .before .crisp-here .ensures .0 b m) (ap (λ (x : ℤ). rises (a .n) (a .last .0) x) (sym v) ∙ sym (c .before .before .may-stand .ensures) ∙ c .before .if2 .taken) (c .advance .ensures .0), λ q. v)
+    let c3 = c .before .before .before in
+    let c6 = c3 .before .before .before in
+    let c8 = c6 .before .before in
+    let a = c8 .args in
+    let g = c8 .pre in
+    let z = c3 .if1 .left in
+    let v = value-here (c6 .crisp-here .result .fault) (c6 .crisp-here .result .value .0) (valueOf (textOf (a .s .now) (a .c))) (pos 0)
+    (c6 .crisp-here .ensures .1 .0) z in (
+      laws.position-good (a .s .now) (a .c) (c .advance .result) (a .n) (a .last .0) (λ b m. sym z ∙ c6 .crisp-here .ensures .0 b m)
+          (ap (λ (x : ℤ). rises (a .n) (a .last .0) x) (sym v) ∙ sym (c .before .before .may-stand .ensures) ∙ c .before .if2 .taken)
+          (c .advance .ensures .0),
+      λ q. v,
+    )
 
 refuse-requires-2 : tie.Need-refuse-requires-2
 refuse-requires-2 c κs = search needs
 
 returns-3 : tie.Need-returns-3
 returns-3 c =
-    let a = c .before .before .before .before .before .before .before .before .args in
-    let g = c .before .before .before .before .before .before .before .before .pre in
-    let z = c .before .before .before .if1 .left in
-    let v = value-here (c .before .before .before .before .before .before .crisp-here .result .fault) (c .before .before .before .before .before .before .crisp-here .result .value .0) (valueOf (textOf (a .s .now) (a .c))) (pos 0) (c .before .before .before .before .before .before .crisp-here .ensures .1 .0) z in
-    (laws.position-low (a .s .now) (a .c) (c .refuse2 .result) (a .n) (a .last .0) (λ b m. sym z ∙ c .before .before .before .before .before .before .crisp-here .ensures .0 b m) (ap (λ (x : ℤ). rises (a .n) (a .last .0) x) (sym v) ∙ sym (c .before .before .may-stand .ensures) ∙ c .before .if2 .left) (c .refuse2 .ensures .0 _ g), λ q. v)
+    let c3 = c .before .before .before in
+    let c6 = c3 .before .before .before in
+    let c8 = c6 .before .before in
+    let a = c8 .args in
+    let g = c8 .pre in
+    let z = c3 .if1 .left in
+    let v = value-here (c6 .crisp-here .result .fault) (c6 .crisp-here .result .value .0) (valueOf (textOf (a .s .now) (a .c))) (pos 0)
+    (c6 .crisp-here .ensures .1 .0) z in (
+      laws.position-low (a .s .now) (a .c) (c .refuse2 .result) (a .n) (a .last .0) (λ b m. sym z ∙ c6 .crisp-here .ensures .0 b m)
+          (ap (λ (x : ℤ). rises (a .n) (a .last .0) x) (sym v) ∙ sym (c .before .before .may-stand .ensures) ∙ c .before .if2 .left)
+          (c .refuse2 .ensures .0 _ g),
+      λ q. v,
+    )
 
 pub position-spec : {M : Type 1} → statement M
 position-spec =

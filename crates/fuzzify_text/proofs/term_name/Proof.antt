@@ -13,9 +13,13 @@ refuse-requires c κs = search needs
 
 returns : tie.Need-returns
 returns c =
-    let a = c .before .before .before .before .before .before .args in
-    let g = c .before .before .before .before .before .before .pre in
-    (laws.name-bad (a .s .now) (a .p .cursor) (a .p .tables) (c .refuse .result) (a .i) _ (c .before .before .name-fault .ensures .0 _ (g .0 .fits) _ 0) (g .0 .holds) (c .before .if1 .taken) (c .refuse .ensures .0 _ (g .0 .fits)), (g .1, λ z. absurd (c .refuse .ensures .1 .1 z)))
+    let c6 = c .before .before .before .before .before .before in
+    let a = c6 .args in
+    let g = c6 .pre in (
+      laws.name-bad (a .s .now) (a .p .cursor) (a .p .tables) (c .refuse .result) (a .i) _
+          (c .before .before .name-fault .ensures .0 _ (g .0 .fits) _ 0) (g .0 .holds) (c .before .if1 .taken) (c .refuse .ensures .0 _ (g .0 .fits)),
+      (g .1, λ z. absurd (c .refuse .ensures .1 .1 z)),
+    )
 
 mul-v : tie.Need-mul-v
 mul-v c = search needs
@@ -37,24 +41,43 @@ refuse-requires-2 c κs = search needs
 
 returns-2 : tie.Need-returns-2
 returns-2 c =
-    let a = c .before .before .before .before .before .before .before .before .before .before .before .args in
-    let g = c .before .before .before .before .before .before .before .before .before .before .before .pre in
-    (laws.name-taken (a .s .now) (a .p .cursor) (a .p .tables) (c .refuse2 .result) (a .i) (sym (c .before .before .before .before .before .before .if1 .left) ∙ c .before .before .before .before .before .before .before .name-fault .ensures .0 _ (g .0 .fits) _ 0) (g .1) _ (c .before .before .find .ensures .0) (g .0 .holds) (c .before .if2 .taken) (c .refuse2 .ensures .0 _ (g .0 .fits)), (g .1, λ z. absurd (c .refuse2 .ensures .1 .1 z)))
+    let c6 = c .before .before .before .before .before .before in
+    let c7 = c6 .before in
+    let c11 = c7 .before .before .before .before in
+    let a = c11 .args in
+    let g = c11 .pre in (
+      laws.name-taken (a .s .now) (a .p .cursor) (a .p .tables) (c .refuse2 .result) (a .i)
+          (sym (c6 .if1 .left) ∙ c7 .name-fault .ensures .0 _ (g .0 .fits) _ 0) (g .1) _ (c .before .before .find .ensures .0) (g .0 .holds)
+          (c .before .if2 .taken) (c .refuse2 .ensures .0 _ (g .0 .fits)),
+      (g .1, λ z. absurd (c .refuse2 .ensures .1 .1 z)),
+    )
 
 add-term-requires : tie.Need-add-term-requires
 add-term-requires c κs = search needs
 
 advance-requires : tie.Need-advance-requires
-advance-requires c κs = (c .before .before .before .before .before .before .before .before .before .before .before .pre .0 .fits, λ z. omega (arith, c .before .before .before .before .before .before .before .name-fault .ensures .1 (c .before .before .before .before .before .before .if1 .left)))
+advance-requires c κs =
+    let c6 = c .before .before .before .before .before .before in
+    let c7 = c6 .before in
+    let c11 = c7 .before .before .before .before in
+    (c11 .pre .0 .fits, λ z. omega (arith, c7 .name-fault .ensures .1 (c6 .if1 .left)))
 
 returns-3 : tie.Need-returns-3
 returns-3 c =
-    let a = c .before .before .before .before .before .before .before .before .before .before .before .before .args in
-    let g = c .before .before .before .before .before .before .before .before .before .before .before .before .pre in
-    let z = c .before .before .before .before .before .before .before .if1 .left in
-    let w = c .before .before .before .before .before .before .before .before .name-fault .ensures in
-    let l = c .before .add-term .ensures .1 _ (g .0 .holds) (g .1) in
-    (laws.name-good (a .s .now) (a .p .cursor) (a .p .tables) (c .advance .result) (a .i) (sym z ∙ w .0 _ (g .0 .fits) _ 0) (g .1) _ (c .before .before .before .find .ensures .0) (c .before .add-term .result) (c .before .before .if2 .left) (g .0 .fits) (λ q. omega (arith, w .1 z)) (c .before .add-term .ensures .0 _ (g .0 .holds) (g .1) (g .0 .fits .order) (g .0 .fits .inside)) (c .advance .ensures .0), (l .input, λ q. laws.still _ _ _ l))
+    let c3 = c .before .before .before in
+    let c7 = c3 .before .before .before .before in
+    let c8 = c7 .before in
+    let c12 = c8 .before .before .before .before in
+    let a = c12 .args in
+    let g = c12 .pre in
+    let z = c7 .if1 .left in
+    let w = c8 .name-fault .ensures in
+    let l = c .before .add-term .ensures .1 _ (g .0 .holds) (g .1) in (
+      laws.name-good (a .s .now) (a .p .cursor) (a .p .tables) (c .advance .result) (a .i) (sym z ∙ w .0 _ (g .0 .fits) _ 0) (g .1) _
+          (c3 .find .ensures .0) (c .before .add-term .result) (c .before .before .if2 .left) (g .0 .fits) (λ q. omega (arith, w .1 z))
+          (c .before .add-term .ensures .0 _ (g .0 .holds) (g .1) (g .0 .fits .order) (g .0 .fits .inside)) (c .advance .ensures .0),
+      (l .input, λ q. laws.still _ _ _ l),
+    )
 
 pub term-name-spec : {M : Type 1} → statement M
 term-name-spec =

@@ -25,7 +25,8 @@ few s = omega (arith, outputs-few (wordAt (s .args .img .now)) (s .pre .0), s .p
 tests : (s : tie.Start) →
     let w = wordAt (s .args .img .now) in
     let n = s .args .h .outputs in
-    heldOk (decode w .outputs) (figuresOf (s .args .held)) ≡ all (fits w (s .args .held)) (tab (λ j. j) n 0) && all (isZero (s .args .held)) (tab (λ j. j) (6 - n) n)
+    heldOk (decode w .outputs) (figuresOf (s .args .held))
+    ≡ all (fits w (s .args .held)) (tab (λ j. j) n 0) && all (isZero (s .args .held)) (tab (λ j. j) (6 - n) n)
 unfolding decode
 tests s =
     let w = wordAt (s .args .img .now) in

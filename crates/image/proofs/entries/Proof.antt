@@ -31,10 +31,21 @@ cast-t15 c = search needs
 
 returns : tie.Need-returns
 returns c =
-    let a = c .before .before .before .before .before .before .before .args in
-    let s = c .before .before .before .before .before .before .before .pre in
-    let p = c .before .before .before .before .point-count .ensures in (
-      ap (λ (x : ℕ). record { inputs = a .inputs; outputs = a .outputs; terms = a .list .count; points = x; rules = a .n .rules; words = a .n .words; conclusions = a .n .conclusions }) (p .0),
+    let c4 = c .before .before .before .before in
+    let c7 = c4 .before .before .before in
+    let a = c7 .args in
+    let s = c7 .pre in
+    let p = c4 .point-count .ensures in (
+      ap (λ (x : ℕ). record {
+        inputs = a .inputs;
+        outputs = a .outputs;
+        terms = a .list .count;
+        points = x;
+        rules = a .n .rules;
+        words =
+            a .n .words;
+        conclusions = a .n .conclusions;
+      }) (p .0),
       record { inputs = s .0; outputs = s .1; terms = s .2; points = omega (arith, p .1, s .2); rules = s .4; words = s .5; conclusions = s .6 },
     )
 

@@ -56,16 +56,24 @@ same-length c = search needs
 returns : tie.Need-returns
 unfolding nameWords
 returns c =
-    let a = c .before .before .before .before .before .before .before .before .before .before .before .before .before .before .before .before .before .before .before .before .before .args in
-    let first : length (a .t2) ≡ 20 = omega (arith, c .before .before .before .before .before .before .before .before .before .before .before .before .before .before .before .before .before .before .before .before .before .good) in
-    let second = c .before .before .before .before .before .before .before .before .before .before .before .before .spelt .ensures ∙ ap nameWords (part (a .start) (a .end) (a .s .now)) in
-    let third = c .before .before .before .before .before .spelt2 .ensures ∙ ap nameWords (part (a .h .start) (a .h .end) (a .s .now)) in
-    let wide2 : length (c .before .before .before .before .before .before .before .before .before .before .before .before .spelt .result) ≡ 4 = ap length second in
-    let wide3 : length (c .before .before .before .before .before .spelt2 .result) ≡ 4 = ap length third in
-    let p = c .before .before .before .before .before .before .before .before .before .before .before .before .before .before .before .before .copy in
-    let q = c .before .before .before .before .before .before .before .before .before .copy2 in
-    let r = c .before .before .copy3 in
-    (joined (omega (arith, p .ensures .next, c .before .before .before .before .before .before .before .before .before .before .before .before .before .before .before .before .before .before .before .before .before .pre)) (p .ensures) (joined (omega (arith, p .ensures .next, q .ensures .next, p .kept, c .before .before .before .before .before .before .before .before .before .before .before .before .before .before .before .before .before .before .before .before .before .pre)) (retold second (q .ensures)) (retold third (r .ensures))), omega (arith, p .ensures .next, q .ensures .next, r .ensures .next))
+    let c5 = c .before .before .before .before .before in
+    let c9 = c5 .before .before .before .before in
+    let c12 = c9 .before .before .before in
+    let c16 = c12 .before .before .before .before in
+    let c21 = c16 .before .before .before .before .before in
+    let a = c21 .args in
+    let first : length (a .t2) ≡ 20 = omega (arith, c21 .good) in
+    let second = c12 .spelt .ensures ∙ ap nameWords (part (a .start) (a .end) (a .s .now)) in
+    let third = c5 .spelt2 .ensures ∙ ap nameWords (part (a .h .start) (a .h .end) (a .s .now)) in
+    let wide2 : length (c12 .spelt .result) ≡ 4 = ap length second in
+    let wide3 : length (c5 .spelt2 .result) ≡ 4 = ap length third in
+    let p = c16 .copy in
+    let q = c9 .copy2 in
+    let r = c .before .before .copy3 in (
+      joined (omega (arith, p .ensures .next, c21 .pre)) (p .ensures)
+          (joined (omega (arith, p .ensures .next, q .ensures .next, p .kept, c21 .pre)) (retold second (q .ensures)) (retold third (r .ensures))),
+      omega (arith, p .ensures .next, q .ensures .next, r .ensures .next),
+    )
 
 pub header-spec : {M : Type 1} → statement M
 header-spec =

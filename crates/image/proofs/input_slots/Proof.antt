@@ -10,7 +10,8 @@ use Rattle.image.proofs.input_slots.Statement.{statement}
 use Rattle.image.proofs.input_slots.Tie as tie
 
 abbrev Inv-loop : tie.InvT-loop
-Inv-loop count inputs r₀ i₀ r i = (i ≤ count) × (r .count ≤ i * 7) × Listed r × (listOf r ++ rows (slotRow (inputSize inputs) 0) onward (count - i) i tt ≡ slotsOf (inputSize inputs) 0 count)
+Inv-loop count inputs r₀ i₀ r i = (i ≤ count) × (r .count ≤ i * 7) × Listed r
+    × (listOf r ++ rows (slotRow (inputSize inputs) 0) onward (count - i) i tt ≡ slotsOf (inputSize inputs) 0 count)
 
 abbrev μ-loop : tie.MeasureT-loop
 μ-loop count inputs r₀ i₀ r i = count - i
@@ -40,13 +41,20 @@ loop-less c = search needs
 
 loop-again : tie.Need-loop-again Inv-loop μ-loop
 loop-again c =
-    let a = c .before .before .before .before .args in
-    let l = c .before .before .before .loop in
+    let c3 = c .before .before .before in
+    let c4 = c3 .before in
+    let a = c4 .args in
+    let l = c3 .loop in
     let w = c .with-slots .ensures in
-    let m = c .before .before .before .before .pre .1 (l .i) in
+    let m = c4 .pre .1 (l .i) in
     let z : l .i ≡ 0 + l .i = omega arith in
-    let e = w .2 ∙ ap (λ (k : ℕ). listOf (l .r) ++ tab (λ j. k * 7 + j) (inputSize (a .t1) (l .i)) 0) z in
-    (omega arith, omega (arith, w .1), w .0, slots-more (inputSize (a .t1)) 0 (a .count) (l .i) (listOf (l .r)) _ (listOf (c .with-slots .result)) (omega arith) e (l .inv .3))
+    let e = w .2 ∙ ap (λ (k : ℕ). listOf (l .r) ++ tab (λ j. k * 7 + j) (inputSize (a .t1) (l .i)) 0) z in (
+      omega arith,
+      omega (arith, w .1),
+      w .0,
+      slots-more (inputSize (a .t1)) 0 (a .count) (l .i) (listOf (l .r)) _ (listOf (c .with-slots .result))
+          (omega arith) e (l .inv .3),
+    )
 
 returns : tie.Need-returns Inv-loop μ-loop
 returns c =

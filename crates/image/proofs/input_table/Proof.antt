@@ -14,7 +14,8 @@ use Rattle.image.proofs.input_table.Tie as tie
 abbrev Inv-loop : tie.InvT-loop
 Inv-loop s names count out₀ at inputs first₀ p₀ i₀ out first p i =
     (i ≤ count) × (first ≤ i * 7) × (p ≡ at + i * 7) × (length out ≡ length out₀)
-    × Going (λ n k. inputWords s names (getD inputs k no-input) n k) (λ n k. n + inputSize inputs k) (inputRows s names inputs count) count out₀ at i first p out
+    × Going (λ n k. inputWords s names (getD inputs k no-input) n k) (λ n k. n + inputSize inputs k) (inputRows s names inputs count) count out₀ at i
+    first p out
 
 abbrev μ-loop : tie.MeasureT-loop
 μ-loop s names count out₀ at inputs first₀ p₀ i₀ out first p i = count - i
@@ -30,7 +31,9 @@ array-copy-out-v : tie.Need-array-copy-out-v Inv-loop μ-loop
 array-copy-out-v c = search needs
 
 input-row-requires : tie.Need-input-row-requires Inv-loop μ-loop
-input-row-requires c κs = (search needs, search needs, c .before .before .before .before .before .pre .2 (c .before .before .loop .i), c .before .before .before .before .before .pre .1)
+input-row-requires c κs =
+    let c5 = c .before .before .before .before .before in
+    (search needs, search needs, c5 .pre .2 (c .before .before .loop .i), c5 .pre .1)
 
 slice-aggregate-copy : tie.Need-slice-aggregate-copy Inv-loop μ-loop
 slice-aggregate-copy c = search needs
@@ -39,7 +42,10 @@ copy-requires : tie.Need-copy-requires Inv-loop μ-loop
 copy-requires c κs = search needs
 
 add-first : tie.Need-add-first Inv-loop μ-loop
-add-first c = omega (arith, c .before .before .before .before .before .before .before .before .before .before .before .before .pre .2 (c .before .before .before .before .before .before .before .before .before .loop .i))
+add-first c =
+    let c9 = c .before .before .before .before .before .before .before .before .before in
+    let c12 = c9 .before .before .before in
+    omega (arith, c12 .pre .2 (c9 .loop .i))
 
 add-i : tie.Need-add-i Inv-loop μ-loop
 add-i c = search needs
@@ -50,17 +56,21 @@ loop-less c = search needs
 loop-again : tie.Need-loop-again Inv-loop μ-loop
 unfolding inputWords nameWords
 loop-again c =
-    let a = c .before .before .before .before .before .before .before .before .before .before .before .before .args in
-    let l = c .before .before .before .before .before .before .before .before .before .loop in
-    let row = c .before .before .before .before .before .before .input-row .ensures in
-    let wide : length (c .before .before .before .before .before .before .input-row .result) ≡ 7 = ap length row in
-    let more = c .before .before .before .before .before .before .before .before .before .before .before .before .pre .2 (l .i) in
-    let w = c .before .before .before .copy .ensures in (
+    let c3 = c .before .before .before in
+    let c6 = c3 .before .before .before in
+    let c9 = c6 .before .before .before in
+    let c12 = c9 .before .before .before in
+    let a = c12 .args in
+    let l = c9 .loop in
+    let row = c6 .input-row .ensures in
+    let wide : length (c6 .input-row .result) ≡ 7 = ap length row in
+    let more = c12 .pre .2 (l .i) in
+    let w = c3 .copy .ensures in (
       search needs,
       omega arith,
       omega (arith, w .next),
-      omega (arith, c .before .before .before .copy .kept),
-      goes _ _ _ _ _ _ (l .i) (l .first) (l .p) _ (l .out) _ (search needs) (omega (arith, c .before .before .before .before .before .before .before .before .before .before .before .before .pre)) (retold row w) (l .inv .4),
+      omega (arith, c3 .copy .kept),
+      goes _ _ _ _ _ _ (l .i) (l .first) (l .p) _ (l .out) _ (search needs) (omega (arith, c12 .pre)) (retold row w) (l .inv .4),
     )
 
 same-length : tie.Need-same-length Inv-loop μ-loop

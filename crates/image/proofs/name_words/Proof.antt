@@ -37,7 +37,10 @@ spelt-requires c κs = search needs
 
 returns : tie.Need-returns
 unfolding nameOf
-returns c = let a = c .before .before .before .before .before .args in c .spelt .ensures ∙ ap nameWords (part (getD (a .names .now) (a .k) 0) (getD (a .names .now) (112 + a .k) 0) (a .s .now))
+returns c =
+    let c5 = c .before .before .before .before .before in
+    let a = c5 .args in
+    c .spelt .ensures ∙ ap nameWords (part (getD (a .names .now) (a .k) 0) (getD (a .names .now) (112 + a .k) 0) (a .s .now))
 
 pub name-words-spec : {M : Type 1} → statement M
 name-words-spec =

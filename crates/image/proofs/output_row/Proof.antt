@@ -45,7 +45,19 @@ cast-t32 c = search needs
 
 returns : tie.Need-returns
 unfolding outputWords nameWords
-returns c = simp (c .before .before .before .before .before .before .before .before .before .name-words .ensures, c .before .before .bit-word .ensures, c .before .before .before .before .before .given-word .ensures, c .before .before .before .before .given-word2 .ensures, c .before .bit-word2 .ensures, c .before .before .before .given-word3 .ensures)
+returns c =
+    let c3 = c .before .before .before in
+    let c4 = c3 .before in
+    let c5 = c4 .before in
+    let c9 = c5 .before .before .before .before in
+    simp (
+      c9 .name-words .ensures,
+      c .before .before .bit-word .ensures,
+      c5 .given-word .ensures,
+      c4 .given-word2 .ensures,
+      c .before .bit-word2 .ensures,
+      c3 .given-word3 .ensures,
+    )
 
 pub output-row-spec : {M : Type 1} → statement M
 output-row-spec =

@@ -9,7 +9,8 @@ use Rattle.image.proofs.output_slots.Statement.{statement}
 use Rattle.image.proofs.output_slots.Tie as tie
 
 abbrev Inv-loop : tie.InvT-loop
-Inv-loop count outputs r₀ o₀ r o = (o ≤ count) × (r .count ≤ r₀ .count + o * 7) × Listed r × (listOf r ++ rows (slotRow (outputSize outputs) 8) onward (count - o) o tt ≡ listOf r₀ ++ slotsOf (outputSize outputs) 8 count)
+Inv-loop count outputs r₀ o₀ r o = (o ≤ count) × (r .count ≤ r₀ .count + o * 7) × Listed r
+    × (listOf r ++ rows (slotRow (outputSize outputs) 8) onward (count - o) o tt ≡ listOf r₀ ++ slotsOf (outputSize outputs) 8 count)
 
 abbrev μ-loop : tie.MeasureT-loop
 μ-loop count outputs r₀ o₀ r o = count - o
@@ -42,11 +43,18 @@ loop-less c = search needs
 
 loop-again : tie.Need-loop-again Inv-loop μ-loop
 loop-again c =
-    let a = c .before .before .before .before .args in
-    let l = c .before .before .before .loop in
+    let c3 = c .before .before .before in
+    let c4 = c3 .before in
+    let a = c4 .args in
+    let l = c3 .loop in
     let w = c .with-slots .ensures in
-    let m = c .before .before .before .before .pre .2 (l .o) in
-    (omega arith, omega (arith, w .1), w .0, slots-more (outputSize (a .t2)) 8 (a .count) (l .o) (listOf (l .r)) _ (listOf (c .with-slots .result)) (omega arith) (w .2) (l .inv .3))
+    let m = c4 .pre .2 (l .o) in (
+      omega arith,
+      omega (arith, w .1),
+      w .0,
+      slots-more (outputSize (a .t2)) 8 (a .count) (l .o) (listOf (l .r)) _ (listOf (c .with-slots .result))
+          (omega arith) (w .2) (l .inv .3),
+    )
 
 returns : tie.Need-returns Inv-loop μ-loop
 returns c =

@@ -14,7 +14,8 @@ use Rattle.image.proofs.output_table.Tie as tie
 abbrev Inv-loop : tie.InvT-loop
 Inv-loop s names count first out₀ at outputs n₀ p₀ o₀ out n p o =
     (o ≤ count) × (n ≤ first + o * 7) × (p ≡ at + o * 11) × (length out ≡ length out₀)
-    × Going (λ m k. outputWords s names (getD outputs k no-output) m k) (λ m k. m + outputSize outputs k) (outputRows s names outputs count first) count out₀ at o n p out
+    × Going (λ m k. outputWords s names (getD outputs k no-output) m k) (λ m k. m + outputSize outputs k) (outputRows s names outputs count first)
+    count out₀ at o n p out
 
 abbrev μ-loop : tie.MeasureT-loop
 μ-loop s names count first out₀ at outputs n₀ p₀ o₀ out n p o = count - o
@@ -30,7 +31,9 @@ array-copy-out-v : tie.Need-array-copy-out-v Inv-loop μ-loop
 array-copy-out-v c = search needs
 
 output-row-requires : tie.Need-output-row-requires Inv-loop μ-loop
-output-row-requires c κs = (search needs, search needs, c .before .before .before .before .before .pre .3 (c .before .before .loop .o), c .before .before .before .before .before .pre .2)
+output-row-requires c κs =
+    let c5 = c .before .before .before .before .before in
+    (search needs, search needs, c5 .pre .3 (c .before .before .loop .o), c5 .pre .2)
 
 slice-aggregate-copy : tie.Need-slice-aggregate-copy Inv-loop μ-loop
 slice-aggregate-copy c = search needs
@@ -39,7 +42,10 @@ copy-requires : tie.Need-copy-requires Inv-loop μ-loop
 copy-requires c κs = search needs
 
 add-n : tie.Need-add-n Inv-loop μ-loop
-add-n c = omega (arith, c .before .before .before .before .before .before .before .before .before .before .before .before .pre .3 (c .before .before .before .before .before .before .before .before .before .loop .o))
+add-n c =
+    let c9 = c .before .before .before .before .before .before .before .before .before in
+    let c12 = c9 .before .before .before in
+    omega (arith, c12 .pre .3 (c9 .loop .o))
 
 add-o : tie.Need-add-o Inv-loop μ-loop
 add-o c = search needs
@@ -50,16 +56,20 @@ loop-less c = search needs
 loop-again : tie.Need-loop-again Inv-loop μ-loop
 unfolding outputWords nameWords
 loop-again c =
-    let l = c .before .before .before .before .before .before .before .before .before .loop in
-    let row = c .before .before .before .before .before .before .output-row .ensures in
-    let wide : length (c .before .before .before .before .before .before .output-row .result) ≡ 11 = ap length row in
-    let more = c .before .before .before .before .before .before .before .before .before .before .before .before .pre .3 (l .o) in
-    let w = c .before .before .before .copy .ensures in (
+    let c3 = c .before .before .before in
+    let c6 = c3 .before .before .before in
+    let c9 = c6 .before .before .before in
+    let c12 = c9 .before .before .before in
+    let l = c9 .loop in
+    let row = c6 .output-row .ensures in
+    let wide : length (c6 .output-row .result) ≡ 11 = ap length row in
+    let more = c12 .pre .3 (l .o) in
+    let w = c3 .copy .ensures in (
       search needs,
       omega arith,
       omega (arith, w .next),
-      omega (arith, c .before .before .before .copy .kept),
-      goes _ _ _ _ _ _ (l .o) (l .n) (l .p) _ (l .out) _ (search needs) (omega (arith, c .before .before .before .before .before .before .before .before .before .before .before .before .pre)) (retold row w) (l .inv .4),
+      omega (arith, c3 .copy .kept),
+      goes _ _ _ _ _ _ (l .o) (l .n) (l .p) _ (l .out) _ (search needs) (omega (arith, c12 .pre)) (retold row w) (l .inv .4),
     )
 
 same-length : tie.Need-same-length Inv-loop μ-loop

@@ -33,11 +33,13 @@ element-copy-out-k c = search needs
 
 slot-points-requires : tie.Need-slot-points-requires Inv-loop μ-loop
 slot-points-requires c κs =
-    let a = c .before .before .before .before .before .args in
-    let l = c .before .before .before .loop in
+    let c3 = c .before .before .before in
+    let c5 = c3 .before .before in
+    let a = c5 .args in
+    let l = c3 .loop in
     let f : ℕ → ℕ = λ k. held (a .counts .now) (getD (a .slots .now) k 0) in
     let m = sums-more f (a .n) (l .i) (omega arith) in
-    (c .before .before .before .before .before .pre .1 (l .i), c .before .before .before .before .before .pre .2, omega (arith, c .before .before .before .before .before .pre))
+    (c5 .pre .1 (l .i), c5 .pre .2, omega (arith, c5 .pre))
 
 add-i : tie.Need-add-i Inv-loop μ-loop
 add-i c = search needs
@@ -47,15 +49,17 @@ loop-less c = search needs
 
 loop-again : tie.Need-loop-again Inv-loop μ-loop
 loop-again c =
-    let a = c .before .before .before .before .before .before .before .before .args in
-    let l = c .before .before .before .before .before .before .loop in
+    let c6 = c .before .before .before .before .before .before in
+    let c8 = c6 .before .before in
+    let a = c8 .args in
+    let l = c6 .loop in
     let f : ℕ → ℕ = λ k. held (a .counts .now) (getD (a .slots .now) k 0) in
     let m = sums-more f (a .n) (l .i) (omega arith) in
     let w = c .before .before .slot-points .ensures in (
       search needs,
       omega (arith, w .1),
       omega (arith, c .before .before .slot-points .kept),
-      goes _ _ _ _ _ _ (l .i) tt (l .p) _ (l .out) _ (search needs) (omega (arith, c .before .before .before .before .before .before .before .before .pre)) (w .0) (l .inv .3),
+      goes _ _ _ _ _ _ (l .i) tt (l .p) _ (l .out) _ (search needs) (omega (arith, c8 .pre)) (w .0) (l .inv .3),
     )
 
 same-length : tie.Need-same-length Inv-loop μ-loop
@@ -63,11 +67,15 @@ same-length c = search needs
 
 returns : tie.Need-returns Inv-loop μ-loop
 returns c =
-    let a = c .before .before .before .args in
+    let c3 = c .before .before .before in
+    let a = c3 .args in
     let l = c .before .loop in
     let f : ℕ → ℕ = λ k. held (a .counts .now) (getD (a .slots .now) k 0) in
-    let m = sums-end f (a .n) (l .i) (omega arith) in
-    (ends (λ σ k. pointsIn (a .points) (a .singletons) (a .counts .now) (getD (a .slots .now) k 0)) onward _ _ _ _ (l .i) tt (l .p) (l .out) (search needs) (l .inv .3), omega arith)
+    let m = sums-end f (a .n) (l .i) (omega arith) in (
+      ends (λ σ k. pointsIn (a .points) (a .singletons) (a .counts .now) (getD (a .slots .now) k 0)) onward _ _ _ _ (l .i) tt (l .p) (l .out)
+          (search needs) (l .inv .3),
+      omega arith,
+    )
 
 pub point-table-spec : {M : Type 1} → statement M
 point-table-spec =

@@ -9,7 +9,8 @@ use Rattle.image.proofs.rule_table.Statement.{statement}
 use Rattle.image.proofs.rule_table.Tie as tie
 
 abbrev Inv-loop : tie.InvT-loop
-Inv-loop rules n out₀ at word₀ conclusion₀ p₀ i₀ out word conclusion p i = (i ≤ n) × (p ≡ at + i * 6) × (length out ≡ length out₀) × Going (ruleWords rules) (ruleNext rules) (ruleRows rules n) n out₀ at i (word, conclusion) p out
+Inv-loop rules n out₀ at word₀ conclusion₀ p₀ i₀ out word conclusion p i =
+    (i ≤ n) × (p ≡ at + i * 6) × (length out ≡ length out₀) × Going (ruleWords rules) (ruleNext rules) (ruleRows rules n) n out₀ at i (word, conclusion) p out
 
 abbrev μ-loop : tie.MeasureT-loop
 μ-loop rules n out₀ at word₀ conclusion₀ p₀ i₀ out word conclusion p i = n - i
@@ -75,12 +76,16 @@ loop-less c = search needs
 loop-again : tie.Need-loop-again Inv-loop μ-loop
 unfolding ruleWords
 loop-again c =
-    let l = c .before .before .before .before .before .before .before .before .before .before .before .before .loop in
-    let w = c .before .before .before .before .copy .ensures in (
+    let c4 = c .before .before .before .before in
+    let c12 = c4 .before .before .before .before .before .before .before .before in
+    let c15 = c12 .before .before .before in
+    let l = c12 .loop in
+    let w = c4 .copy .ensures in (
       search needs,
       omega (arith, w .next),
-      omega (arith, c .before .before .before .before .copy .kept),
-      rw (c .before .wrapping-add-u32 .ensures, c .wrapping-add-u322 .ensures) (goes _ _ _ _ _ _ (l .i) (l .word, l .conclusion) (l .p) _ (l .out) _ (search needs) (omega (arith, c .before .before .before .before .before .before .before .before .before .before .before .before .before .before .before .pre)) w (l .inv .3)),
+      omega (arith, c4 .copy .kept),
+      rw (c .before .wrapping-add-u32 .ensures, c .wrapping-add-u322 .ensures)
+          (goes _ _ _ _ _ _ (l .i) (l .word, l .conclusion) (l .p) _ (l .out) _ (search needs) (omega (arith, c15 .pre)) w (l .inv .3)),
     )
 
 same-length : tie.Need-same-length Inv-loop μ-loop

@@ -29,7 +29,11 @@ same-length c = search needs
 
 returns : tie.Need-returns
 unfolding held pointsIn
-returns c = (simp (lt-ltb _ _ (c .before .before .before .before .before .if1 .taken)) (c .before .before .some-points .ensures .0), simp (lt-ltb _ _ (c .before .before .before .before .before .if1 .taken)) (c .before .before .some-points .ensures .1))
+returns c =
+    let c5 = c .before .before .before .before .before in (
+      simp (lt-ltb _ _ (c5 .if1 .taken)) (c .before .before .some-points .ensures .0),
+      simp (lt-ltb _ _ (c5 .if1 .taken)) (c .before .before .some-points .ensures .1),
+    )
 
 mul-x : tie.Need-mul-x
 mul-x c = search needs
@@ -55,7 +59,12 @@ same-length-2 c = search needs
 
 returns-2 : tie.Need-returns-2
 unfolding held pointsIn
-returns-2 c = (simp (le-ltb _ _ (c .before .before .before .before .before .before .before .if1 .left), sym (c .before .before .before .before .before .crisp-word .ensures)) (c .before .before .copy .ensures), simp (le-ltb _ _ (c .before .before .before .before .before .before .before .if1 .left)) (omega (arith, c .before .before .copy .ensures .next)))
+returns-2 c =
+    let c5 = c .before .before .before .before .before in
+    let c7 = c5 .before .before in (
+      simp (le-ltb _ _ (c7 .if1 .left), sym (c5 .crisp-word .ensures)) (c .before .before .copy .ensures),
+      simp (le-ltb _ _ (c7 .if1 .left)) (omega (arith, c .before .before .copy .ensures .next)),
+    )
 
 pub slot-points-spec : {M : Type 1} → statement M
 slot-points-spec =

@@ -12,7 +12,8 @@ use Rattle.image.proofs.some_points.Statement.{statement}
 use Rattle.image.proofs.some_points.Tie as tie
 
 abbrev Inv-loop : tie.InvT-loop
-Inv-loop k n out₀ at points p₀ j₀ out p j = (j ≤ n) × (p ≡ at + j * 2) × (length out ≡ length out₀) × Going (pointRow points k) onward (rows (pointRow points k) onward n 0 tt) n out₀ at j tt p out
+Inv-loop k n out₀ at points p₀ j₀ out p j = (j ≤ n) × (p ≡ at + j * 2) × (length out ≡ length out₀)
+    × Going (pointRow points k) onward (rows (pointRow points k) onward n 0 tt) n out₀ at j tt p out
 
 abbrev μ-loop : tie.MeasureT-loop
 μ-loop k n out₀ at points p₀ j₀ out p j = n - j
@@ -46,19 +47,27 @@ loop-less c = search needs
 
 loop-again : tie.Need-loop-again Inv-loop μ-loop
 loop-again c =
-    let l = c .before .before .before .before .before .before .before .before .before .before .loop in
+    let c5 = c .before .before .before .before .before in
+    let c10 = c5 .before .before .before .before .before in
+    let c12 = c10 .before .before in
+    let l = c10 .loop in
     let w = c .before .before .copy .ensures in (
       search needs,
       omega (arith, w .next),
       omega (arith, c .before .before .copy .kept),
-      goes _ _ _ _ _ _ (l .j) tt (l .p) _ (l .out) _ (search needs) (omega (arith, c .before .before .before .before .before .before .before .before .before .before .before .before .pre)) (retold (ap (λ (x : ℕ). x ∷ getD (c .before .before .before .before .before .before .before .before .before .before .before .before .args .t1) (c .before .before .before .before .before .before .before .before .before .before .before .before .args .k + l .j) no-point .degree .0 ∷ []) (c .before .before .before .before .before .crisp-word .ensures)) w) (l .inv .3),
+      goes _ _ _ _ _ _ (l .j) tt (l .p) _ (l .out) _ (search needs) (omega (arith, c12 .pre))
+          (retold (ap (λ (x : ℕ). x ∷ getD (c12 .args .t1) (c12 .args .k + l .j) no-point .degree .0 ∷ []) (c5 .crisp-word .ensures)) w) (l .inv .3),
     )
 
 same-length : tie.Need-same-length Inv-loop μ-loop
 same-length c = search needs
 
 returns : tie.Need-returns Inv-loop μ-loop
-returns c = let l = c .before .loop in let a = c .before .before .before .args in (ends (pointRow (a .t1) (a .k)) onward _ _ _ _ (l .j) tt (l .p) (l .out) (search needs) (l .inv .3), omega arith)
+returns c =
+    let c3 = c .before .before .before in
+    let l = c .before .loop in
+    let a = c3 .args in
+    (ends (pointRow (a .t1) (a .k)) onward _ _ _ _ (l .j) tt (l .p) (l .out) (search needs) (l .inv .3), omega arith)
 
 pub some-points-spec : {M : Type 1} → statement M
 some-points-spec =

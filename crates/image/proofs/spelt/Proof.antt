@@ -30,7 +30,9 @@ cast-t9 c = search needs
 
 returns : tie.Need-returns
 unfolding nameWords
-returns c = λ j. c .before .before .before .word .ensures .0 j ∷ c .before .before .word2 .ensures .0 j ∷ c .before .word3 .ensures .0 j ∷ c .word4 .ensures .0 j ∷ []
+returns c =
+    let c3 = c .before .before .before in
+    λ j. c3 .word .ensures .0 j ∷ c .before .before .word2 .ensures .0 j ∷ c .before .word3 .ensures .0 j ∷ c .word4 .ensures .0 j ∷ []
 
 pub spelt-spec : {M : Type 1} → statement M
 spelt-spec =

@@ -13,7 +13,8 @@ use Rattle.image.proofs.term_table.Tie as tie
 abbrev Inv-loop : tie.InvT-loop
 Inv-loop s names counts slots n out₀ at first₀ p₀ i₀ out first p i =
     (i ≤ n) × (first ≤ i * 4) × (p ≡ at + i * 6) × (length out ≡ length out₀)
-    × Going (λ m k. termWords s names counts m (getD slots k 0)) (λ m k. m + held counts (getD slots k 0)) (termRows s names counts slots n) n out₀ at i first p out
+    × Going (λ m k. termWords s names counts m (getD slots k 0)) (λ m k. m + held counts (getD slots k 0)) (termRows s names counts slots n) n out₀
+    at i first p out
 
 abbrev μ-loop : tie.MeasureT-loop
 μ-loop s names counts slots n out₀ at first₀ p₀ i₀ out first p i = n - i
@@ -52,15 +53,20 @@ loop-less c = search needs
 loop-again : tie.Need-loop-again Inv-loop μ-loop
 unfolding termWords nameWords
 loop-again c =
-    let l = c .before .before .before .before .before .before .before .before .before .loop in
-    let row = c .before .before .before .before .before .before .term-row .ensures in
-    let wide : length (c .before .before .before .before .before .before .term-row .result) ≡ 6 = ap length row in
-    let w = c .before .before .before .copy .ensures in (
+    let c3 = c .before .before .before in
+    let c6 = c3 .before .before .before in
+    let c9 = c6 .before .before .before in
+    let c12 = c9 .before .before .before in
+    let l = c9 .loop in
+    let row = c6 .term-row .ensures in
+    let wide : length (c6 .term-row .result) ≡ 6 = ap length row in
+    let w = c3 .copy .ensures in (
       search needs,
       omega arith,
       omega (arith, w .next),
-      omega (arith, c .before .before .before .copy .kept),
-      rw (c .points-in .ensures .0) (goes _ _ _ _ _ _ (l .i) (l .first) (l .p) _ (l .out) _ (search needs) (omega (arith, c .before .before .before .before .before .before .before .before .before .before .before .before .pre)) (retold row w) (l .inv .4)),
+      omega (arith, c3 .copy .kept),
+      rw (c .points-in .ensures .0) (goes _ _ _ _ _ _ (l .i) (l .first) (l .p) _ (l .out) _ (search needs) (omega (arith, c12 .pre)) (retold row w)
+          (l .inv .4)),
     )
 
 same-length : tie.Need-same-length Inv-loop μ-loop

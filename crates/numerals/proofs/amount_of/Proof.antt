@@ -61,9 +61,11 @@ returns-3 c =
     let e = c5 .digits-end in
     let f = c4 .behind in
     let q = laws.fits w (a .result) (e .result) (a .ensures .0) (e .ensures .0) (e .ensures .1 .1) (f .result) (f .ensures .0) (c3 .if1 .left)
-    (c .before .before .if2 .left) in
-    (sym q, (rw (c .before .decimal-of .ensures .0, c .thousandths .ensures .0)
-    (laws.magnitude-is w (a .result) (e .result) (a .ensures .0) (e .ensures .0) (e .ensures .1 .1) (f .result) (f .ensures .0))) ∙ laws.written w q)
+    (c .before .before .if2 .left) in (
+      sym q,
+      (rw (c .before .decimal-of .ensures .0, c .thousandths .ensures .0)
+          (laws.magnitude-is w (a .result) (e .result) (a .ensures .0) (e .ensures .0) (e .ensures .1 .1) (f .result) (f .ensures .0))) ∙ laws.written w q,
+    )
 
 pub amount-of-spec : {M : Type 1} → statement M
 amount-of-spec =

@@ -37,9 +37,11 @@ returns-3 c =
     let c4 = c .before .before .before .before in
     let z = c4 .args in
     let d = c .before .before .decimal-of .ensures in
-    let n = length-drop (z .a) (z .w .now) in
-    (rw (d .0, laws.to-end (z .w .now) (z .a)) (laws.other-digits (drop (z .a) (z .w .now)) (omega arith) (λ q. c .before .if1 .left (sym n ∙ q))
-    (λ q. c .if2 .left (sym n ∙ q))), omega (arith, d .1))
+    let n = length-drop (z .a) (z .w .now) in (
+      rw (d .0, laws.to-end (z .w .now) (z .a)) (laws.other-digits (drop (z .a) (z .w .now)) (omega arith) (λ q. c .before .if1 .left (sym n ∙ q))
+          (λ q. c .if2 .left (sym n ∙ q))),
+      omega (arith, d .1),
+    )
 
 pub thousandths-spec : {M : Type 1} → statement M
 thousandths-spec =

@@ -7,7 +7,10 @@ use Rattle.reader.proofs.read.Statement.{statement}
 use Rattle.reader.proofs.read.Tie as tie
 
 returns : tie.Need-returns
-returns c = let e = laws.long (length (c .before .before .before .args .out .now)) (c .before .before .before .args .s .now) (c .if1 .taken) in (ap lengthIn (sym e), ap (bufferAfter (c .before .before .before .args .out .now)) (sym e))
+returns c =
+    let c3 = c .before .before .before in
+    let e = laws.long (length (c3 .args .out .now)) (c3 .args .s .now) (c .if1 .taken) in
+    (ap lengthIn (sym e), ap (bufferAfter (c3 .args .out .now)) (sym e))
 
 front-requires : tie.Need-front-requires
 front-requires c κs = search needs

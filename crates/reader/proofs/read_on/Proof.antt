@@ -17,61 +17,106 @@ rule-heading-requires : tie.Need-rule-heading-requires
 rule-heading-requires c κs = c .before .before .before .before .before .pre .0 .fits
 
 rules-requires : tie.Need-rules-requires
-rules-requires c κs = (c .before .before .before .before .before .before .before .rule-heading .ensures .1 .1, c .before .before .before .before .before .before .before .before .before .symbols-of .ensures .0 _ (c .before .before .before .before .before .before .before .before .before .before .before .before .before .pre .0 .holds), record { rules = omega arith; words = omega arith; conclusions = omega arith })
+rules-requires c κs =
+    let c7 = c .before .before .before .before .before .before .before in
+    let c9 = c7 .before .before in
+    let c13 = c9 .before .before .before .before in (
+      c7 .rule-heading .ensures .1 .1,
+      c9 .symbols-of .ensures .0 _ (c13 .pre .0 .holds),
+      record { rules = omega arith; words = omega arith; conclusions = omega arith },
+    )
 
 is-complete-requires : tie.Need-is-complete-requires
-is-complete-requires c κs = let k = c .before .before .before .before .before .before .before .before .before .before .before .before .symbols-of .ensures .0 _ (c .before .before .before .before .before .before .before .before .before .before .before .before .before .before .before .before .pre .0 .holds) in (k .inputs, k .outputs)
+is-complete-requires c κs =
+    let c12 = c .before .before .before .before .before .before .before .before .before .before .before .before in
+    let c16 = c12 .before .before .before .before in
+    let k = c12 .symbols-of .ensures .0 _ (c16 .pre .0 .holds) in
+    (k .inputs, k .outputs)
 
 back-requires : tie.Need-back-requires
 back-requires c κs = c .before .before .before .rules2 .ensures .1 .fits
 
 refusal-of-requires : tie.Need-refusal-of-requires
-refusal-of-requires c κs = let s = c .before .before .before .before .before .before .before .before .before .before .before .before .before .before .before .before .before .before .before .before .args .s .now in
-    let p = c .before .before .before .before .before .before .before .before .before .before .before .before .before .before .before .before .before .before .before .before .args .p in
+refusal-of-requires c κs =
+    let c3 = c .before .before .before in
+    let c6 = c3 .before .before .before in
+    let c14 = c6 .before .before .before .before .before .before .before .before in
+    let c16 = c14 .before .before in
+    let c20 = c16 .before .before .before .before in
+    let s = c20 .args .s .now in
+    let p = c20 .args .p in
     let t = p .tables in
-    let h = c .before .before .before .before .before .before .before .before .before .before .before .before .before .before .rule-heading .result .heading in
-    let k = c .before .before .before .before .before .before .before .before .before .before .before .before .before .before .before .before .symbols-of .ensures in
-    let g = c .before .before .before .before .before .before .before .before .before .before .before .before .before .before .before .before .before .before .before .before .pre .0 .holds in
+    let h = c14 .rule-heading .result .heading in
+    let k = c16 .symbols-of .ensures in
+    let g = c20 .pre .0 .holds in
     let b = headed s h (blockView s t) in
-    let G = c .before .before .before .before .before .before .rules2 .ensures .0 b (k .1 s b g (laws.inputs-headed s t h) (laws.outputs-headed s t h)) (laws.kept-none s t h _ _ _ refl refl refl) in
+    let G = c6 .rules2 .ensures .0 b (k .1 s b g (laws.inputs-headed s t h) (laws.outputs-headed s t h)) (laws.kept-none s t h _ _ _ refl refl refl) in
     let w = holding (G .rules) b in
-    let x = c .before .before .back .ensures .0 w (c .before .before .before .before .before .before .rules2 .result .totals .words) (sym (c .before .before .before .is-complete .ensures s _ w (k .1 s w g (laws.inputs-whole s t h (G .rules)) (laws.outputs-whole s t h (G .rules))))) in
-    laws.number s t h (p .cursor) (c .before .before .before .before .before .before .before .before .before .before .before .before .before .before .rule-heading .result .cursor) (c .before .before .before .before .before .before .rules2 .result .cursor) (G .rules) (c .before .before .before .before .before .before .rules2 .result .totals .words) (c .before .before .before .before .before .before .before .before .before .before .before .before .before .before .before .before .before .before .before .before .pre .1) (c .before .before .before .before .before .before .before .before .before .before .before .before .before .before .rule-heading .ensures .0 (blockView s t) 0 (laws.bare s t)) (G .reads) (c .before .before .back .result) x (c .if1 .taken)
+    let x = c .before .before .back .ensures .0 w (c6 .rules2 .result .totals .words)
+    (sym (c3 .is-complete .ensures s _ w (k .1 s w g (laws.inputs-whole s t h (G .rules)) (laws.outputs-whole s t h (G .rules))))) in
+    laws.number s t h (p .cursor) (c14 .rule-heading .result .cursor) (c6 .rules2 .result .cursor) (G .rules) (c6 .rules2 .result .totals .words)
+    (c20 .pre .1) (c14 .rule-heading .ensures .0 (blockView s t) 0 (laws.bare s t)) (G .reads) (c .before .before .back .result) x (c .if1 .taken)
 
 returns : tie.Need-returns
-returns c = let s = c .before .before .before .before .before .before .before .before .before .before .before .before .before .before .before .before .before .before .before .before .before .args .s .now in
-    let p = c .before .before .before .before .before .before .before .before .before .before .before .before .before .before .before .before .before .before .before .before .before .args .p in
+returns c =
+    let c3 = c .before .before .before in
+    let c4 = c3 .before in
+    let c7 = c4 .before .before .before in
+    let c15 = c7 .before .before .before .before .before .before .before .before in
+    let c17 = c15 .before .before in
+    let c21 = c17 .before .before .before .before in
+    let s = c21 .args .s .now in
+    let p = c21 .args .p in
     let t = p .tables in
-    let h = c .before .before .before .before .before .before .before .before .before .before .before .before .before .before .before .rule-heading .result .heading in
-    let k = c .before .before .before .before .before .before .before .before .before .before .before .before .before .before .before .before .before .symbols-of .ensures in
-    let g = c .before .before .before .before .before .before .before .before .before .before .before .before .before .before .before .before .before .before .before .before .before .pre .0 .holds in
+    let h = c15 .rule-heading .result .heading in
+    let k = c17 .symbols-of .ensures in
+    let g = c21 .pre .0 .holds in
     let b = headed s h (blockView s t) in
-    let G = c .before .before .before .before .before .before .before .rules2 .ensures .0 b (k .1 s b g (laws.inputs-headed s t h) (laws.outputs-headed s t h)) (laws.kept-none s t h _ _ _ refl refl refl) in
+    let G = c7 .rules2 .ensures .0 b (k .1 s b g (laws.inputs-headed s t h) (laws.outputs-headed s t h)) (laws.kept-none s t h _ _ _ refl refl refl) in
     let w = holding (G .rules) b in
-    let x = c .before .before .before .back .ensures .0 w (c .before .before .before .before .before .before .before .rules2 .result .totals .words) (sym (c .before .before .before .before .is-complete .ensures s _ w (k .1 s w g (laws.inputs-whole s t h (G .rules)) (laws.outputs-whole s t h (G .rules))))) in
-    let e = laws.refused-so s t h (p .cursor) (c .before .before .before .before .before .before .before .before .before .before .before .before .before .before .before .rule-heading .result .cursor) (c .before .before .before .before .before .before .before .rules2 .result .cursor) (G .rules) (c .before .before .before .before .before .before .before .rules2 .result .totals .words) (c .before .before .before .before .before .before .before .before .before .before .before .before .before .before .before .before .before .before .before .before .before .pre .1) (c .before .before .before .before .before .before .before .before .before .before .before .before .before .before .before .rule-heading .ensures .0 (blockView s t) 0 (laws.bare s t)) (G .reads) (c .before .before .before .back .result) x (length (c .before .before .before .before .before .before .before .before .before .before .before .before .before .before .before .before .before .before .before .before .before .args .out .now)) (c .before .before .before .before .before .before .before .before .before .before .before .before .before .before .before .before .before .before .before .before .before .pre .2) (c .before .if1 .taken) in
-    (c .refusal-of .ensures ∙ ap lengthIn (sym e), ap (bufferAfter (c .before .before .before .before .before .before .before .before .before .before .before .before .before .before .before .before .before .before .before .before .before .args .out .now)) (sym e))
+    let x = c3 .back .ensures .0 w (c7 .rules2 .result .totals .words)
+    (sym (c4 .is-complete .ensures s _ w (k .1 s w g (laws.inputs-whole s t h (G .rules)) (laws.outputs-whole s t h (G .rules))))) in
+    let e = laws.refused-so s t h (p .cursor) (c15 .rule-heading .result .cursor) (c7 .rules2 .result .cursor) (G .rules)
+    (c7 .rules2 .result .totals .words) (c21 .pre .1) (c15 .rule-heading .ensures .0 (blockView s t) 0 (laws.bare s t)) (G .reads) (c3 .back .result)
+    x (length (c21 .args .out .now)) (c21 .pre .2) (c .before .if1 .taken) in
+    (c .refusal-of .ensures ∙ ap lengthIn (sym e), ap (bufferAfter (c21 .args .out .now)) (sym e))
 
 store-requires : tie.Need-store-requires
-store-requires c κs = let f = c .before .before .before .before .before .before .before .before .before .before .before .before .rules2 .ensures .1 .few in (c .before .before .before .before .before .before .before .before .before .before .before .before .before .before .before .before .before .before .before .before .before .before .before .before .before .before .pre .0 .holds, c .before .before .before .before .before .before .before .before .before .before .before .before .before .before .before .before .before .before .before .before .rule-heading .ensures .1 .2, f .rules, f .words, f .conclusions)
+store-requires c κs =
+    let c12 = c .before .before .before .before .before .before .before .before .before .before .before .before in
+    let c20 = c12 .before .before .before .before .before .before .before .before in
+    let c26 = c20 .before .before .before .before .before .before in
+    let f = c12 .rules2 .ensures .1 .few in
+    (c26 .pre .0 .holds, c20 .rule-heading .ensures .1 .2, f .rules, f .words, f .conclusions)
 
 same-length : tie.Need-same-length
 same-length c = search needs
 
 returns-2 : tie.Need-returns-2
-returns-2 c = let s = c .before .before .before .before .before .before .before .before .before .before .before .before .before .before .before .before .before .before .before .before .before .before .before .before .before .before .before .before .before .args .s .now in
-    let p = c .before .before .before .before .before .before .before .before .before .before .before .before .before .before .before .before .before .before .before .before .before .before .before .before .before .before .before .before .before .args .p in
+returns-2 c =
+    let c9 = c .before .before .before .before .before .before .before .before .before in
+    let c11 = c9 .before .before in
+    let c12 = c11 .before in
+    let c15 = c12 .before .before .before in
+    let c23 = c15 .before .before .before .before .before .before .before .before in
+    let c25 = c23 .before .before in
+    let c29 = c25 .before .before .before .before in
+    let s = c29 .args .s .now in
+    let p = c29 .args .p in
     let t = p .tables in
-    let h = c .before .before .before .before .before .before .before .before .before .before .before .before .before .before .before .before .before .before .before .before .before .before .before .rule-heading .result .heading in
-    let k = c .before .before .before .before .before .before .before .before .before .before .before .before .before .before .before .before .before .before .before .before .before .before .before .before .before .symbols-of .ensures in
-    let g = c .before .before .before .before .before .before .before .before .before .before .before .before .before .before .before .before .before .before .before .before .before .before .before .before .before .before .before .before .before .pre .0 .holds in
+    let h = c23 .rule-heading .result .heading in
+    let k = c25 .symbols-of .ensures in
+    let g = c29 .pre .0 .holds in
     let b = headed s h (blockView s t) in
-    let G = c .before .before .before .before .before .before .before .before .before .before .before .before .before .before .before .rules2 .ensures .0 b (k .1 s b g (laws.inputs-headed s t h) (laws.outputs-headed s t h)) (laws.kept-none s t h _ _ _ refl refl refl) in
+    let G = c15 .rules2 .ensures .0 b (k .1 s b g (laws.inputs-headed s t h) (laws.outputs-headed s t h)) (laws.kept-none s t h _ _ _ refl refl refl) in
     let w = holding (G .rules) b in
-    let x = c .before .before .before .before .before .before .before .before .before .before .before .back .ensures .0 w (c .before .before .before .before .before .before .before .before .before .before .before .before .before .before .before .rules2 .result .totals .words) (sym (c .before .before .before .before .before .before .before .before .before .before .before .before .is-complete .ensures s _ w (k .1 s w g (laws.inputs-whole s t h (G .rules)) (laws.outputs-whole s t h (G .rules))))) in
-    let e = laws.accepted-so s t h (p .cursor) (c .before .before .before .before .before .before .before .before .before .before .before .before .before .before .before .before .before .before .before .before .before .before .before .rule-heading .result .cursor) (c .before .before .before .before .before .before .before .before .before .before .before .before .before .before .before .rules2 .result .cursor) (G .rules) (c .before .before .before .before .before .before .before .before .before .before .before .before .before .before .before .rules2 .result .totals .words) (c .before .before .before .before .before .before .before .before .before .before .before .before .before .before .before .before .before .before .before .before .before .before .before .before .before .before .before .before .before .pre .1) (c .before .before .before .before .before .before .before .before .before .before .before .before .before .before .before .before .before .before .before .before .before .before .before .rule-heading .ensures .0 (blockView s t) 0 (laws.bare s t)) (G .reads) (c .before .before .before .before .before .before .before .before .before .before .before .back .result) x (length (c .before .before .before .before .before .before .before .before .before .before .before .before .before .before .before .before .before .before .before .before .before .before .before .before .before .before .before .before .before .args .out .now)) (c .before .before .before .before .before .before .before .before .before .before .before .before .before .before .before .before .before .before .before .before .before .before .before .before .before .before .before .before .before .pre .2) (c .before .before .before .before .before .before .before .before .before .if1 .left) in
-    let y = c .before .before .store .ensures (G .rules) (G .kept (c .before .before .before .before .before .before .before .before .before .before .before .back .ensures .1 (c .before .before .before .before .before .before .before .before .before .if1 .left)) .stored) in
-    (y .0 ∙ ap lengthIn (sym e), y .1 ∙ ap (bufferAfter (c .before .before .before .before .before .before .before .before .before .before .before .before .before .before .before .before .before .before .before .before .before .before .before .before .before .before .before .before .before .args .out .now)) (sym e))
+    let x = c11 .back .ensures .0 w (c15 .rules2 .result .totals .words)
+    (sym (c12 .is-complete .ensures s _ w (k .1 s w g (laws.inputs-whole s t h (G .rules)) (laws.outputs-whole s t h (G .rules))))) in
+    let e = laws.accepted-so s t h (p .cursor) (c23 .rule-heading .result .cursor) (c15 .rules2 .result .cursor) (G .rules)
+    (c15 .rules2 .result .totals .words) (c29 .pre .1) (c23 .rule-heading .ensures .0 (blockView s t) 0 (laws.bare s t)) (G .reads)
+    (c11 .back .result) x (length (c29 .args .out .now)) (c29 .pre .2) (c9 .if1 .left) in
+    let y = c .before .before .store .ensures (G .rules) (G .kept (c11 .back .ensures .1 (c9 .if1 .left)) .stored) in
+    (y .0 ∙ ap lengthIn (sym e), y .1 ∙ ap (bufferAfter (c29 .args .out .now)) (sym e))
 
 pub read-on-spec : {M : Type 1} → statement M
 read-on-spec =

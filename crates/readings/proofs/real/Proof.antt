@@ -15,7 +15,8 @@ use Rattle.model.specs.Readings.{realOf}
 use Rattle.model.specs.declared.Taken.the-variants.{Value}
 use Rattle.readings.specs.Fields.{magnitudeOf, significandOf}
 use Rattle.readings.proofs.Rounding.{side, signed}
-use Rattle.readings.proofs.Bits.{finite, special, at-bits, no-nan, is-nan, minus-fits, taken-from-zero, negated}
+use Rattle.laws.proofs.Signed.{minus-fits, taken-from-zero, negated}
+use Rattle.readings.proofs.Bits.{finite, special, at-bits, no-nan, is-nan}
 use Rattle.readings.proofs.real.Statement.{statement}
 use Rattle.readings.proofs.real.Tie as tie
 

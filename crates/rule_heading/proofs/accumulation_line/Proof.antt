@@ -16,7 +16,10 @@ expected-requires-3 : tie.Need-expected-requires-3
 expected-requires-3 c κs = search needs
 
 returns : tie.Need-returns
-returns c = laws.opens-then (laws.opens-then (laws.opens-then (c .before .before .before .expected .ensures) (c .before .before .expected2 .ensures)) (c .before .accumulation .ensures)) (c .expected3 .ensures)
+returns c =
+    let c3 = c .before .before .before in
+    laws.opens-then (laws.opens-then (laws.opens-then (c3 .expected .ensures) (c .before .before .expected2 .ensures))
+    (c .before .accumulation .ensures)) (c .expected3 .ensures)
 
 pub accumulation-line-spec : {M : Type 1} → statement M
 accumulation-line-spec =

@@ -20,8 +20,13 @@ expected-requires-3 : tie.Need-expected-requires-3
 expected-requires-3 c κs = search needs
 
 returns-2 : tie.Need-returns-2
-returns-2 c = let t = c .before .before .before .before .before .before .before in
-    laws.opens-as (λ b n. laws.act-line (t .args .s .now) (t .args .p) b n (c .before .before .before .before .if1 .left)) (laws.opens-then (laws.opens-then (laws.opens-then (c .before .before .before .expected .ensures) (c .before .before .expected2 .ensures)) (c .before .activation .ensures)) (c .expected3 .ensures))
+returns-2 c =
+    let c3 = c .before .before .before in
+    let c4 = c3 .before in
+    let t = c4 .before .before .before in
+    laws.opens-as (λ b n. laws.act-line (t .args .s .now) (t .args .p) b n (c4 .if1 .left))
+    (laws.opens-then (laws.opens-then (laws.opens-then (c3 .expected .ensures) (c .before .before .expected2 .ensures))
+    (c .before .activation .ensures)) (c .expected3 .ensures))
 
 pub activation-line-spec : {M : Type 1} → statement M
 activation-line-spec =

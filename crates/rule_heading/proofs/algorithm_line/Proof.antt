@@ -23,11 +23,16 @@ expected-requires-3 c κs = search needs
 
 returns : tie.Need-returns
 unfolding algorithmLine
-returns c = let t = c .before .before .before .before .before .before .before in
+returns c =
+    let c4 = c .before .before .before .before in
+    let c5 = c4 .before in
+    let t = c5 .before .before in
     let s = t .args .s .now in
-    let q = c .before .before .before .before .expected2 .result in
-    laws.opens-then (laws.opens-then (laws.opens-then (c .before .before .before .before .before .expected .ensures) (c .before .before .before .before .expected2 .ensures))
-    (laws.opens-as {g = λ y. algorithm (t .args .second) (pairs (t .args .k) (kind y)) y} (λ b n. laws.line-pair s q (t .args .second) (t .args .k) (c .before .before .pair-at .result) b n (c .before .before .pair-at .ensures .0)) (c .before .algorithm .ensures))) (c .expected3 .ensures)
+    let q = c4 .expected2 .result in
+    laws.opens-then (laws.opens-then (laws.opens-then (c5 .expected .ensures) (c4 .expected2 .ensures))
+    (laws.opens-as {g = λ y. algorithm (t .args .second) (pairs (t .args .k) (kind y)) y}
+    (λ b n. laws.line-pair s q (t .args .second) (t .args .k) (c .before .before .pair-at .result) b n (c .before .before .pair-at .ensures .0))
+    (c .before .algorithm .ensures))) (c .expected3 .ensures)
 
 pub algorithm-line-spec : {M : Type 1} → statement M
 algorithm-line-spec =

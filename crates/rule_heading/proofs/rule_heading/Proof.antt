@@ -24,9 +24,13 @@ accumulation-line-requires c κs = search needs
 
 returns : tie.Need-returns
 unfolding opening
-returns c = let t = c .before .before .before .before .before .before in
+returns c =
+    let c3 = c .before .before .before in
+    let c4 = c3 .before in
+    let t = c4 .before .before in
     let s = t .args .s .now in
-    let x = laws.opens-then (laws.opens-then (laws.opens-then (laws.opens-then (c .before .before .before .before .expected .ensures) (c .before .before .before .block-name .ensures)) (c .before .before .algorithms .ensures)) (c .before .activation-line .ensures)) (c .accumulation-line .ensures) in
+    let x = laws.opens-then (laws.opens-then (laws.opens-then (laws.opens-then (c4 .expected .ensures) (c3 .block-name .ensures))
+    (c .before .before .algorithms .ensures)) (c .before .activation-line .ensures)) (c .accumulation-line .ensures) in
     ((λ b n h. x .reads b n ∙ ap (λ (y : Block). opening (seen s (t .args .c) y n)) (laws.bare s b h)), (x .fewer, x .fits, x .headed))
 
 pub rule-heading-spec : {M : Type 1} → statement M

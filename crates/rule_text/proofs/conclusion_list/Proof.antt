@@ -16,7 +16,9 @@ use Rattle.rule_text.proofs.conclusion_list.Statement.{statement}
 use Rattle.rule_text.proofs.conclusion_list.Tie as tie
 
 abbrev Inv-loop : tie.InvT-loop
-Inv-loop s names symbols conclusions₀ q₀ conclusions q = Onward s q₀ q × ((b : Block) (rs : List Rule) (x : Rule) (m : ℕ) → Describes s names symbols b → length (gather (λ r. r .conclusions) (midst b rs x .rules)) ≡ q₀ .count
+Inv-loop s names symbols conclusions₀ q₀ conclusions q =
+    Onward s q₀ q × ((b : Block) (rs : List Rule) (x : Rule) (m : ℕ) → Describes s names symbols b
+    → length (gather (λ r. r .conclusions) (midst b rs x .rules)) ≡ q₀ .count
     → (n : ℕ) → left s (q₀ .cursor) < n → laws.Lists s b rs x m n q₀ q conclusions₀ conclusions)
 
 abbrev μ-loop : tie.MeasureT-loop
@@ -26,7 +28,9 @@ conclusion-requires : tie.Need-conclusion-requires Inv-loop μ-loop
 conclusion-requires c κs = search needs
 
 loop-holds : tie.Need-loop-holds Inv-loop μ-loop
-loop-holds c = let o = c .conclusion .ensures .1 in (record { fewer = omega arith; fits = o .fits; grows = omega arith; count = o .count }, λ b rs x m d k n h. laws.lists-begin _ b rs x m n _ _ h)
+loop-holds c =
+    let o = c .conclusion .ensures .1 in
+    (record { fewer = omega arith; fits = o .fits; grows = omega arith; count = o .count }, λ b rs x m d k n h. laws.lists-begin _ b rs x m n _ _ h)
 
 advance-requires : tie.Need-advance-requires Inv-loop μ-loop
 advance-requires c κs = search needs
@@ -50,14 +54,18 @@ loop-again c = let l = c .before .before .before .before .before .before .loop i
 
 returns : tie.Need-returns Inv-loop μ-loop
 unfolding listed laws.another
-returns c = let l = c .before .before .loop in
-    let o = c .before .before .before .conclusion .ensures in (
+returns c =
+    let c3 = c .before .before .before in
+    let c6 = c3 .before .before .before in
+    let l = c .before .before .loop in
+    let o = c3 .conclusion .ensures in (
       (λ b rs q m d k.
           let x = o .0 b rs q m d k in
           let y = gives (x .more) q in
-          let n = suc (length (seen (c .before .before .before .before .before .before .args .s .now) (c .before .before .before .conclusion .result .cursor) (midst b rs y) m .rest)) in
+          let n = suc (length (seen (c6 .args .s .now) (c3 .conclusion .result .cursor) (midst b rs y) m .rest)) in
           laws.concludes-then x (laws.lists-end _ b rs y m n _ (l .q) _ _ refl
-          (l .inv .1 b rs y m d (laws.given-count rs q (x .more) ∙ (let z = x .count in omega arith)) n (enough (c .before .before .before .before .before .before .args .s .now) (c .before .before .before .conclusion .result .cursor) (midst b rs y) m)) (c .if1 .left))),
+          (l .inv .1 b rs y m d (laws.given-count rs q (x .more) ∙ (let z = x .count in omega arith)) n
+          (enough (c6 .args .s .now) (c3 .conclusion .result .cursor) (midst b rs y) m)) (c .if1 .left))),
       laws.onward-then (o .1) (l .inv .0),
     )
 

@@ -13,7 +13,8 @@ use Rattle.rule_text.proofs.is_used.Statement.{statement}
 use Rattle.rule_text.proofs.is_used.Tie as tie
 
 abbrev Inv-loop : tie.InvT-loop
-Inv-loop rules count number k₀ k = (k ≤ count) × ((rs : List Rule) → Rows rs rules count → all (λ q. not (eqb (q .number) number)) (drop k rs) ≡ all (λ q. not (eqb (q .number) number)) rs)
+Inv-loop rules count number k₀ k = (k ≤ count) × ((rs : List Rule) → Rows rs rules count
+    → all (λ q. not (eqb (q .number) number)) (drop k rs) ≡ all (λ q. not (eqb (q .number) number)) rs)
 
 abbrev μ-loop : tie.MeasureT-loop
 μ-loop rules count number k₀ k = count - k
@@ -40,7 +41,9 @@ loop-less : tie.Need-loop-less Inv-loop μ-loop
 loop-less c = search needs
 
 loop-again : tie.Need-loop-again Inv-loop μ-loop
-loop-again c = (search needs, λ rs w. laws.used-more rs _ _ _ w (c .before .before .before .loop .k) (search needs) (c .if1 .left) (c .before .before .before .loop .inv .1 rs w))
+loop-again c =
+    let c3 = c .before .before .before in
+    (search needs, λ rs w. laws.used-more rs _ _ _ w (c3 .loop .k) (search needs) (c .if1 .left) (c3 .loop .inv .1 rs w))
 
 returns-2 : tie.Need-returns-2 Inv-loop μ-loop
 returns-2 c = λ rs w. laws.used-none rs _ _ _ w (c .before .loop .k) (search needs) (c .before .loop .inv .1 rs w)

@@ -20,11 +20,16 @@ refused-requires-2 : tie.Need-refused-requires-2
 refused-requires-2 c κs = search needs
 
 returns-2 : tie.Need-returns-2
-returns-2 c = let s = c .before .before .before .before .before .before .before .before .args .s .now in
-    let g = c .before .before .before .before .before .before .before .before .pre in
+returns-2 c =
+    let c3 = c .before .before .before in
+    let c8 = c3 .before .before .before .before .before in
+    let s = c8 .args .s .now in
+    let g = c8 .pre in
     let x = c .refused2 .ensures .0 s (g .0) in
-    let z = c .refused2 .ensures .1 in
-    ((λ b d k. laws.goes-none 6 (x .0) (z .0) (z .1) (laws.rule-full s b _ _ (c .before .before .before .if1 .left) _ (k .rules-count) (c .before .if2 .taken))), (laws.within-none 6 (x .0) (z .0) (g .2), x .1))
+    let z = c .refused2 .ensures .1 in (
+      (λ b d k. laws.goes-none 6 (x .0) (z .0) (z .1) (laws.rule-full s b _ _ (c3 .if1 .left) _ (k .rules-count) (c .before .if2 .taken))),
+      (laws.within-none 6 (x .0) (z .0) (g .2), x .1),
+    )
 
 advance-requires : tie.Need-advance-requires
 advance-requires c κs = search needs
@@ -33,13 +38,23 @@ rule-from-requires : tie.Need-rule-from-requires
 rule-from-requires c κs = search needs
 
 returns-3 : tie.Need-returns-3
-returns-3 c = let s = c .before .before .before .before .before .before .before .before .before .before .before .before .args .s .now in
-    let p = c .before .before .before .before .before .before .before .before .before .before .before .before .args .p in
-    let a = c .before .before .before .before .advance .ensures in
+returns-3 c =
+    let c4 = c .before .before .before .before in
+    let c5 = c4 .before in
+    let c7 = c5 .before .before in
+    let c12 = c7 .before .before .before .before .before in
+    let s = c12 .args .s .now in
+    let p = c12 .args .p in
+    let a = c4 .advance .ensures in
     let f = c .rule-from .ensures in (
       (λ b d k.
           let y = f .0 b d k in
-          record { rules = y .rules; reads = y .reads ∙ ap ruleFrom (a .0 .reads b (p .totals .words)) ∙ sym (laws.rule-room s b _ _ (c .before .before .before .before .before .before .before .if1 .left) _ (k .rules-count) (c .before .before .before .before .before .if2 .left)); kept = y .kept }),
+          record {
+            rules = y .rules;
+            reads = y .reads ∙ ap ruleFrom (a .0 .reads b (p .totals .words))
+                ∙ sym (laws.rule-room s b _ _ (c7 .if1 .left) _ (k .rules-count) (c5 .if2 .left));
+            kept = y .kept;
+          }),
       (record { fewer = omega (arith, f .1 .fewer, a .0 .fewer); fits = f .1 .fits; few = f .1 .few }, λ h. omega (arith, f .1 .fewer, a .1 .0)),
     )
 

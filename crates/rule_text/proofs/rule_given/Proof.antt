@@ -35,26 +35,34 @@ put-row-requires : tie.Need-put-row-requires
 put-row-requires c κs = c .before .before .before .before .before .before .before .before .before .before .before .before .before .before .pre .3
 
 add-t22 : tie.Need-add-t22
-add-t22 c = omega (arith, c .before .before .before .before .before .before .before .before .before .before .before .before .before .before .before .before .pre .3)
+add-t22 c =
+    let c16 = c .before .before .before .before .before .before .before .before .before .before .before .before .before .before .before .before in
+    omega (arith, c16 .pre .3)
 
 returns : tie.Need-returns
-returns c = let t = c .before .before .before .before .before .before .before .before .before .before .before .before .before .before .before .before in
+returns c =
+    let c6 = c .before .before .before .before .before .before in
+    let c8 = c6 .before .before in
+    let c10 = c8 .before .before in
+    let c12 = c10 .before .before in
+    let t = c12 .before .before .before .before in
     let p = t .args .p in
-    let a = c .before .before .before .before .before .before .before .before .before .before .before .before .expect .ensures .0 in
-    let l = c .before .before .before .before .before .before .before .before .before .before .conclusion-list .ensures in
-    let w = c .before .before .before .before .before .before .before .before .weighted .ensures in
-    let z = c .before .before .before .before .before .before .expect2 .ensures .0 in
-    let v = c .before .before .before .before .before .before .before .before .weighted .result .weight .0 in (
+    let a = c12 .expect .ensures .0 in
+    let l = c10 .conclusion-list .ensures in
+    let w = c8 .weighted .ensures in
+    let z = c6 .expect2 .ensures .0 in
+    let v = c8 .weighted .result .weight .0 in (
       (λ b rs q d n h.
           let x = l .0 b rs q (p .totals .words) d n in
           let y = gives (x .more) q in
-          let e : c .before .before .before .before .before .before .before .before .before .before .conclusion-list .result .count - p .totals .conclusions ≡ length (x .more) = let u = x .count in omega arith in
+          let e : c10 .conclusion-list .result .count - p .totals .conclusions ≡ length (x .more) = let u = x .count in omega arith in
           record {
             more = x .more;
             weight = v;
             reads =
                 z .reads (midst b rs (withWeight v y)) (p .totals .words)
-                ∙ ap (expect SEMICOLON) (w .0 b rs y (p .totals .words) h ∙ ap weighted (x .reads ∙ ap (listed conclusion) (a .reads (midst b rs q) (p .totals .words))));
+                ∙ ap (expect SEMICOLON) (w .0 b rs y (p .totals .words) h
+                ∙ ap weighted (x .reads ∙ ap (listed conclusion) (a .reads (midst b rs q) (p .totals .words))));
             rules = refl;
             words = refl;
             conclusions = x .count;

@@ -1,22 +1,22 @@
-use borrow.Author.Needs.{needs}
-use Rattle.stored_names.proofs.Tables.{entry}
-use Rattle.model.specs.Basic.{same}
-use Rattle.laws.proofs.Places.{all-more, all-stop, all-end}
-use Rattle.model.specs.Image.{wordAt, tab}
-use Rattle.stored_names.specs.Stored.{absent, apart, wordsIn}
-use Prim.Native.Nat.{_-_, _≤_}
 use mathlib.Core.Path.{_≡_, sym, _∙_}
+use Prim.Native.Nat.{_-_, _≤_}
 use native.Mathlib.Omega.{arith}
 use native.Mathlib.Nat.{sub-zero}
+use borrow.Author.Needs.{needs}
 use borrow.Author.Tests.{not-true, not-false}
+use Rattle.model.specs.Basic.{same}
+use Rattle.model.specs.Image.{wordAt, tab}
+use Rattle.laws.proofs.Places.{all-more, all-stop, all-end}
+use Rattle.stored_names.specs.Stored.{wordsIn, absent, apart}
+use Rattle.stored_names.proofs.Tables.{entry}
 use Rattle.stored_names.proofs.apart_ok.Statement.{statement}
 use Rattle.stored_names.proofs.apart_ok.Tie as tie
-use Rattle.stored_names.proofs.apart_ok.Reads as reads
-use Rattle.stored_names.proofs.apart_ok.Lts as lts
-use Rattle.stored_names.proofs.absent_ok.Reads as absent-ok-reads
 
 abbrev Inv-loop : tie.InvT-loop
-Inv-loop img o s n q t m i₀ i = (i ≤ n) × (apart same (tab (wordsIn (wordAt img) o s) (n - i) i) (tab (wordsIn (wordAt img) q t) m 0) ≡ apart same (tab (wordsIn (wordAt img) o s) n 0) (tab (wordsIn (wordAt img) q t) m 0))
+Inv-loop img o s n q t m i₀ i =
+    let f = wordsIn (wordAt img) o s in
+    let g = tab (wordsIn (wordAt img) q t) m 0 in
+    (i ≤ n) × (apart same (tab f (n - i) i) g ≡ apart same (tab f n 0) g)
 
 abbrev μ-loop : tie.MeasureT-loop
 μ-loop img o s n q t m i₀ i = n - i
@@ -34,7 +34,12 @@ absent-ok-requires : tie.Need-absent-ok-requires Inv-loop μ-loop
 absent-ok-requires c κs = search (needs, entry (c .before .loop .i) (c .before .before .before .args .s) (omega arith) (omega arith))
 
 returns : tie.Need-returns Inv-loop μ-loop
-returns c = sym (all-stop (λ x. absent same x (tab (wordsIn (wordAt (c .before .before .before .before .before .args .img .now)) (c .before .before .before .before .before .args .q) (c .before .before .before .before .before .args .t)) (c .before .before .before .before .before .args .m) 0)) (wordsIn (wordAt (c .before .before .before .before .before .args .img .now)) (c .before .before .before .before .before .args .o) (c .before .before .before .before .before .args .s)) (c .before .before .before .before .before .args .n) (c .before .before .before .loop .i) (omega arith) (sym (rw sub-zero at (c .before .absent-ok .ensures)) ∙ not-true _ (c .if1 .taken))) ∙ c .before .before .before .loop .inv .1
+returns c =
+    let l = c .before .before .before .loop in
+    let a = c .before .before .before .before .before .args in
+    let w = wordAt (a .img .now) in
+    let t = sym (rw sub-zero at (c .before .absent-ok .ensures)) ∙ not-true _ (c .if1 .taken) in
+    sym (all-stop (λ x. absent same x (tab (wordsIn w (a .q) (a .t)) (a .m) 0)) (wordsIn w (a .o) (a .s)) (a .n) (l .i) (omega arith) t) ∙ l .inv .1
 
 add-i : tie.Need-add-i Inv-loop μ-loop
 add-i c = search needs
@@ -43,10 +48,20 @@ loop-less : tie.Need-loop-less Inv-loop μ-loop
 loop-less c = search needs
 
 loop-again : tie.Need-loop-again Inv-loop μ-loop
-loop-again c = (search needs, sym (all-more (λ x. absent same x (tab (wordsIn (wordAt (c .before .before .before .before .before .args .img .now)) (c .before .before .before .before .before .args .q) (c .before .before .before .before .before .args .t)) (c .before .before .before .before .before .args .m) 0)) (wordsIn (wordAt (c .before .before .before .before .before .args .img .now)) (c .before .before .before .before .before .args .o) (c .before .before .before .before .before .args .s)) (c .before .before .before .before .before .args .n) (c .before .before .before .loop .i) (omega arith) (sym (rw sub-zero at (c .before .absent-ok .ensures)) ∙ not-false _ (c .if1 .left))) ∙ c .before .before .before .loop .inv .1)
+loop-again c =
+    let l = c .before .before .before .loop in
+    let a = c .before .before .before .before .before .args in
+    let w = wordAt (a .img .now) in
+    let t = sym (rw sub-zero at (c .before .absent-ok .ensures)) ∙ not-false _ (c .if1 .left) in
+    let more = all-more (λ x. absent same x (tab (wordsIn w (a .q) (a .t)) (a .m) 0)) (wordsIn w (a .o) (a .s)) (a .n) (l .i) (omega arith) t in
+    (search needs, sym more ∙ l .inv .1)
 
 returns-2 : tie.Need-returns-2 Inv-loop μ-loop
-returns-2 c = sym (all-end (λ x. absent same x (tab (wordsIn (wordAt (c .before .before .before .args .img .now)) (c .before .before .before .args .q) (c .before .before .before .args .t)) (c .before .before .before .args .m) 0)) (wordsIn (wordAt (c .before .before .before .args .img .now)) (c .before .before .before .args .o) (c .before .before .before .args .s)) (c .before .before .before .args .n) (c .before .loop .i) (c .loop-test .left)) ∙ c .before .loop .inv .1
+returns-2 c =
+    let l = c .before .loop in
+    let a = c .before .before .before .args in
+    let w = wordAt (a .img .now) in
+    sym (all-end (λ x. absent same x (tab (wordsIn w (a .q) (a .t)) (a .m) 0)) (wordsIn w (a .o) (a .s)) (a .n) (l .i) (c .loop-test .left)) ∙ l .inv .1
 
 pub apart-ok-spec : {M : Type 1} → statement M
 apart-ok-spec =

@@ -1,61 +1,44 @@
-use Rattle.stored_names.proofs.Stored.{stored}
-use Rattle.model.specs.Image.{wordAt}
-use borrow.Author.Tests.{not-true, not-false}
 use mathlib.Core.Path.{sym, _∙_}
+use lib.Seq.{length-take-le}
 use borrow.Author.Needs.{needs}
+use Rattle.model.specs.Image.{wordAt}
+use Rattle.stored_names.proofs.Names.{name-front}
 use Rattle.stored_names.proofs.name_ok.Statement.{statement}
 use Rattle.stored_names.proofs.name_ok.Tie as tie
-use Rattle.stored_names.proofs.name_ok.Reads as reads
-use Rattle.stored_names.proofs.name_ok.Lts as lts
-use Rattle.stored_names.proofs.no_keyword.Reads as no-keyword-reads
-use Rattle.stored_names.proofs.spelt_ok.Reads as spelt-ok-reads
-use Rattle.words.proofs.word.Reads as word-reads
 
-word-requires : tie.Need-word-requires
-word-requires c κs = search needs
+bytes-at-requires : tie.Need-bytes-at-requires
+bytes-at-requires c κs = search needs
 
-add-word : tie.Need-add-word
-add-word c = search needs
+slice-aggregate-first-zero : tie.Need-slice-aggregate-first-zero
+slice-aggregate-first-zero c = search needs
 
-word-requires-2 : tie.Need-word-requires-2
-word-requires-2 c κs = search needs
+first-zero-requires : tie.Need-first-zero-requires
+first-zero-requires c κs = search needs
 
-add-word-2 : tie.Need-add-word-2
-add-word-2 c = search needs
+array-share-prefix-s : tie.Need-array-share-prefix-s
+array-share-prefix-s c = search needs
 
-word-requires-3 : tie.Need-word-requires-3
-word-requires-3 c κs = search needs
+slice-aggregate-is-name : tie.Need-slice-aggregate-is-name
+slice-aggregate-is-name c = sym (length-take-le (c .before .first-zero .result) (c .before .before .before .bytes-at .result) (search needs))
 
-add-word-3 : tie.Need-add-word-3
-add-word-3 c = search needs
-
-word-requires-4 : tie.Need-word-requires-4
-word-requires-4 c κs = search needs
-
-spelt-ok-requires : tie.Need-spelt-ok-requires
-spelt-ok-requires c κs = search needs
+is-name-requires : tie.Need-is-name-requires
+is-name-requires c κs = search needs
 
 returns : tie.Need-returns
-returns c = sym (stored (wordAt (c .before .before .before .before .before .before .before .args .img .now)) (c .before .before .before .before .before .before .before .args .o) (c .before .before .before .before .before .word .ensures .0) (c .before .before .before .before .word2 .ensures .0) (c .before .before .before .word3 .ensures .0) (c .before .before .word4 .ensures .0) ∙ simp (sym (c .before .spelt-ok .ensures) ∙ not-true _ (c .if1 .taken)))
-
-no-keyword-requires : tie.Need-no-keyword-requires
-no-keyword-requires c κs = search needs
-
-returns-2 : tie.Need-returns-2
-returns-2 c = c .no-keyword .ensures ∙ sym (stored (wordAt (c .before .before .before .before .before .before .before .before .args .img .now)) (c .before .before .before .before .before .before .before .before .args .o) (c .before .before .before .before .before .before .word .ensures .0) (c .before .before .before .before .before .word2 .ensures .0) (c .before .before .before .before .word3 .ensures .0) (c .before .before .before .word4 .ensures .0) ∙ simp (sym (c .before .before .spelt-ok .ensures) ∙ not-false _ (c .before .if1 .left)))
+returns c =
+    let zero = c .before .before in
+    let bytes = zero .before .before in
+    let a = bytes .before .before .args in
+    c .is-name .ensures ∙ name-front (wordAt (a .img .now)) (a .o) _ _ (bytes .bytes-at .ensures) (zero .first-zero .ensures .0)
 
 pub name-ok-spec : {M : Type 1} → statement M
 name-ok-spec =
     tie.close
     (tie.spec
-    word-requires
-    add-word
-    word-requires-2
-    add-word-2
-    word-requires-3
-    add-word-3
-    word-requires-4
-    spelt-ok-requires
-    returns
-    no-keyword-requires
-    returns-2)
+    bytes-at-requires
+    slice-aggregate-first-zero
+    first-zero-requires
+    array-share-prefix-s
+    slice-aggregate-is-name
+    is-name-requires
+    returns)

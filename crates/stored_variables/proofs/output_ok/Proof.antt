@@ -71,8 +71,7 @@ returns-4 c =
     let w = wordAt (start .args .img .now) in
     let o = row .output-row .ensures .0 w (start .pre .0) in
     let first = c .before .before in
-    let count = first .before .before .before .before .before .word .ensures .0 in
-    let s = output-spelt w (start .args .i) _ _ _ o count (first .word2 .ensures .0) in
+    let s = output-spelt w (start .args .i) _ _ _ o (first .before .before .before .before .before .word .ensures .0) (first .word2 .ensures .0) in
     sym (sym s ∙ one-fails _ 3 (sym (c .before .singletons-ok .ensures) ∙ not-true _ (c .if4 .taken)))
 
 terms-apart-requires : tie.Need-terms-apart-requires
@@ -85,8 +84,7 @@ returns-5 c =
     let w = wordAt (start .args .img .now) in
     let o = row .output-row .ensures .0 w (start .pre .0) in
     let first = c .before .before .before .before in
-    let count = first .before .before .before .before .before .word .ensures .0 in
-    let s = output-spelt w (start .args .i) _ _ _ o count (first .word2 .ensures .0) in
+    let s = output-spelt w (start .args .i) _ _ _ o (first .before .before .before .before .before .word .ensures .0) (first .word2 .ensures .0) in
     sym (sym s ∙ one-fails _ 4 (sym (c .before .terms-apart .ensures) ∙ not-true _ (c .if5 .taken)))
 
 default-ok-requires : tie.Need-default-ok-requires

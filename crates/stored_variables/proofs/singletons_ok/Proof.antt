@@ -4,9 +4,10 @@ use native.Mathlib.Omega.{arith}
 use borrow.Author.Needs.{needs}
 use borrow.Author.Tests.{not-true, not-false}
 use Rattle.model.specs.Basic.{all}
-use Rattle.model.specs.Image.{wordAt, tab}
+use Rattle.model.specs.WellFormed.{singletonOk}
+use Rattle.model.specs.Image.{wordAt, tab, singletonAt}
 use Rattle.laws.proofs.Places.{all-more, all-stop, all-end, all-start}
-use Rattle.stored_variables.specs.Stored.{rangeAt, singletonStored}
+use Rattle.stored_variables.specs.Stored.{rangeAt}
 use Rattle.stored_variables.proofs.singletons_ok.Statement.{statement}
 use Rattle.stored_variables.proofs.singletons_ok.Tie as tie
 
@@ -15,7 +16,7 @@ Inv-loop img h o s k e i₀ i =
     let w = wordAt img in
     (s ≤ i)
     × ((i ≤ s + k)
-    × (all (singletonStored w (rangeAt w (o))) (tab (λ t. t) (s + k - i) i) ≡ all (singletonStored w (rangeAt w (o))) (tab (λ t. t) k s)))
+    × (all (singletonOk (rangeAt w (o))) (tab (singletonAt w) (s + k - i) i) ≡ all (singletonOk (rangeAt w (o))) (tab (singletonAt w) k s)))
 
 abbrev μ-loop : tie.MeasureT-loop
 μ-loop img h o s k e i₀ i = s + k - i
@@ -35,7 +36,7 @@ returns c =
     let a = c .before .before .before .before .before .args in
     let w = wordAt (a .img .now) in
     let t = sym (c .before .singleton-ok .ensures) ∙ not-true _ (c .if1 .taken) in
-    sym (all-stop (singletonStored w (rangeAt w (a .o))) (λ t. t) (a .s + a .k) (l .i) (omega arith) t) ∙ l .inv .1 .1
+    sym (all-stop (singletonOk (rangeAt w (a .o))) (singletonAt w) (a .s + a .k) (l .i) (omega arith) t) ∙ l .inv .1 .1
 
 add-i : tie.Need-add-i Inv-loop μ-loop
 add-i c = search needs
@@ -49,14 +50,14 @@ loop-again c =
     let a = c .before .before .before .before .before .args in
     let w = wordAt (a .img .now) in
     let t = sym (c .before .singleton-ok .ensures) ∙ not-false _ (c .if1 .left) in
-    (search needs, (search needs, sym (all-more (singletonStored w (rangeAt w (a .o))) (λ t. t) (a .s + a .k) (l .i) (omega arith) t) ∙ l .inv .1 .1))
+    (search needs, (search needs, sym (all-more (singletonOk (rangeAt w (a .o))) (singletonAt w) (a .s + a .k) (l .i) (omega arith) t) ∙ l .inv .1 .1))
 
 returns-2 : tie.Need-returns-2 Inv-loop μ-loop
 returns-2 c =
     let l = c .before .loop in
     let a = c .before .before .before .args in
     let w = wordAt (a .img .now) in
-    sym (all-end (singletonStored w (rangeAt w (a .o))) (λ t. t) (a .s + a .k) (l .i) (c .loop-test .left)) ∙ l .inv .1 .1
+    sym (all-end (singletonOk (rangeAt w (a .o))) (singletonAt w) (a .s + a .k) (l .i) (c .loop-test .left)) ∙ l .inv .1 .1
 
 pub singletons-ok-spec : {M : Type 1} → statement M
 singletons-ok-spec =

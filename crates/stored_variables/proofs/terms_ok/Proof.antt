@@ -4,9 +4,9 @@ use native.Mathlib.Omega.{arith}
 use borrow.Author.Needs.{needs}
 use borrow.Author.Tests.{not-true, not-false}
 use Rattle.model.specs.Basic.{all}
-use Rattle.model.specs.Image.{wordAt, tab}
+use Rattle.model.specs.WellFormed.{termOk}
+use Rattle.model.specs.Image.{wordAt, tab, termAt}
 use Rattle.laws.proofs.Places.{all-more, all-stop, all-end, all-start}
-use Rattle.stored_variables.specs.Stored.{termStored}
 use Rattle.stored_variables.proofs.terms_ok.Statement.{statement}
 use Rattle.stored_variables.proofs.terms_ok.Tie as tie
 
@@ -15,7 +15,7 @@ Inv-loop img h s k e i₀ i =
     let w = wordAt img in
     (s ≤ i)
     × ((i ≤ s + k)
-    × (all (termStored w) (tab (λ t. t) (s + k - i) i) ≡ all (termStored w) (tab (λ t. t) k s)))
+    × (all (termOk) (tab (termAt w) (s + k - i) i) ≡ all (termOk) (tab (termAt w) k s)))
 
 abbrev μ-loop : tie.MeasureT-loop
 μ-loop img h s k e i₀ i = s + k - i
@@ -35,7 +35,7 @@ returns c =
     let a = c .before .before .before .before .before .args in
     let w = wordAt (a .img .now) in
     let t = sym (c .before .term-ok .ensures) ∙ not-true _ (c .if1 .taken) in
-    sym (all-stop (termStored w) (λ t. t) (a .s + a .k) (l .i) (omega arith) t) ∙ l .inv .1 .1
+    sym (all-stop (termOk) (termAt w) (a .s + a .k) (l .i) (omega arith) t) ∙ l .inv .1 .1
 
 add-i : tie.Need-add-i Inv-loop μ-loop
 add-i c = search needs
@@ -49,14 +49,14 @@ loop-again c =
     let a = c .before .before .before .before .before .args in
     let w = wordAt (a .img .now) in
     let t = sym (c .before .term-ok .ensures) ∙ not-false _ (c .if1 .left) in
-    (search needs, (search needs, sym (all-more (termStored w) (λ t. t) (a .s + a .k) (l .i) (omega arith) t) ∙ l .inv .1 .1))
+    (search needs, (search needs, sym (all-more (termOk) (termAt w) (a .s + a .k) (l .i) (omega arith) t) ∙ l .inv .1 .1))
 
 returns-2 : tie.Need-returns-2 Inv-loop μ-loop
 returns-2 c =
     let l = c .before .loop in
     let a = c .before .before .before .args in
     let w = wordAt (a .img .now) in
-    sym (all-end (termStored w) (λ t. t) (a .s + a .k) (l .i) (c .loop-test .left)) ∙ l .inv .1 .1
+    sym (all-end (termOk) (termAt w) (a .s + a .k) (l .i) (c .loop-test .left)) ∙ l .inv .1 .1
 
 pub terms-ok-spec : {M : Type 1} → statement M
 terms-ok-spec =

@@ -26,9 +26,11 @@ returns : tie.Need-returns Inv-loop μ-loop
 returns c =
     let c3 = c .before .before .before in
     let c5 = c3 .before .before in
-    let l = c3 .loop in
-    (comment-closed (c5 .args .rest .now) (l .i) (search needs) (c .before .is-pair .result) (search needs) (c .before .is-pair .ensures .0)
-    (c .if1 .taken) (l .inv .1), (search needs, c .before .is-pair .ensures .1 (c .if1 .taken)))
+    let l = c3 .loop in (
+      comment-closed (c5 .args .rest .now) (l .i) (search needs) (c .before .is-pair .result) (search needs) (c .before .is-pair .ensures .0)
+          (c .if1 .taken) (l .inv .1),
+      (search needs, c .before .is-pair .ensures .1 (c .if1 .taken)),
+    )
 
 add-i : tie.Need-add-i Inv-loop μ-loop
 add-i c = search needs
@@ -40,9 +42,11 @@ loop-again : tie.Need-loop-again Inv-loop μ-loop
 loop-again c =
     let c3 = c .before .before .before in
     let c5 = c3 .before .before in
-    let l = c3 .loop in
-    (search needs, sym (comment-more (c5 .args .rest .now) (l .i) (search needs) (c .before .is-pair .result) (search needs)
-    (c .before .is-pair .ensures .0) (c .if1 .left)) ∙ l .inv .1)
+    let l = c3 .loop in (
+      search needs,
+      sym (comment-more (c5 .args .rest .now) (l .i) (search needs) (c .before .is-pair .result) (search needs)
+          (c .before .is-pair .ensures .0) (c .if1 .left)) ∙ l .inv .1,
+    )
 
 sub-t8 : tie.Need-sub-t8 Inv-loop μ-loop
 sub-t8 c = search needs

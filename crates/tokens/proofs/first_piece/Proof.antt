@@ -25,9 +25,11 @@ returns-2 : tie.Need-returns-2
 unfolding pieceAt
 returns-2 c =
     let c3 = c .before .before .before in
-    let c4 = c3 .before in
-    (simp (sym (c4 .is-blank .ensures) ∙ c3 .if1 .left, sym (c .before .before .starts-name .ensures) ∙ c .before .if2 .taken)
-    (c .word-piece .ensures .0), c .word-piece .ensures .1)
+    let c4 = c3 .before in (
+      simp (sym (c4 .is-blank .ensures) ∙ c3 .if1 .left, sym (c .before .before .starts-name .ensures) ∙ c .before .if2 .taken)
+          (c .word-piece .ensures .0),
+      c .word-piece .ensures .1,
+    )
 
 is-digit-requires : tie.Need-is-digit-requires
 is-digit-requires c κs = search needs
@@ -41,18 +43,30 @@ returns-3 c =
     let c3 = c .before .before .before in
     let c4 = c3 .before in
     let c5 = c4 .before in
-    let c6 = c5 .before in
-    (simp (sym (c6 .is-blank .ensures) ∙ c5 .if1 .left, sym (c4 .starts-name .ensures) ∙ c3 .if2 .left, sym (c .before .before .is-digit .ensures)
-    ∙ c .before .if3 .taken, sym (c .number-part .ensures .0)), (search needs, omega (arith, c .number-part .ensures .1)))
+    let c6 = c5 .before in (
+      simp (
+        sym (c6 .is-blank .ensures) ∙ c5 .if1 .left,
+        sym (c4 .starts-name .ensures) ∙ c3 .if2 .left,
+        sym (c .before .before .is-digit .ensures)
+            ∙ c .before .if3 .taken,
+        sym (c .number-part .ensures .0),
+      ),
+      (search needs, omega (arith, c .number-part .ensures .1)),
+    )
 
 mark-piece-requires : tie.Need-mark-piece-requires
 mark-piece-requires c κs =
     let c3 = c .before .before .before in
     let c4 = c3 .before in
     let c5 = c4 .before in
-    let c8 = c5 .before .before .before in
-    (c8 .pre, (sym (c5 .is-blank .ensures) ∙ c4 .if1 .left, sym (c3 .starts-name .ensures) ∙ c .before .before .if2 .left,
-    sym (c .before .is-digit .ensures) ∙ c .if3 .left))
+    let c8 = c5 .before .before .before in (
+      c8 .pre,
+      (
+        sym (c5 .is-blank .ensures) ∙ c4 .if1 .left,
+        sym (c3 .starts-name .ensures) ∙ c .before .before .if2 .left,
+        sym (c .before .is-digit .ensures) ∙ c .if3 .left,
+      ),
+    )
 
 returns-4 : tie.Need-returns-4
 returns-4 c = c .mark-piece .ensures

@@ -20,15 +20,21 @@ shared-slice-read-result c = search needs
 
 returns : tie.Need-returns
 returns c =
-    let c4 = c .before .before .before .before in
-    (simp (eq-eqb _ _ (c .before .before .if1 .taken), starts-here (eqb (c4 .args .b)) (c4 .args .s .now) (c4 .args .i + 1) (c .before .if2 .taken)),
-    λ q. c .before .if2 .taken)
+    let c4 = c .before .before .before .before in (
+      simp (eq-eqb _ _ (c .before .before .if1 .taken), starts-here (eqb (c4 .args .b)) (c4 .args .s .now) (c4 .args .i + 1) (c .before .if2 .taken)),
+      λ q. c .before .if2 .taken,
+    )
 
 returns-2 : tie.Need-returns-2
 returns-2 c =
-    let c3 = c .before .before .before in
-    (simp (le-ltb _ _ (c .if2 .left), eq-eqb _ _ (c .before .if1 .taken),
-    starts-end (eqb (c3 .args .b)) (c3 .args .s .now) (c3 .args .i + 1) (c .if2 .left)), λ q. ltb-true _ _ q)
+    let c3 = c .before .before .before in (
+      simp (
+        le-ltb _ _ (c .if2 .left),
+        eq-eqb _ _ (c .before .if1 .taken),
+        starts-end (eqb (c3 .args .b)) (c3 .args .s .now) (c3 .args .i + 1) (c .if2 .left),
+      ),
+      λ q. ltb-true _ _ q,
+    )
 
 returns-3 : tie.Need-returns-3
 returns-3 c = (simp (ne-eqb _ _ (c .if1 .left)), λ q. absurd (c .if1 .left (eqb-true _ _ q)))

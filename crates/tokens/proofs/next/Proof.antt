@@ -43,9 +43,11 @@ returns c =
     let c8 = c6 .before .before in
     let l = c6 .loop in
     let p = c3 .first-piece in
-    let h = simp rest at (p .ensures .1 .1) in
-    (sym (l .inv .1) ∙ answer (c8 .args .s .now) (l .i) (p .result .kind) (p .result .more) h (simp rest at (p .ensures .0)) (c .if1 .taken)
-    (p .ensures .1 .0), omega (arith, h, length-drop (l .i) (c8 .args .s .now)))
+    let h = simp rest at (p .ensures .1 .1) in (
+      sym (l .inv .1) ∙ answer (c8 .args .s .now) (l .i) (p .result .kind) (p .result .more) h (simp rest at (p .ensures .0)) (c .if1 .taken)
+          (p .ensures .1 .0),
+      omega (arith, h, length-drop (l .i) (c8 .args .s .now)),
+    )
 
 loop-less : tie.Need-loop-less Inv-loop μ-loop
 loop-less c = search needs
@@ -57,9 +59,10 @@ loop-again c =
     let c8 = c6 .before .before in
     let l = c6 .loop in
     let p = c3 .first-piece in
-    let h = simp rest at (p .ensures .1 .1) in
-    (omega (arith, h, length-drop (l .i) (c8 .args .s .now)),
-    sym (pass (c8 .args .s .now) (l .i) (p .result .kind) (p .result .more) h (simp rest at (p .ensures .0)) (c .if1 .left)) ∙ l .inv .1)
+    let h = simp rest at (p .ensures .1 .1) in (
+      omega (arith, h, length-drop (l .i) (c8 .args .s .now)),
+      sym (pass (c8 .args .s .now) (l .i) (p .result .kind) (p .result .more) h (simp rest at (p .ensures .0)) (c .if1 .left)) ∙ l .inv .1,
+    )
 
 returns-2 : tie.Need-returns-2 Inv-loop μ-loop
 returns-2 c =

@@ -25,16 +25,26 @@ add-result c = search needs
 returns-2 : tie.Need-returns-2
 unfolding wordKind isKeyword
 returns-2 c =
-    let c3 = c .before .before .before in
-    (simp (sym (c3 .is-tidy .ensures) ∙ not-false _ (c .before .before .if1 .left), sym (c .before .keyword-at .ensures .0),
-    lt-ltb _ _ (c .if2 .taken)), search needs)
+    let c3 = c .before .before .before in (
+      simp (
+        sym (c3 .is-tidy .ensures) ∙ not-false _ (c .before .before .if1 .left),
+        sym (c .before .keyword-at .ensures .0),
+        lt-ltb _ _ (c .if2 .taken),
+      ),
+      search needs,
+    )
 
 returns-3 : tie.Need-returns-3
 unfolding wordKind isKeyword
 returns-3 c =
-    let c3 = c .before .before .before in
-    (simp (sym (c3 .is-tidy .ensures) ∙ not-false _ (c .before .before .if1 .left), sym (c .before .keyword-at .ensures .0),
-    le-ltb _ _ (c .if2 .left)), search needs)
+    let c3 = c .before .before .before in (
+      simp (
+        sym (c3 .is-tidy .ensures) ∙ not-false _ (c .before .before .if1 .left),
+        sym (c .before .keyword-at .ensures .0),
+        le-ltb _ _ (c .if2 .left),
+      ),
+      search needs,
+    )
 
 pub word-kind-spec : {M : Type 1} → statement M
 word-kind-spec =

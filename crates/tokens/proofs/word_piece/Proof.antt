@@ -19,9 +19,11 @@ sub-t6 c = search needs
 
 returns : tie.Need-returns
 returns c =
-    let c4 = c .before .before .before .before in
-    (word-piece (c4 .args .rest .now) (c .before .before .name-end .result) (c .word-kind .result) (search needs)
-    (c .before .before .name-end .ensures .0) (c .word-kind .ensures .0), search needs)
+    let c4 = c .before .before .before .before in (
+      word-piece (c4 .args .rest .now) (c .before .before .name-end .result) (c .word-kind .result) (search needs)
+          (c .before .before .name-end .ensures .0) (c .word-kind .ensures .0),
+      search needs,
+    )
 
 pub word-piece-spec : {M : Type 1} → statement M
 word-piece-spec =

@@ -1,4 +1,5 @@
-use Rattle.vectors.proofs.Figures.{no-nan}
+use Rattle.vectors.proofs.Figures.{}
+use Rattle.readings.proofs.Bits.{no-nan}
 use borrow.Author.Needs.{needs}
 use Rattle.vectors.proofs.write_bits.Statement.{statement}
 use Rattle.vectors.proofs.write_bits.Tie as tie

@@ -43,9 +43,12 @@ loop-again : tie.Need-loop-again Inv-loop μ-loop
 loop-again c =
     let w = c .before .before in
     let l = w .before .before .before .before .loop in
-    let a = w .before .before .before .before .before .before .before .args in
-    (search needs, search needs, word-more (a .ws .now) (a .out .now) (l .out) (w .word .last .0) (a .at) (l .i) (search needs) (search needs)
-    (l .inv .2) (w .word .ensures))
+    let a = w .before .before .before .before .before .before .before .args in (
+      search needs,
+      search needs,
+      word-more (a .ws .now) (a .out .now) (l .out) (w .word .last .0) (a .at) (l .i) (search needs) (search needs)
+          (l .inv .2) (w .word .ensures),
+    )
 
 add-result : tie.Need-add-result Inv-loop μ-loop
 add-result c = search needs

@@ -1,5 +1,5 @@
-use borrow.Author.Needs.{needs}
 use Rattle.model.specs.Image.{wordAt}
+use borrow.Author.Needs.{needs}
 use Rattle.words.proofs.word.Statement.{statement}
 use Rattle.words.proofs.word.Tie as tie
 
@@ -52,11 +52,17 @@ returns c = search needs
 byte-requires : tie.Need-byte-requires
 byte-requires c κs = search needs
 
+wide-requires-5 : tie.Need-wide-requires-5
+wide-requires-5 c κs = search needs
+
 add-byte : tie.Need-add-byte
 add-byte c = search needs
 
 byte-requires-2 : tie.Need-byte-requires-2
 byte-requires-2 c κs = search needs
+
+wide-requires-6 : tie.Need-wide-requires-6
+wide-requires-6 c κs = search needs
 
 add-byte-2 : tie.Need-add-byte-2
 add-byte-2 c = search needs
@@ -64,11 +70,17 @@ add-byte-2 c = search needs
 byte-requires-3 : tie.Need-byte-requires-3
 byte-requires-3 c κs = search needs
 
+wide-requires-7 : tie.Need-wide-requires-7
+wide-requires-7 c κs = search needs
+
 add-byte-3 : tie.Need-add-byte-3
 add-byte-3 c = search needs
 
 byte-requires-4 : tie.Need-byte-requires-4
 byte-requires-4 c κs = search needs
+
+wide-requires-8 : tie.Need-wide-requires-8
+wide-requires-8 c κs = search needs
 
 joined-requires-2 : tie.Need-joined-requires-2
 joined-requires-2 c κs = search needs
@@ -97,11 +109,15 @@ word-spec =
     joined-requires
     returns
     byte-requires
+    wide-requires-5
     add-byte
     byte-requires-2
+    wide-requires-6
     add-byte-2
     byte-requires-3
+    wide-requires-7
     add-byte-3
     byte-requires-4
+    wide-requires-8
     joined-requires-2
     returns-2)

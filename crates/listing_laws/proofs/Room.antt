@@ -1,0 +1,372 @@
+-- A listing is bytes, and at most 32,013 of them.
+use mathlib.Core.Path.{_≡_, refl}
+use mathlib.Core.List.{List, [], _∷_, _++_, map}
+use mathlib.Core.Bool.{Bool, true, false, _&&_, and-false}
+use mathlib.Core.Option.{Option, none, some}
+use Prim.Native.Nat.{ℕ, zero, suc, _+_, _*_, _/_, _≤_, _<_}
+use Prim.Native.String.{String}
+use native.Mathlib.Omega.{arith}
+use native.Mathlib.Nat.{mul-suc}
+use borrow.Author.Tests.{leb-true, ltb-true, ltb-false, eqb-true, eqb-false, lt-leb, lt-ltb, le-ltb, ne-eqb}
+use lib.Dec.{leb, ltb, eqb}
+use lib.IntN.{ℤ, pos, negsuc}
+use lib.ListN.{length, getD, length-append}
+use lib.Signed.{ltZ}
+use Rattle.model.specs.Basic.{bytes, all, total, gather}
+use Rattle.model.specs.Bounds.{M, crispLimit, ruleNumberLeast, ruleNumberLimit}
+use Rattle.model.specs.Tokens.{isDigit, isNameByte, isName, inCrisp}
+use Rattle.model.specs.Block.{Point, Term, Singleton, Input, Range, Output, Op, and, or, Condition, term, neg, two, Conclusion, Rule, Block, inputTerms, size, inRange}
+use Rattle.model.specs.declared.InputType.{InputType}
+use Rattle.model.specs.declared.InputType.the-variants.{Real as real, Int as int}
+use Rattle.model.specs.declared.Pair.{Pair}
+use Rattle.model.specs.declared.Pair.the-variants.{MinMax as min-max, ProdAsum as prod-asum, BdifBsum as bdif-bsum}
+use Rattle.model.specs.declared.Accumulation.{Accumulation}
+use Rattle.model.specs.declared.Accumulation.the-variants.{Max as by-max, Bsum as by-bsum}
+use Rattle.model.specs.declared.Activation.{Activation}
+use Rattle.model.specs.declared.Activation.the-variants.{Min as by-min, Prod as by-prod}
+use Rattle.model.specs.Parentheses.{form, rank, bareBehindNot, bareLeft, bareRight}
+use Rattle.model.specs.Listing.{commaed, digitsOn, digits, trimmed, afterPoint, thousandthsText, crispText, unitText, TermNames, inputTermName, operator, wrapped, conditionText, typeText, inputLine, outputLine, pointText, termLine, fuzzifyText, rangeLine, singletonLine, defaultText, defuzzifyText, andText, orText, actText, accuText, conclusionText, weightText, ruleLine, ruleBlockText, listing}
+use Rattle.model.specs.WellFormed.{unitOk, pointOk, termOk, inputOk, rangeOk, figureOk, singletonOk, defaultOk, outputOk, termsBelow, conclusionOk, ruleOk, wellFormed}
+use Rattle.laws.proofs.Tests.{both, passed, clash}
+use Rattle.laws.proofs.Lists.{all-append}
+use Rattle.listing_laws.proofs.Finding.{all-imp}
+use Rattle.listing_laws.proofs.Numbers.{tens, digits-all, digits-length, behind, behind-all, behind-length, unit-facts}
+use Rattle.listing_laws.proofs.Pieces.{name-facts}
+use Rattle.listing_laws.proofs.Facts.{term-facts, input-facts, output-facts, rule-facts, block-facts}
+use Rattle.listing_laws.proofs.Names.{input-named, output-named, conclusion-named}
+use Rattle.listing_laws.proofs.Lexing.{Named}
+
+abbrev pub isByte : ℕ → Bool
+isByte c = ltb c 256
+
+-- w is bytes, at most n of them
+pub record Fits (n : ℕ) (w : List ℕ) : Type 0 where
+  pub small : all isByte w ≡ true
+  pub short : length w ≤ n
+
+weaken : {w : List ℕ} (m n : ℕ) → m ≤ n → Fits m w → Fits n w
+weaken m n h p = record { small = p .small; short = omega (arith, p .short) }
+
+join : {v w : List ℕ} (m n : ℕ) → Fits m v → Fits n w → Fits (m + n) (v ++ w)
+join {v} {w} m n p q = record {
+  small = rw (all-append isByte v w, p .small, q .small);
+  short = omega (arith, length-append v w, p .short, q .short)
+}
+
+-- NAMES AND NUMBERS
+name-byte : (c : ℕ) → isNameByte c ≡ true → isByte c ≡ true
+name-byte c h = go (ltb c 256) refl
+  where
+    go : (b : Bool) → ltb c 256 ≡ b → ltb c 256 ≡ true
+    go true e = e
+    go false e =
+        let l = ltb-false c 256 e in
+        clash (simp (lt-leb c 90 (omega arith), lt-leb c 122 (omega arith), ne-eqb c 95 (λ q. omega arith), lt-leb c 57 (omega arith), and-false) at h)
+
+digit-byte : (c : ℕ) → isDigit c ≡ true → isByte c ≡ true
+digit-byte c h = let l = leb-true c 57 (both (leb 48 c) (leb c 57) h .1) in lt-ltb c 256 (omega arith)
+
+pub name-room : (w : List ℕ) → isName w ≡ true → Fits 16 w
+name-room w h = let f = name-facts w h in record { small = all-imp isNameByte isByte name-byte w (f .bytes); short = f .short }
+
+digits-room : (m n : ℕ) → n < tens (suc m) → Fits (suc m) (digits n)
+digits-room m n h = record { small = all-imp isDigit isByte digit-byte (digits n) (digits-all n); short = digits-length m n h }
+
+point-room : (f : List ℕ) → all isDigit f ≡ true → length f ≤ 3 → Fits 4 (afterPoint f)
+unfolding all
+point-room [] a h = record { small = refl; short = omega arith }
+point-room (c ∷ f) a h = record { small = all-imp isDigit isByte digit-byte (c ∷ f) a; short = omega arith }
+
+thousandths-room : (m n : ℕ) → n / 1000 < tens (suc m) → Fits (suc m + 4) (thousandthsText n)
+unfolding thousandthsText
+thousandths-room m n h =
+    join (suc m) 4 (digits-room m (n / 1000) h) (point-room (behind n) (behind-all n) (behind-length n))
+
+crisp-unsigned : (n : ℕ) → n ≤ crispLimit → Fits 10 (thousandthsText n)
+unfolding thousandthsText digits digitsOn trimmed all
+crisp-unsigned n h = go (eqb n crispLimit) refl
+  where
+    go : (b : Bool) → eqb n crispLimit ≡ b → Fits 10 (thousandthsText n)
+    go true e = rw (eqb-true n crispLimit e) (record { small = refl; short = omega arith })
+    go false e = let l = eqb-false n crispLimit e in thousandths-room 5 n (omega arith)
+
+crisp-room : (z : ℤ) → inCrisp z ≡ true → Fits 11 (crispText z)
+unfolding crispText all
+crisp-room (pos n) h = weaken 10 11 (omega arith) (crisp-unsigned n (leb-true n crispLimit h))
+crisp-room (negsuc n) h = let f = crisp-unsigned (suc n) (leb-true (suc n) crispLimit h) in record { small = f .small; short = omega (arith, f .short) }
+
+unit-room : (d : ℕ) → unitOk d ≡ true → Fits 5 (unitText d)
+unit-room d h = let f = unit-facts d h in thousandths-room 0 (d / 1000) (omega arith)
+
+-- LISTS of parts
+module _ {A : Type 0} (f : A → List ℕ) (ok : A → Bool) (m : A → ℕ) (k : (x : A) → ok x ≡ true → Fits (m x) (f x)) where
+  gather-room : (xs : List A) → all ok xs ≡ true → Fits (total m xs) (gather f xs)
+  unfolding all gather total
+  gather-room [] h = record { small = refl; short = omega arith }
+  gather-room (x ∷ xs) h =
+      let b = both (ok x) (all ok xs) h in
+      join (m x) (total m xs) (k x (b .0)) (gather-room xs (b .1))
+
+total-same : {A : Type 0} (n : ℕ) (xs : List A) → total (λ x. n) xs ≡ n * length xs
+unfolding total
+total-same n [] = omega arith
+total-same n (x ∷ xs) = omega (arith, mul-suc n (length xs), total-same n xs)
+
+module _ {A : Type 0} (f : A → List ℕ) (ok : A → Bool) (n : ℕ) (k : (x : A) → ok x ≡ true → Fits n (f x)) where
+  lines-room : (xs : List A) → all ok xs ≡ true → Fits (n * length xs) (gather f xs)
+  lines-room xs h = rw (total-same n xs) at (gather-room f ok (λ x. n) k xs h)
+
+  commaed-room : (xs : List A) → all ok xs ≡ true → Fits ((n + 2) * length xs) (commaed (map f xs))
+  unfolding all commaed
+  commaed-room [] h = record { small = refl; short = omega arith }
+  commaed-room (x ∷ []) h =
+      let p = k x (both (ok x) true h .0) in
+      record { small = p .small; short = omega (arith, p .short, mul-suc (n + 2) 0) }
+  commaed-room (x ∷ y ∷ xs) h =
+      let b = both (ok x) (all ok (y ∷ xs)) h in
+      let p = k x (b .0) in
+      let q = commaed-room (y ∷ xs) (b .1) in
+      record {
+        small = rw (all-append isByte (f x) (bytes ", " ++ commaed (map f (y ∷ xs))), p .small, q .small);
+        short =
+          omega (arith, length-append (f x) (bytes ", " ++ commaed (map f (y ∷ xs))), mul-suc (n + 2) (length (y ∷ xs)), p .short, q .short);
+      }
+
+-- DECLARATIONS
+type-room : (t : InputType) → Fits 4 (typeText t)
+unfolding all
+type-room real = record { small = refl; short = omega arith }
+type-room int = record { small = refl; short = omega arith }
+
+input-room : (v : Input) → inputOk v ≡ true → Fits 27 (inputLine v)
+unfolding all inputOk
+input-room v h =
+    let n = name-room (v .name) (passed _ h .0) in
+    let t = type-room (v .type) in
+    record { small = simp (all-append, n .small, t .small); short = simp length-append (omega (arith, n .short, t .short)) }
+
+output-room : (v : Output) → outputOk v ≡ true → Fits 27 (outputLine v)
+unfolding all outputOk
+output-room v h =
+    let n = name-room (v .name) (passed _ h .0) in
+    record { small = simp (all-append, n .small); short = simp length-append (omega (arith, n .short)) }
+
+-- TERMS
+point-text-room : (p : Point) → pointOk p ≡ true → Fits 20 (pointText p)
+unfolding all pointOk
+point-text-room p h =
+    let b = both (inCrisp (p .at)) (unitOk (p .degree)) h in
+    let c = crisp-room (p .at) (b .0) in
+    let u = unit-room (p .degree) (b .1) in
+    record { small = simp (all-append, c .small, u .small); short = simp length-append (omega (arith, c .short, u .short)) }
+
+term-room : (t : Term) → termOk t ≡ true → Fits 117 (termLine t)
+unfolding all termOk termLine
+term-room t h =
+    let f = term-facts t h in
+    let n = name-room (t .name) (passed _ h .0) in
+    let p = commaed-room pointText pointOk 20 point-text-room (t .points) (f .points) in
+    record { small = simp (all-append, n .small, p .small); short = simp length-append (omega (arith, n .short, p .short, f .count .1)) }
+
+fuzzify-room : (v : Input) → inputOk v ≡ true → Fits 856 (fuzzifyText v)
+unfolding all inputOk fuzzifyText
+fuzzify-room v h =
+    let f = input-facts v h in
+    let n = name-room (v .name) (passed _ h .0) in
+    let t = lines-room termLine termOk 117 term-room (v .terms) (f .terms) in
+    record { small = simp (all-append, n .small, t .small); short = simp length-append (omega (arith, n .short, t .short, f .count .1)) }
+
+-- SINGLETONS
+range-room : (g : Option Range) → rangeOk g ≡ true → Fits 35 (rangeLine g)
+unfolding all
+range-room none h = record { small = refl; short = omega arith }
+range-room (some g) h =
+    let b = both (inCrisp (g .least)) (inCrisp (g .most) && ltZ (g .least) (g .most)) h in
+    let l = crisp-room (g .least) (b .0) in
+    let m = crisp-room (g .most) (both (inCrisp (g .most)) (ltZ (g .least) (g .most)) (b .1) .0) in
+    record { small = simp (all-append, l .small, m .small); short = simp length-append (omega (arith, l .short, m .short)) }
+
+figure-room : (g : Option Range) (x : ℤ) → figureOk g x ≡ true → Fits 11 (crispText x)
+figure-room g x h = crisp-room x (both (inCrisp x) (inRange g x) h .0)
+
+singleton-room : (g : Option Range) (t : Singleton) → singletonOk g t ≡ true → Fits 40 (singletonLine t)
+unfolding all singletonOk singletonLine
+singleton-room g t h =
+    let b = both (isName (t .name)) (figureOk g (t .at)) h in
+    let n = name-room (t .name) (b .0) in
+    let x = figure-room g (t .at) (b .1) in
+    record { small = simp (all-append, n .small, x .small); short = simp length-append (omega (arith, n .short, x .short)) }
+
+default-room : (g : Option Range) (d : Option ℤ) → defaultOk g d ≡ true → Fits 11 (defaultText d)
+unfolding all
+default-room g none h = record { small = refl; short = omega arith }
+default-room g (some x) h = figure-room g x h
+
+defuzzify-room : (v : Output) → outputOk v ≡ true → Fits 399 (defuzzifyText v)
+unfolding all outputOk defuzzifyText
+defuzzify-room v h =
+    let f = output-facts v h in
+    let n = name-room (v .name) (passed _ h .0) in
+    let g = range-room (v .range) (f .range) in
+    let t = lines-room singletonLine (singletonOk (v .range)) 40 (singleton-room (v .range)) (v .terms) (f .terms) in
+    let d = default-room (v .range) (v .default) (f .default) in
+    record {
+      small = simp (all-append, n .small, g .small, t .small, d .small);
+      short = simp length-append (omega (arith, n .short, g .short, t .short, f .count .1, d .short));
+    }
+
+-- CONDITIONS
+-- two names and a text between
+names-room : (w v : List ℕ) (u : String) (k : ℕ) → isName w ≡ true → isName v ≡ true → Fits k (bytes u) → Fits (16 + (k + 16)) (w ++ (bytes u ++ v))
+names-room w v u k p q r = join 16 (k + 16) (name-room w p) (join k 16 r (name-room v q))
+
+wrapped-room : (l k m : ℕ) (w : List ℕ) → Fits m w → Fits (m + 2) (wrapped l k w)
+unfolding all
+wrapped-room l k m w p = go (ltb l k) refl
+  where
+    go : (b : Bool) → ltb l k ≡ b → Fits (m + 2) (wrapped l k w)
+    go true e = rw e (record { small = simp (all-append, p .small); short = simp length-append (omega (arith, p .short)) })
+    go false e = rw e (weaken m (m + 2) (omega arith) p)
+
+operator-room : (o : Op) → Fits 5 (operator o)
+unfolding all
+operator-room and = record { small = refl; short = omega arith }
+operator-room or = record { small = refl; short = omega arith }
+
+module _ (f : ℕ → TermNames) (n : ℕ) (ok : Named f n) where
+  negated-room : (l : ℕ) (c : Condition) (k : ℕ) → Fits (22 * size c + 14) (wrapped bareBehindNot (form c) (conditionText f c))
+      → Fits (22 * (size c + 1) + 14) (wrapped l k (bytes "NOT " ++ wrapped bareBehindNot (form c) (conditionText f c)))
+  unfolding all
+  negated-room l c k p =
+      let q : Fits 4 (bytes "NOT ") = record { small = refl; short = omega arith } in
+      weaken (4 + (22 * size c + 14) + 2) (22 * (size c + 1) + 14) (omega arith)
+      (wrapped-room l k (4 + (22 * size c + 14)) _ (join 4 (22 * size c + 14) q p))
+
+  -- wherever it stands
+  condition-room : (l : ℕ) (c : Condition) → termsBelow n c ≡ true → Fits (22 * size c + 14) (wrapped l (form c) (conditionText f c))
+  unfolding all conditionText termsBelow size form
+  condition-room l (term t) h =
+      let o = ok t (ltb-true t n h) in
+      rw (le-ltb l 0 (omega arith)) (names-room (f t .variable) (f t .term) " IS " 4 (o .0) (o .1) (record { small = refl; short = omega arith }))
+  condition-room l (neg (term t)) h =
+      let o = ok t (ltb-true t n h) in
+      let p = names-room (f t .variable) (f t .term) " IS NOT " 8 (o .0) (o .1) (record { small = refl; short = omega arith }) in
+      weaken 42 58 (omega arith) (wrapped-room l 1 40 (f t .variable ++ (bytes " IS NOT " ++ f t .term)) p)
+  condition-room l (neg (neg c)) h = negated-room l (neg c) (form (neg (neg c))) (condition-room bareBehindNot (neg c) h)
+  condition-room l (neg (two o a b)) h = negated-room l (two o a b) (form (neg (two o a b))) (condition-room bareBehindNot (two o a b) h)
+  condition-room l (two o a b) h =
+      let c = both (termsBelow n a) (termsBelow n b) h in
+      let p = condition-room (bareLeft o) a (c .0) in
+      let q = condition-room (bareRight o) b (c .1) in
+      weaken (22 * size a + 14 + (5 + (22 * size b + 14)) + 2) (22 * (size a + size b + 1) + 14) (omega arith)
+      (wrapped-room l (rank o) (22 * size a + 14 + (5 + (22 * size b + 14))) _
+      (join (22 * size a + 14) (5 + (22 * size b + 14)) p (join 5 (22 * size b + 14) (operator-room o) q)))
+
+  bare-room : (c : Condition) → termsBelow n c ≡ true → Fits (22 * size c + 14) (conditionText f c)
+  bare-room c h = rw (le-ltb (form c) (form c) (omega arith)) at (condition-room (form c) c h)
+
+-- RULES
+weight-room : (w : ℕ) → unitOk w ≡ true → Fits 11 (weightText w)
+unfolding all
+weight-room w h = go (eqb w M) refl
+  where
+    go : (q : Bool) → eqb w M ≡ q → Fits 11 (weightText w)
+    go true q = rw q (record { small = refl; short = omega arith })
+    go false q = let u = unit-room w h in rw q (record { small = u .small; short = omega (arith, u .short) })
+
+-- a rule, by the words of its condition and its conclusions
+abbrev ruleSize : Rule → ℕ
+ruleSize r = 51 + 22 * size (r .condition) + 38 * length (r .conclusions)
+
+rules-size : (rs : List Rule)
+    → total ruleSize rs ≡ 51 * length rs + 22 * total (λ r. size (r .condition)) rs + 38 * length (gather (λ r. r .conclusions) rs)
+unfolding total gather
+rules-size [] = omega arith
+rules-size (r ∷ rs) = omega (arith, rules-size rs, length-append (r .conclusions) (gather (λ r. r .conclusions) rs))
+
+and-room : (p : Pair) → Fits 4 (andText p)
+unfolding all
+and-room min-max = record { small = refl; short = omega arith }
+and-room prod-asum = record { small = refl; short = omega arith }
+and-room bdif-bsum = record { small = refl; short = omega arith }
+
+or-room : (p : Pair) → Fits 4 (orText p)
+unfolding all
+or-room min-max = record { small = refl; short = omega arith }
+or-room prod-asum = record { small = refl; short = omega arith }
+or-room bdif-bsum = record { small = refl; short = omega arith }
+
+act-room : (a : Activation) → Fits 4 (actText a)
+unfolding all
+act-room by-min = record { small = refl; short = omega arith }
+act-room by-prod = record { small = refl; short = omega arith }
+
+accu-room : (a : Accumulation) → Fits 4 (accuText a)
+unfolding all
+accu-room by-max = record { small = refl; short = omega arith }
+accu-room by-bsum = record { small = refl; short = omega arith }
+
+module _ (b : Block) (h : wellFormed b ≡ true) where
+  conclusion-room : (k : Conclusion) → conclusionOk b k ≡ true → Fits 36 (conclusionText b k)
+  unfolding all conclusionText
+  conclusion-room k o =
+      names-room _ _ " IS " 4 (output-named b h k o) (conclusion-named b h k o) (record { small = refl; short = omega arith })
+
+  rule-room : (r : Rule) → ruleOk b r ≡ true → Fits (ruleSize r) (ruleLine b r)
+  unfolding all ruleLine
+  rule-room r o =
+      let f = rule-facts b r o in
+      let i = leb-true (r .number) ruleNumberLimit (both (leb ruleNumberLeast (r .number)) (leb (r .number) ruleNumberLimit) (f .number) .1) in
+      let n = digits-room 4 (r .number) (omega arith) in
+      let c = bare-room (inputTermName b) (length (inputTerms b)) (input-named b h) (r .condition) (f .terms) in
+      let k = commaed-room (conclusionText b) (conclusionOk b) 36 conclusion-room (r .conclusions) (f .conclusions) in
+      let w = weight-room (r .weight) (f .weight) in
+      record {
+        small = simp (all-append, n .small, c .small, k .small, w .small);
+        short = simp length-append (omega (arith, n .short, c .short, k .short, w .short));
+      }
+
+  rule-block-room : Fits 22305 (ruleBlockText b)
+  unfolding all wellFormed ruleBlockText
+  rule-block-room =
+      let f = block-facts b h in
+      let n = name-room (b .ruleBlock) (passed _ h .1 .0) in
+      let p = and-room (b .pair) in
+      let q = or-room (b .pair) in
+      let a = act-room (b .act) in
+      let c = accu-room (b .accu) in
+      let r = gather-room (ruleLine b) (ruleOk b) ruleSize rule-room (b .rules) (f .rules-ok) in
+      record {
+        small = simp (all-append, n .small, p .small, q .small, a .small, c .small, r .small);
+        short =
+          simp length-append
+          (omega (arith, n .short, p .short, q .short, a .short, c .short, r .short, rules-size (b .rules), f .rules .1, f .words, f .conclusions));
+      }
+
+  listing-room : Fits 32013 (listing b)
+  unfolding all wellFormed listing
+  listing-room =
+      let f = block-facts b h in
+      let n = name-room (b .name) (passed _ h .0) in
+      let i = lines-room inputLine inputOk 27 input-room (b .inputs) (f .inputs-ok) in
+      let o = lines-room outputLine outputOk 27 output-room (b .outputs) (f .outputs-ok) in
+      let u = lines-room fuzzifyText inputOk 856 fuzzify-room (b .inputs) (f .inputs-ok) in
+      let d = lines-room defuzzifyText outputOk 399 defuzzify-room (b .outputs) (f .outputs-ok) in
+      let r = rule-block-room in
+      record {
+        small = simp (all-append, n .small, i .small, o .small, u .small, d .small, r .small);
+        short = simp length-append (omega (arith, n .short, i .short, o .short, u .short, d .short, r .short, f .inputs .1, f .outputs .1));
+      }
+
+  pub listing-bytes : all isByte (listing b) ≡ true
+  listing-bytes = listing-room .small
+
+  pub listing-short : length (listing b) ≤ 32013
+  listing-short = listing-room .short
+
+-- each byte by its place
+pub byte-at : (s : List ℕ) → all isByte s ≡ true → (k : ℕ) → getD s k 0 < 256
+unfolding all
+byte-at [] h k = omega arith
+byte-at (c ∷ s) h zero = ltb-true c 256 (both (isByte c) (all isByte s) h .0)
+byte-at (c ∷ s) h (suc k) = byte-at s (both (isByte c) (all isByte s) h .1) k
