@@ -18,7 +18,8 @@ use Rattle.model.specs.Parse.{Parse, text, advance, valueHere}
 use Rattle.model.specs.Declarations.{termOf, addTerm, addPoint, lastPoints, pointsOf, pointPosition, pointDegree, pointBody, point, endOfPoints, termName, inputTerm, fuzzifyOf, fuzzifyVariable, fuzzify}
 use Rattle.laws.proofs.Tests.{pass, and-i}
 use Rattle.laws.proofs.Each.{Each}
-use Rattle.listing_laws.proofs.Finding.{update-last, none-of, named}
+use Rattle.laws.proofs.Lists.{updateLast-snoc}
+use Rattle.listing_laws.proofs.Finding.{none-of, named}
 use Rattle.reading_laws.proofs.Steps.{Fact, Good, Leads, _▹_, good-so, good-advance, good-change, good-judged, name-here, good-expect, good-repeated, good-listed}
 use Rattle.reading_laws.proofs.Numbers.{crisp-value, unit-value, rising-last}
 use Rattle.reading_laws.proofs.Focus.{Except, focus, unfocus, except-update, except-so, except-at, map-update, map-updateLast, all-last, absent, named-last}
@@ -82,7 +83,7 @@ module _ (v : Input) where
         record {
           before = g .before;
           last = withPoint p (g .last);
-          split = ap (updateLast (withPoint p)) (g .split) ∙ update-last (withPoint p) (g .before) (g .last);
+          split = ap (updateLast (withPoint p)) (g .split) ∙ updateLast-snoc (withPoint p) (g .before) (g .last);
           name = g .name;
           count = rw c (g .count);
           apart = ap (distinct sameName) e ∙ g .apart;

@@ -23,8 +23,8 @@ use Rattle.model.specs.Declarations.{outputOf}
 use Rattle.model.specs.Rules.{ConditionRead, condition, addRule, changeRule, andPair, orPair, algorithm, algorithmLine, algorithms, activation, activationLine, accumulation, ruleNumber, concludedTerm, conclusion, weight, weighted, ruleGiven, ruleFrom, rule, ruleBlock}
 use Rattle.laws.proofs.Tests.{pass, and-i}
 use Rattle.laws.proofs.Each.{Each}
-use Rattle.laws.proofs.Lists.{gather-last, total-last}
-use Rattle.listing_laws.proofs.Finding.{update-last, all-map, some-there}
+use Rattle.laws.proofs.Lists.{gather-last, total-last, updateLast-snoc}
+use Rattle.listing_laws.proofs.Finding.{all-map, some-there}
 use Rattle.reading_laws.proofs.Steps.{Fact, Good, Leads, _▹_, good-so, either, good-refuse, good-advance, good-change, good-judged, name-here, good-expect, good-repeated, good-listed}
 use Rattle.reading_laws.proofs.Numbers.{unit-value, rule-number}
 use Rattle.reading_laws.proofs.Focus.{map-updateLast, total-updateLast, all-last, distinct-last}
@@ -91,7 +91,7 @@ module _ {f : Block} {w : ℕ} {rs : List Rule} where
       record {
         before = g .before;
         last = h (g .last);
-        split = ap (updateLast h) (g .split) ∙ update-last h (g .before) (g .last);
+        split = ap (updateLast h) (g .split) ∙ updateLast-snoc h (g .before) (g .last);
         most = rw a (g .most);
         numbers = ap (distinct eqb) e ∙ g .numbers;
         words = g .words ∙ sym (total-updateLast (λ r. size (r .condition)) h (λ r. ap size (c r)) rs);
