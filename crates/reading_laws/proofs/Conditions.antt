@@ -1,15 +1,14 @@
 -- A condition that was read: its terms are there, it needs no more parentheses than were allowed, and each word of it was counted.
 use mathlib.Core.Path.{_≡_, refl, sym, ap, _∙_, subst}
 use mathlib.Core.Bool.{Bool, true, false}
-use mathlib.Core.List.{List, [], _∷_, map}
-use Prim.Native.Nat.{ℕ, zero, suc, _+_, _≤_, _<_}
+use Prim.Native.Nat.{ℕ, zero, suc, _+_, _≤_}
 use native.Mathlib.Omega.{arith}
 use borrow.Author.Tests.{ltb-true, ltb-false, lt-ltb}
 use lib.Dec.{ltb, eqb}
-use lib.ListN.{length, getD, take, length-append}
-use Rattle.model.specs.Basic.{if_then_else_, total, gather}
+use lib.ListN.{length}
+use Rattle.model.specs.Basic.{if_then_else_}
 use Rattle.model.specs.Bounds.{wordLimit, depthLimit}
-use Rattle.model.specs.Block.{Input, Block, Op, and, or, Condition, term, neg, two, size, inputTerms, inputFirst, termsOf}
+use Rattle.model.specs.Block.{Block, Op, and, or, Condition, term, neg, two, size, inputTerms, inputFirst, termsOf}
 use Rattle.model.specs.Parentheses.{form, depth, opened, negatedForm, rank, bareLeft, bareRight, bareBehindNot, NOT-TERM-FORM, NOT-FORM, OR-FORM}
 use Rattle.model.specs.WellFormed.{termsBelow}
 use Rattle.model.specs.Keywords.{OPEN, CLOSE, NOT, AND, OR, IS}
@@ -18,6 +17,7 @@ use Rattle.model.specs.Declarations.{termOf, isTerm}
 use Rattle.model.specs.Rules.{ConditionRead, word, conditionTerm, negatedRead, termOrNot, subcondition, chainOn, chain, plain, operand, conditionWith, closed, parenthesis, condition}
 use Rattle.laws.proofs.Tests.{and-i}
 use Rattle.laws.proofs.Repetition.{joined}
+use Rattle.listing_laws.proofs.Names.{first-and-length}
 use Rattle.reading_laws.proofs.Steps.{Fact, Good, Leads, _▹_, good-so, good-refuse, good-advance, good-judged, good-expect, either}
 
 -- PARENTHESES
@@ -89,16 +89,11 @@ unfolding form depth
 bare-two o d a c h g = opened-bare (bareLeft o) (rank o) _ d (rank-bare o) (omega arith)
 
 -- THE TERM
-first-below : (t i : ℕ) (vs : List Input) → t < length (getD (map (λ v. v .terms) vs) i [])
-    → total (λ v. length (v .terms)) (take i vs) + t < length (gather (λ v. v .terms) vs)
-unfolding total gather
-first-below t i [] h = absurd (omega arith)
-first-below t zero (v ∷ vs) h = omega (arith, length-append (v .terms) (gather (λ v. v .terms) vs))
-first-below t (suc i) (v ∷ vs) h = omega (arith, first-below t i vs h, length-append (v .terms) (gather (λ v. v .terms) vs))
-
 term-below : (i t : ℕ) (b : Block) → ltb t (length (termsOf i b)) ≡ true → termsBelow (length (inputTerms b)) (term (inputFirst i b + t)) ≡ true
 unfolding termsOf inputFirst termsBelow
-term-below i t b h = lt-ltb _ _ (first-below t i (b .inputs) (ltb-true t _ h))
+term-below i t b h =
+    let l = ltb-true t (length (termsOf i b)) h in
+    lt-ltb (inputFirst i b + t) (length (inputTerms b)) (omega (arith, first-and-length (λ v. v .terms) i (b .inputs)))
 
 -- WHAT IS KEPT
 -- w words are counted, the block is b, and X holds
