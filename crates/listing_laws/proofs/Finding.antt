@@ -78,7 +78,7 @@ unfolding sameName
 name-self w = same-refl w
 
 -- of two names neither is the other
-differ : (v w : List ℕ) → not (sameName v w) ≡ true → not (sameName w v) ≡ true
+pub differ : (v w : List ℕ) → not (sameName v w) ≡ true → not (sameName w v) ≡ true
 differ v w h = go (sameName w v) refl
   where
     go : (b : Bool) → sameName w v ≡ b → not (sameName w v) ≡ true
@@ -133,6 +133,10 @@ distinct-back eq (x ∷ xs) ys h = distinct-back eq xs ys (both (all (λ y. not 
 pub filled : {A : Type 0} (xs : List A) → 1 ≤ length xs → (x : A) × (es : List A) × (xs ≡ x ∷ es)
 filled [] h = absurd (omega arith)
 filled (x ∷ xs) h = (x, xs, refl)
+
+pub some-there : {A : Type 0} (xs : List A) → 1 ≤ length xs → not (isEmpty xs) ≡ true
+some-there [] h = absurd (omega arith)
+some-there (x ∷ xs) h = refl
 
 pub not-empty : {A : Type 0} (xs : List A) → not (isEmpty xs) ≡ true → 1 ≤ length xs
 not-empty [] h = clash h

@@ -40,13 +40,14 @@ singletons-named v h =
     all-imp (singletonOk (v .range)) (λ t. isName (t .name)) (λ t o. both (isName (t .name)) (figureOk (v .range) (t .at)) o .0)
     (v .terms) (output-facts v h .terms)
 
-output-terms : (o : ℕ) (vs : List Output)
-    → total (λ v. length (v .terms)) (take o vs) + length (getD (map (λ v. v .terms) vs) o []) ≤ length (gather (λ v. v .terms) vs)
+-- the first of the o-th list, and its length
+pub first-and-length : {A B : Type 0} (f : A → List B) (o : ℕ) (xs : List A)
+    → total (λ x. length (f x)) (take o xs) + length (getD (map f xs) o []) ≤ length (gather f xs)
 unfolding total gather
-output-terms zero [] = omega arith
-output-terms (suc o) [] = omega arith
-output-terms zero (v ∷ vs) = omega (arith, length-append (v .terms) (gather (λ v. v .terms) vs))
-output-terms (suc o) (v ∷ vs) = omega (arith, length-append (v .terms) (gather (λ v. v .terms) vs), output-terms o vs)
+first-and-length f zero [] = omega arith
+first-and-length f (suc o) [] = omega arith
+first-and-length f zero (x ∷ xs) = omega (arith, length-append (f x) (gather f xs))
+first-and-length f (suc o) (x ∷ xs) = omega (arith, length-append (f x) (gather f xs), first-and-length f o xs)
 
 abbrev namesOf : Input → List TermNames
 namesOf v = map (λ t. record { variable = v .name; term = t .name }) (v .terms)
@@ -111,5 +112,5 @@ module _ (b : Block) (h : wellFormed b ≡ true) where
           length-map (terms b) (λ t. t .name),
           length-append (inputTerms b) (map singletonTerm (outputTerms b)),
           length-map (outputTerms b) singletonTerm,
-          output-terms (k .output) (b .outputs),
+          first-and-length (λ v. v .terms) (k .output) (b .outputs),
         ))

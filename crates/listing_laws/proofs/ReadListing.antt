@@ -2,10 +2,8 @@
 use mathlib.Core.Path.{_≡_, refl, sym, ap, _∙_}
 use mathlib.Core.Bool.{true, false, not}
 use mathlib.Core.List.{List, [], _∷_, _++_, map}
-use Prim.Native.Nat.{ℕ, _+_, _≤_}
-use native.Mathlib.Omega.{arith}
+use Prim.Native.Nat.{ℕ}
 use lib.Dec.{eqb}
-use lib.ListN.{length}
 use Rattle.model.specs.Basic.{isEmpty, all, gather, total}
 use Rattle.model.specs.Keywords.{END, NAME, DEFUZZIFY, END-VAR, FUNCTION-BLOCK, FUZZIFY, VAR-INPUT, VAR-OUTPUT}
 use Rattle.model.specs.Outcome.{accepted}
@@ -18,7 +16,7 @@ use Rattle.model.specs.Reader.{partsThere, endOfBlock, functionBlock, outcomeOf
 use Rattle.model.specs.WellFormed.{inputOk, outputOk, wellFormed}
 use Rattle.laws.proofs.Tests.{and-i}
 use Rattle.listing_laws.proofs.Items.{Item, item, itemOf, name, word, inputItems, outputItems, fuzzifyItems, defuzzifyItems, ruleBlockItems, listingItems}
-use Rattle.listing_laws.proofs.Finding.{all-imp, filled}
+use Rattle.listing_laws.proofs.Finding.{all-imp, filled, some-there}
 use Rattle.listing_laws.proofs.Facts.{BlockFacts, block-facts, input-facts, output-facts, input-at, input-new, output-at, output-new}
 use Rattle.listing_laws.proofs.Reading.{laid, laid-back, placesOf, at, own-name, headKind, judged-pass, expects, some-read}
 use Rattle.listing_laws.proofs.Stages.{staged, bareInput, bareOutput, partly, partly-at, partly-next, partly-all}
@@ -26,10 +24,6 @@ use Rattle.listing_laws.proofs.ReadDeclarations.{inputs-read, outputs-r
 use Rattle.listing_laws.proofs.ReadFuzzify.{fuzzify-read}
 use Rattle.listing_laws.proofs.ReadDefuzzify.{defuzzify-read}
 use Rattle.listing_laws.proofs.ReadRules.{rule-block-read}
-
-terms-there : {A : Type 0} (xs : List A) → 1 ≤ length xs → not (isEmpty xs) ≡ true
-terms-there [] h = absurd (omega arith)
-terms-there (x ∷ xs) h = refl
 
 module _ (f : ℕ → ℕ) (b : Block) (h : BlockFacts b) where
   -- FUZZIFY
@@ -89,8 +83,8 @@ module _ (f : ℕ → ℕ) (b : Block) (h : BlockFacts b) where
   unfolding partsThere
   parts-there =
       and-i (all (λ v. not (isEmpty (v .terms))) (b .inputs)) (all (λ v. not (isEmpty (v .terms))) (b .outputs))
-      (all-imp inputOk (λ v. not (isEmpty (v .terms))) (λ v ok. terms-there (v .terms) (input-facts v ok .count .0)) (b .inputs) (h .inputs-ok))
-      (all-imp outputOk (λ v. not (isEmpty (v .terms))) (λ v ok. terms-there (v .terms) (output-facts v ok .count .0)) (b .outputs) (h .outputs-ok))
+      (all-imp inputOk (λ v. not (isEmpty (v .terms))) (λ v ok. some-there (v .terms) (input-facts v ok .count .0)) (b .inputs) (h .inputs-ok))
+      (all-imp outputOk (λ v. not (isEmpty (v .terms))) (λ v ok. some-there (v .terms) (output-facts v ok .count .0)) (b .outputs) (h .outputs-ok))
 
   end-read : (xs : List Item) (w : ℕ) → endOfBlock (at f (word "END_FUNCTION_BLOCK" ∷ xs) b w) ≡ at f xs b w
   unfolding endOfBlock at kind advance

@@ -1,0 +1,10 @@
+pub mod Names
+pub mod Steps
+pub mod Conditions
+pub mod Focus
+pub mod Declarations
+pub mod Numbers
+pub mod Fuzzify
+pub mod Defuzzify
+pub mod RuleBlock
+pub mod WellRead
