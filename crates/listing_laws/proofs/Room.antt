@@ -43,7 +43,7 @@ weaken m n h p = record { small = p .small; short = omega (arith, p .short) }
 pub join : {v w : List ℕ} (m n : ℕ) → Fits m v → Fits n w → Fits (m + n) (v ++ w)
 join {v} {w} m n p q = record {
   small = rw (all-append isByte v w, p .small, q .small);
-  short = omega (arith, length-append v w, p .short, q .short)
+  short = omega (arith, length-append v w, p .short, q .short);
 }
 
 -- NAMES AND NUMBERS
@@ -122,8 +122,14 @@ module _ {A : Type 0} (f : A → List ℕ) (ok : A → Bool) (n : ℕ) (k : (x :
       record {
         small = rw (all-append isByte (f x) (bytes ", " ++ commaed (map f (y ∷ xs))), p .small, q .small);
         short =
-          omega (arith, p .short, q .short,
-          length-append (f x) (bytes ", " ++ commaed (map f (y ∷ xs))), mul-suc (n + 2) (suc (length xs)), mul-suc (n + 2) (length xs));
+            omega (
+              arith,
+              p .short,
+              q .short,
+              length-append (f x) (bytes ", " ++ commaed (map f (y ∷ xs))),
+              mul-suc (n + 2) (suc (length xs)),
+              mul-suc (n + 2) (length xs),
+            );
       }
 
 -- DECLARATIONS

@@ -60,17 +60,18 @@ unfolding all
 range-set v x y h e l =
     let f = h .0 .0 in
     let g : Option Range = some (record { least = x; most = y }) in
-    let d = f .bare (h .0 .1) in
-    (record {
-      name = f .name;
-      count = f .count;
-      range = and-i _ _ (h .1) (and-i _ _ e l);
-      terms = ap (all (singletonOk g)) (empty-is (v .terms) (h .0 .1));
-      apart = f .apart;
-      default = ap (defaultOk g) d;
-      bare = f .bare;
-    },
-    d)
+    let d = f .bare (h .0 .1) in (
+      record {
+        name = f .name;
+        count = f .count;
+        range = and-i _ _ (h .1) (and-i _ _ e l);
+        terms = ap (all (singletonOk g)) (empty-is (v .terms) (h .0 .1));
+        apart = f .apart;
+        default = ap (defaultOk g) d;
+        bare = f .bare;
+      },
+      d,
+    )
 
 term-set : (n : List ℕ) (x : ℤ) (v : Output) → Called n v → inCrisp x ≡ true → inRange (v .range) x ≡ true
     → Filled (withSingleton (record { name = n; at = x }) v)
@@ -79,17 +80,21 @@ term-set n x v h e i =
     let f = h .0 .0 .0 in
     let s : Singleton = record { name = n; at = x } in
     let j = ltb-true (length (v .terms)) termLimit (h .0 .1) in
-    let k = length-append (v .terms) (s ∷ []) in
-    ((record {
-      name = f .name;
-      count = omega arith;
-      range = f .range;
-      terms = all-last (singletonOk (v .range)) (v .terms) s (f .terms) (and-i _ _ (h .1 .1) (and-i _ _ e i));
-      apart = named-last (λ t. t .name) (v .terms) s (f .apart) (h .1 .0);
-      default = f .default;
-      bare = λ z. clash (sym (filled-last (v .terms) s) ∙ z);
-    },
-    h .0 .0 .1), filled-last (v .terms) s)
+    let k = length-append (v .terms) (s ∷ []) in (
+      (
+        record {
+          name = f .name;
+          count = omega arith;
+          range = f .range;
+          terms = all-last (singletonOk (v .range)) (v .terms) s (f .terms) (and-i _ _ (h .1 .1) (and-i _ _ e i));
+          apart = named-last (λ t. t .name) (v .terms) s (f .apart) (h .1 .0);
+          default = f .default;
+          bare = λ z. clash (sym (filled-last (v .terms) s) ∙ z);
+        },
+        h .0 .0 .1,
+      ),
+      filled-last (v .terms) s,
+    )
 
 default-set : (x : ℤ) (v : Output) → Filled v → inCrisp x ≡ true → inRange (v .range) x ≡ true → OutputFine (withDefault x v)
 default-set x v h e i =

@@ -210,9 +210,13 @@ conclusion-fine : (o s : ℕ) (b : Block) → ltb o (length (b .outputs)) ≡ tr
 unfolding conclusionOk outputFirst singletonsOf
 conclusion-fine o s b h l =
     let j = ltb-true s (length (singletonsOf o b)) l in
-    pass _
-    (h, (le-leb (outputFirst o b) (outputFirst o b + s) (omega arith),
-    (lt-ltb (outputFirst o b + s) (outputFirst o b + length (singletonsOf o b)) (omega arith), tt)))
+    pass _ (
+      h,
+      (
+        le-leb (outputFirst o b) (outputFirst o b + s) (omega arith),
+        (lt-ltb (outputFirst o b + s) (outputFirst o b + length (singletonsOf o b)) (omega arith), tt),
+      ),
+    )
 
 good-concluded : {k : ℕ} (o : ℕ) → Leads (Concluding k o) (Last 1) (concludedTerm o)
 unfolding concludedTerm changeRule

@@ -61,16 +61,40 @@ well-formed w b s p =
     let z = s .rules in
     let t = both (all (λ v. not (isEmpty (v .terms))) (b .inputs)) (all (λ v. not (isEmpty (v .terms))) (b .outputs)) p in
     let m : total (λ r. size (r .condition)) (b .rules) ≤ wordLimit = subst (λ (n : ℕ). n ≤ wordLimit) (z .words) (z .room) in
-    pass _
-    (v .name, (s .called,
-    (among 1 inputLimit (length (b .inputs)) (v .inputs-least) (v .inputs-most),
-    (among 1 outputLimit (length (b .outputs)) (v .outputs-least) (v .outputs-most),
-    (all-from InputFine (λ v. not (isEmpty (v .terms))) inputOk input-ok (b .inputs) (v .inputs) (t .0),
-    (all-from OutputFine (λ v. not (isEmpty (v .terms))) outputOk output-ok (b .outputs) (v .outputs) (t .1), (v .apart,
-    (among 1 ruleLimit (length (b .rules)) (z .least) (z .most),
-    (all-imp (ruleOk (frame (b .inputs) (b .outputs))) (ruleOk b) (rule-ok b) (b .rules) (z .rules), (z .numbers,
-    (le-leb (total (λ r. size (r .condition)) (b .rules)) wordLimit m,
-    (le-leb (length (conclusions b)) conclusionLimit (z .conclusions), tt))))))))))))
+    pass _ (
+      v .name,
+      (
+        s .called,
+        (
+          among 1 inputLimit (length (b .inputs)) (v .inputs-least) (v .inputs-most),
+          (
+            among 1 outputLimit (length (b .outputs)) (v .outputs-least) (v .outputs-most),
+            (
+              all-from InputFine (λ v. not (isEmpty (v .terms))) inputOk input-ok (b .inputs) (v .inputs) (t .0),
+              (
+                all-from OutputFine (λ v. not (isEmpty (v .terms))) outputOk output-ok (b .outputs) (v .outputs) (t .1),
+                (
+                  v .apart,
+                  (
+                    among 1 ruleLimit (length (b .rules)) (z .least) (z .most),
+                    (
+                      all-imp (ruleOk (frame (b .inputs) (b .outputs))) (ruleOk b) (rule-ok b) (b .rules) (z .rules),
+                      (
+                        z .numbers,
+                        (
+                          le-leb (total (λ r. size (r .condition)) (b .rules)) wordLimit m,
+                          (le-leb (length (conclusions b)) conclusionLimit (z .conclusions), tt),
+                        ),
+                      ),
+                    ),
+                  ),
+                ),
+              ),
+            ),
+          ),
+        ),
+      ),
+    )
 
 -- THE WHOLE TEXT
 abbrev Blank : Fact
