@@ -1,4 +1,5 @@
--- Singletons as the code holds them, positions and heights, and the figure of a block's output.
+-- A helper: singletons as the code holds them, positions and heights, and their figure, which is that of model's
+-- `outputAnswer` where the sum of heights is above 0 (`defuzzification/proofs/Answers`).
 use mathlib.Core.List.{List, map}
 use Prim.Native.Nat.{ℕ}
 use lib.Dec.{ltb}

@@ -15,7 +15,7 @@ pub struct Centre {
 }
 
 // Of the first n singletons.
-pub fn centre_of(ps: [Crisp; 7], hs: [Degree; 7], n: usize) -> Centre
+pub fn centre_of(ps: [Crisp; bounds::TERMS], hs: [Degree; bounds::TERMS], n: usize) -> Centre
     requires { ⌜ (n ≤ 7) × ((k : ℕ) → k < n → InCrisp (positionAt ps k)) × ((k : ℕ) → k < n → heightAt hs k ≤ M) ⌝ }
     ensures { λ r. ⌜ (r .sum ≡ sumOf (heights hs n)) × (r .sum ≤ 7000000) ⌝ }
     ensures { λ r. ⌜ (r .figure .0 ≡ figureOf (positions ps n) (heights hs n)) × InCrisp (r .figure .0) ⌝ }

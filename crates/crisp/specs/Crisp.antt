@@ -1,4 +1,5 @@
--- The crisp bounds, and distances above the lowest crisp value.
+-- A helper: the crisp bounds as a fact (model's `inCrisp` as a test: `crisp/proofs/Laws.bounds`), distances above the
+-- lowest crisp value, and RANGE as three values (model's `Option Range`).
 use mathlib.Core.Bool.{Bool}
 use mathlib.Core.Option.{Option, none, some}
 use Prim.Native.Nat.{ℕ, _≤_}

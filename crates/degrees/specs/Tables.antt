@@ -1,4 +1,4 @@
--- Tables of degrees, as lists of numbers.
+-- A helper: tables of degrees as lists of numbers, which is how model's `conditionDegree` and `height` take them.
 use mathlib.Core.List.{List, map}
 use Prim.Native.Nat.{ℕ, _≤_}
 use lib.ListN.{getD}

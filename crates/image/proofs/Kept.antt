@@ -7,8 +7,8 @@ use lib.ListN.{length, getD, take, drop, length-append}
 use lib.Seq.{drop-cons, length-take-le}
 use Rattle.layout.proofs.Whole.{length-conditions}
 use Rattle.model.specs.Basic.{gather, total}
-use Rattle.model.specs.Block.{Rule, Conclusion, size}
-use Rattle.model.specs.Image.{ruleTable, conclusionWords}
+use Rattle.model.specs.Block.{Rule, size}
+use Rattle.model.specs.Image.{ruleTable}
 use Rattle.laws.proofs.Conditions.{length-pairs}
 use Rattle.block_tables.specs.Stored.{Stored, ruleRow}
 use Rattle.image.specs.Rows.{rows, ruleWords, ruleNext}

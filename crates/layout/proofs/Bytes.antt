@@ -1,9 +1,8 @@
 -- Bytes are the image of the block that they stand for exactly when their number and their words say so.
-use mathlib.Core.Path.{_≡_, refl, sym, ap, _∙_, subst}
+use mathlib.Core.Path.{_≡_, sym, ap, _∙_, subst}
 use mathlib.Core.List.{List}
-use mathlib.Core.Bool.{Bool, true, false, _&&_}
-use Prim.Native.Nat.{ℕ, _+_, _*_, _≤_, _<_}
-use native.Mathlib.Omega.{arith}
+use mathlib.Core.Bool.{Bool, true, _&&_}
+use Prim.Native.Nat.{ℕ, _*_, _<_}
 use lib.Dec.{eqb}
 use lib.ListN.{length, getD}
 use borrow.Author.Tests.{eq-eqb, eqb-true}
@@ -13,8 +12,8 @@ use Rattle.model.specs.Image.{wordAt, bytesOf, words, image, decode, isImageOf}
 use Rattle.laws.proofs.Tests.{both, and-i, iff}
 use Rattle.laws.proofs.Places.{At, same-eq, same-refl}
 use Rattle.words.proofs.Bytes.{length-bytes, words-at, bytes-at, word-fits}
-use Rattle.layout.specs.Tables.{shapeOk}
 use Rattle.layout.proofs.Whole.{shape-in, shape-out}
+use Rattle.layout.proofs.Shape.{shapeOk}
 
 abbrev shaped : List ℕ → Bool
 shaped img = eqb (length img) (wordAt img 1 * 4) && shapeOk (wordAt img)

@@ -9,9 +9,9 @@ use Rattle.model.specs.Basic.{every}
 use Rattle.model.specs.WellFormed.{wellFormed}
 use Rattle.model.specs.Image.{wordAt, decode, isImageOf}
 use Rattle.laws.proofs.Tests.{both, and-i, passed, pass, iff}
-use Rattle.layout.specs.Tables.{shapeOk, countsOk}
 use Rattle.layout.specs.Groups.{tablesOk, variablesOk, rulesOk}
 use Rattle.layout.proofs.Bytes.{image-tests}
+use Rattle.layout.proofs.Shape.{shapeOk, countsOk}
 
 abbrev pub grouped : List ℕ → List Bool
 grouped img = eqb (length img) (wordAt img 1 * 4) ∷ tablesOk (wordAt img) ∷ variablesOk (wordAt img) ∷ rulesOk (wordAt img) ∷ []

@@ -2,6 +2,7 @@ pub mod RowLaws
 pub mod TableLaws
 pub mod Parts
 pub mod Codes
+pub mod Shape
 pub mod Whole
 pub mod Bytes
 pub mod Groups

@@ -1,6 +1,6 @@
 -- What an accepted image says of its outputs: where their terms stand, how many they are, and that their positions are crisp.
 use mathlib.Core.Path.{_≡_, sym, ap, _∙_}
-use mathlib.Core.Bool.{Bool, true, _&&_}
+use mathlib.Core.Bool.{true, _&&_}
 use Prim.Native.Nat.{ℕ, zero, suc, _+_, _*_, _-_, _≤_, _<_}
 use native.Mathlib.Nat.{suc-mul}
 use native.Mathlib.Omega.{arith}
@@ -8,7 +8,7 @@ use lib.Dec.{leb}
 use lib.IntN.{ℤ, natAbs}
 use lib.ListN.{length}
 use borrow.Author.Tests.{leb-true}
-use Rattle.model.specs.Basic.{all, total}
+use Rattle.model.specs.Basic.{total}
 use Rattle.model.specs.Bounds.{crispLimit}
 use Rattle.model.specs.Block.{Output, inputTerms, outputFirst, inRange}
 use Rattle.model.specs.Tokens.{isName, inCrisp}

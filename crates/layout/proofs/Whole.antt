@@ -2,24 +2,25 @@
 use mathlib.Core.Path.{_≡_, refl, sym, ap, _∙_, subst}
 use mathlib.Core.List.{List, [], _∷_, _++_}
 use mathlib.Core.Bool.{Bool, true, false}
-use Prim.Native.Nat.{ℕ, zero, suc, _+_, _*_, _-_, _≤_, _<_}
+use Prim.Native.Nat.{ℕ, zero, suc, _+_, _*_, _-_, _≤_}
 use native.Mathlib.Omega.{arith}
 use lib.Dec.{eqb, leb, ltb}
-use lib.ListN.{length, getD, length-append}
+use lib.ListN.{length, length-append}
 use borrow.Author.Tests.{eq-eqb, eqb-true, le-leb, leb-true}
 use Rattle.model.specs.Basic.{all, gather, total, same}
-use Rattle.model.specs.Block.{Point, Term, Conclusion, Rule, inputTerms, conclusions, size, Condition, term, neg, two}
-use Rattle.model.specs.Image.{crispWord, crispOf, nameWords, nameAt, opWord, pairWord, pairOf, accuWord, accuOf, actWord, actOf, terms, points, postfix, inputTable, outputTable, termTable, pointWords, ruleTable, conclusionWords, offsets, endOf, header, words, tab, pointAt, termAt, inputAt, outputAt, conclusionAt, ruleAt, decode}
+use Rattle.model.specs.Block.{Point, Term, Rule, inputTerms, conclusions, size}
+use Rattle.model.specs.Image.{crispWord, crispOf, nameWords, nameAt, pairWord, accuWord, actWord, terms, points, postfix, inputTable, outputTable, termTable, pointWords, ruleTable, conclusionWords, offsets, endOf, header, words, tab, pointAt, termAt, inputAt, outputAt, conclusionAt, ruleAt, decode}
 use Rattle.laws.proofs.Conditions.{length-pairs, length-postfix}
 use Rattle.laws.proofs.Lists.{gather-append}
 use Rattle.laws.proofs.Tests.{both, and-i, Every, passed, pass}
 use Rattle.laws.proofs.Places.{At, at-shift, at-cut, at-join, length-tab}
 use Rattle.layout.specs.Rows.{laid, rowsOk}
-use Rattle.layout.specs.Tables.{inputRow, inputNext, outputRow, outputNext, termRow, termNext, ruleRow, ruleNext, alone, onward, outputTermAt, outputPointAt, termCount, wordCount, inputTermsIn, outputTermsIn, inputPointsIn, wordsIn, conclusionsIn, inputRows, outputRows, inputTermRows, outputTermRows, outputPointRows, ruleRows, conditionExact, conditionRows, nameExact, headerOk, countsOk, shapeOk}
+use Rattle.layout.specs.Tables.{inputRow, inputNext, outputRow, outputNext, termRow, termNext, ruleRow, ruleNext, alone, onward, outputTermAt, outputPointAt, termCount, wordCount, inputTermsIn, outputTermsIn, inputPointsIn, wordsIn, conclusionsIn, inputRows, outputRows, inputTermRows, outputTermRows, outputPointRows, ruleRows, conditionExact, conditionRows, nameExact, headerOk}
 use Rattle.layout.proofs.Codes.{pair-code, pair-small, accu-code, accu-small, act-code, act-small}
 use Rattle.layout.proofs.RowLaws.{stands, stood, rows-out, rows-in, length-laid, laid-append, after-sums}
 use Rattle.layout.proofs.TableLaws.{input-table, output-table, term-table, rule-table, gather-laid}
 use Rattle.layout.proofs.Parts.{wide-input, wide-output, wide-term, rule-words-row, inputTerms-are, terms-are, points-are, conclusions-are, conditions-are}
+use Rattle.layout.proofs.Shape.{countsOk, shapeOk}
 
 -- a crisp value's word is the one it was read from
 pub word-crisp : (x : ℕ) → x ≤ 4294967295 → crispWord (crispOf x) ≡ x

@@ -1,5 +1,5 @@
 -- A helper: the rows of each table, and what the words of an image must satisfy to be those of the block that they stand
--- for. `layout/proofs/Bytes.same-image` ties `shapeOk` to model's `image` and `decode`.
+-- for. `layout/proofs/Bytes.same-image` ties all of it to model's `image` and `decode`.
 use mathlib.Core.Bool.{Bool}
 use mathlib.Core.List.{List, [], _∷_, _++_}
 use Prim.Native.Nat.{ℕ, zero, suc, _+_, _*_}
@@ -143,18 +143,3 @@ headerOk w = every (
     ∷ nameExact w BLOCK-NAME
     ∷ nameExact w RULE-BLOCK-NAME
     ∷ [])
-
--- the counts of terms, points, condition words and conclusions are the sums of the rows' counts
-unfoldable pub countsOk : (ℕ → ℕ) → Bool
-countsOk w = every (
-    eqb (w TERMS) (inputTermsIn w + outputTermsIn w)
-    ∷ eqb (w POINTS) (inputPointsIn w + outputTermsIn w)
-    ∷ eqb (w WORDS) (wordsIn w)
-    ∷ eqb (w CONCLUSIONS) (conclusionsIn w)
-    ∷ [])
-
--- the words are those of the block that they stand for
-unfoldable pub shapeOk : (ℕ → ℕ) → Bool
-shapeOk w = every (
-    headerOk w ∷ inputRows w ∷ outputRows w ∷ inputTermRows w ∷ outputTermRows w ∷ outputPointRows w
-    ∷ ruleRows w ∷ conditionRows w ∷ countsOk w ∷ [])

@@ -8,7 +8,7 @@ use borrow.Author.Tests.{not-true, le-ltb, lt-ltb}
 use lib.Dec.{ltb}
 use lib.ListN.{length, length-append, length-map, getD, take}
 use lib.Seq.{getD-at, take-at}
-use Rattle.model.specs.Basic.{isEmpty, all, total, gather, distinct, indexOf, update, updateLast}
+use Rattle.model.specs.Basic.{isEmpty, all, total, gather, distinct, indexOf, update}
 use Rattle.model.specs.Tokens.{sameName}
 use Rattle.laws.proofs.Tests.{both, and-i, clash}
 use Rattle.laws.proofs.Lists.{all-append, gather-append}

@@ -1,5 +1,4 @@
 -- Blocks that an image may hold, and blocks that it may not: each of these is wrong in one thing only.
-use mathlib.Core.Bool.{Bool}
 use mathlib.Core.List.{List, [], _∷_, _++_, map}
 use mathlib.Core.Option.{Option, none, some}
 use mathlib.Core.Path.{_≡_, refl}
@@ -9,7 +8,7 @@ use lib.IntN.{ℤ, pos, negsuc}
 use lib.ListN.{length}
 use Rattle.model.specs.Basic.{bytes, total}
 use Rattle.model.specs.Block.{Point, Term, Singleton, Input, Range, Output, Condition, term, neg, two, and, or, Conclusion, Rule, Block, real, int, bdif-bsum, by-prod, by-bsum, blockOf, withName, withRuleBlock, size}
-use Rattle.model.specs.Outcome.{Outcome, accepted, refused}
+use Rattle.model.specs.Outcome.{accepted, refused}
 use Rattle.model.specs.WellFormed.{wellFormed}
 use Rattle.model.specs.Image.{image, loads}
 use Rattle.model.proofs.Opened.{opened}

@@ -3,7 +3,7 @@ use mathlib.Core.List.{List, [], _∷_, _++_, map}
 use mathlib.Core.Option.{none, some}
 use mathlib.Core.Path.{_≡_, refl}
 use Prim.Native.Nat.{ℕ}
-use lib.ListN.{length, drop, replicate}
+use lib.ListN.{drop, replicate}
 use Rattle.model.specs.Basic.{bytes}
 use Rattle.model.specs.Outcome.{Outcome, accepted, refused, into, lengthIn, verdictIn, bufferAfter}
 use Rattle.model.specs.Refusals.{refusalOf, writtenOf, verdictOf}

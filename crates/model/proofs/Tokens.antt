@@ -1,5 +1,5 @@
 -- Words, names, numbers and tokens: every byte by its class, the keywords, and texts with their tokens.
-use mathlib.Core.Bool.{Bool, true, false}
+use mathlib.Core.Bool.{Bool, true}
 use mathlib.Core.List.{List, [], _∷_, _++_, map}
 use mathlib.Core.Path.{_≡_, refl}
 use Prim.Native.Nat.{ℕ}

@@ -13,7 +13,7 @@ use Rattle.model.specs.Listing.{listing}
 use Rattle.model.specs.Evaluation.{heldOf, noAnswer, padded, CallResult, evaluate, fresh}
 use Rattle.model.specs.declared.Answer.{Answer}
 use Rattle.model.specs.declared.Mark.{Mark}
-use Rattle.model.specs.declared.Mark.the-variants.{Fired, Default, Held as HeldMark}
+use Rattle.model.specs.declared.Mark.the-variants.{Fired, Default}
 use Rattle.model.specs.declared.Reading.{Reading}
 use Rattle.model.specs.declared.Reading.the-variants.{Real}
 use Rattle.model.proofs.Opened.{opened}

@@ -1,7 +1,6 @@
 -- The vocabulary of the other files: choice, bytes of a quoted text, and a few functions on lists.
 use mathlib.Core.Bool.{Bool, true, false, _&&_, not}
 use mathlib.Core.List.{List, [], _∷_, _++_}
-use mathlib.Core.Option.{none}
 use Prim.Native.Nat.{ℕ, zero, suc, _+_}
 use Prim.Native.String.{String, [] as nil, _∷_ as _::_}
 use Prim.Native.Char.{code}

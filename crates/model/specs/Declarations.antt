@@ -1,7 +1,7 @@
 -- The reader's rules for VAR_INPUT, VAR_OUTPUT, FUZZIFY and DEFUZZIFY.
 use mathlib.Core.Bool.{Bool, _||_, not}
 use mathlib.Core.List.{List, [], _∷_, _++_, map}
-use mathlib.Core.Option.{none, some}
+use mathlib.Core.Option.{none}
 use Prim.Native.Nat.{ℕ}
 use lib.Dec.{leb, ltb}
 use lib.IntN.{ℤ}
@@ -11,7 +11,7 @@ use Rattle.model.specs.Basic.{if_then_else_, _▸_, isEmpty, indexOf, up
 use Rattle.model.specs.Bounds.{inputLimit, outputLimit, termLimit, pointLeast, pointLimit}
 use Rattle.model.specs.Keywords.{ASSIGN, DOTS, OPEN, CLOSE, COMMA, COLON, SEMICOLON, CoGS, DEFAULT, DEFUZZIFY, END-DEFUZZIFY, END-FUZZIFY, FUZZIFY, METHOD, NC, RANGE, TERM, REAL, INT}
 use Rattle.model.specs.Tokens.{sameName, unitOf}
-use Rattle.model.specs.Block.{Point, Term, Singleton, Input, Range, Output, Block, termsOf, singletonsOf, rangeOf, inRange, mayFollow, real, int, withInputs, withOutputs, asInt, withTerms, withPoint, withSingleton, withRange, withDefault}
+use Rattle.model.specs.Block.{Point, Term, Output, Block, termsOf, singletonsOf, rangeOf, inRange, mayFollow, real, withInputs, withOutputs, asInt, withTerms, withPoint, withSingleton, withRange, withDefault}
 use Rattle.model.specs.Parse.{Part, text, is, advance, change, judged, expect, repeated, listed, aName, aCrisp, aUnit, valueHere}
 
 -- NAMES AS DECLARED

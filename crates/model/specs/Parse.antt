@@ -10,7 +10,7 @@ use Rattle.model.specs.Basic.{if_then_else_, _▸_}
 use Rattle.model.specs.Bounds.{nameLimit}
 use Rattle.model.specs.Keywords.{END, NAME, NUMBER, COMMA}
 use Rattle.model.specs.Tokens.{isCrisp, isUnit, valueOf, Token, token}
-use Rattle.model.specs.Block.{Input, Output, Rule, Pair, Accumulation, Activation, Block, min-max, by-max, by-min}
+use Rattle.model.specs.Block.{Block}
 
 -- rest: from the current token on; why: 0, or the number of the first refusal, at place;
 -- block: what was read; words: the condition words that were read

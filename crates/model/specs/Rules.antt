@@ -9,7 +9,7 @@ use Rattle.model.specs.Basic.{if_then_else_, _▸_, all, updateLast}
 use Rattle.model.specs.Bounds.{M, ruleLimit, wordLimit, conclusionLimit, depthLimit}
 use Rattle.model.specs.Keywords.{NUMBER, OPEN, CLOSE, COLON, SEMICOLON, ACCU, ACT, AND, ASUM, BDIF, BSUM, END-RULEBLOCK, IF, IS, MAX, MIN, NOT, OR, PROD, RULE, RULEBLOCK, THEN, WITH}
 use Rattle.model.specs.Tokens.{decimal, unitOf, isRuleNumber}
-use Rattle.model.specs.Block.{Op, Condition, Conclusion, Rule, Pair, Block, inputFirst, outputFirst, conclusions, and, or, term, neg, two, min-max, prod-asum, bdif-bsum, by-max, by-bsum, by-min, by-prod, withRules, withRuleBlock, withPair, withAct, withAccu, withConclusion, withWeight}
+use Rattle.model.specs.Block.{Op, Condition, Rule, Pair, Block, inputFirst, outputFirst, conclusions, and, or, term, neg, two, min-max, prod-asum, bdif-bsum, by-max, by-bsum, by-min, by-prod, withRules, withRuleBlock, withPair, withAct, withAccu, withConclusion, withWeight}
 use Rattle.model.specs.Parse.{Parse, Part, restOf, kind, text, is, refuse, advance, change, judged, expect, repeated, listed, aName, aUnit, ownName}
 use Rattle.model.specs.Declarations.{inputOf, outputOf, isInput, isOutput, termOf, singletonOf, isTerm, isSingleton}
 

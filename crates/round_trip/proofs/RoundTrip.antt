@@ -1,9 +1,7 @@
 -- A stored image passes the load check exactly when some text reads to it; its listing is such a text.
 use mathlib.Core.Path.{_≡_, refl, sym, ap, _∙_}
-use mathlib.Core.Bool.{true}
 use mathlib.Core.List.{List}
 use mathlib.Core.Logic.{_↔_}
-use mathlib.Core.Option.{Option}
 use Prim.Native.Nat.{ℕ}
 use native.Mathlib.Omega.{arith}
 use Rattle.model.specs.Outcome.{Outcome, accepted, refused, andThen, verdictIn}
@@ -12,7 +10,6 @@ use Rattle.model.specs.Image.{image, loads}
 use Rattle.model.specs.Listing.{listing}
 use Rattle.model.specs.Buffers.{readsTo}
 use Rattle.model.specs.Reader.{reads}
-use Rattle.model.specs.WellFormed.{wellFormed}
 use Rattle.image_laws.proofs.Loads.{loads-iff}
 use Rattle.listing_laws.proofs.Longest.{listing-bytes}
 use Rattle.listing_laws.proofs.RoundTrip.{listing-reads}

@@ -18,7 +18,7 @@ use Rattle.model.specs.declared.Accumulation.{Accumulation}
 use Rattle.model.specs.declared.Accumulation.the-variants.{Max as by-max, Bsum as by-bsum}
 use Rattle.model.specs.Image.{pairOf}
 use Rattle.model.specs.Keywords.{ACT, AND, BSUM, COLON, MAX, MIN, OR, PROD, SEMICOLON}
-use Rattle.model.specs.Parse.{Parse, Part, kind, text, refuse, advance, change, judged, expect, aName, ownName}
+use Rattle.model.specs.Parse.{Parse, Part, kind, text, is, refuse, advance, change, judged, expect, aName, ownName}
 use Rattle.model.specs.Rules.{samePair, andPair, orPair, algorithm, algorithmLine, algorithms, activation, activationLine, accumulation}
 use Rattle.cursor.specs.declared.Cursor.{Cursor}
 use Rattle.cursor.specs.View.{seen, textOf, Fits, Step, fault}
@@ -203,29 +203,44 @@ module _ (s : List ℕ) (p : Opened) where
   accu-headed a e k = record { order = k .order; inside = k .inside; pair = k .pair; accu = e; act = k .act }
 
   module _ (b : Block) (n : ℕ) where
+    -- one of two algorithms, or a wrong token
+    module _ (k : ℕ) (f : Block → Block) (l : ℕ) (g : Block → Block) where
+      abbrev one-of : Part
+      one-of r = if is k r then advance (change f r) else if is l r then advance (change g r) else refuse 2 r
+
+      the-first : p .cursor .kind ≡ k → p .cursor .why ≡ 0 → one-of (view s p b n) ≡ advance (seen s (p .cursor) (f (headed s h b)) n)
+      the-first e z = simp (kind-seen, eq-eqb _ _ e) (ap advance (changed s (p .cursor) (headed s h b) n f z))
+
+      the-second : eqb l k ≡ false → p .cursor .kind ≡ l → p .cursor .why ≡ 0
+          → one-of (view s p b n) ≡ advance (seen s (p .cursor) (g (headed s h b)) n)
+      the-second q e z = simp (kind-seen, e, q, eq-eqb l l refl) (ap advance (changed s (p .cursor) (headed s h b) n g z))
+
+      neither : (p .cursor .kind ≡ k → ⊥) → (p .cursor .kind ≡ l → ⊥) → one-of (view s p b n) ≡ refuse 2 (view s p b n)
+      neither u v = simp (kind-seen, ne-eqb _ _ u, ne-eqb _ _ v)
+
     pub act-min : p .cursor .kind ≡ MIN → p .cursor .why ≡ 0 → activation (view s p b n) ≡ advance (seen s (p .cursor) (headed s (with-act 0) b) n)
     unfolding activation
-    act-min k z = simp (kind-seen, eq-eqb _ _ k) (ap advance (changed s (p .cursor) (headed s h b) n (withAct by-min) z))
+    act-min = the-first MIN (withAct by-min) PROD (withAct by-prod)
 
     pub act-prod : p .cursor .kind ≡ PROD → p .cursor .why ≡ 0 → activation (view s p b n) ≡ advance (seen s (p .cursor) (headed s (with-act 1) b) n)
     unfolding activation
-    act-prod k z = simp (kind-seen, k) (ap advance (changed s (p .cursor) (headed s h b) n (withAct by-prod) z))
+    act-prod = the-second MIN (withAct by-min) PROD (withAct by-prod) refl
 
     pub act-none : (p .cursor .kind ≡ MIN → ⊥) → (p .cursor .kind ≡ PROD → ⊥) → activation (view s p b n) ≡ refuse 2 (view s p b n)
     unfolding activation
-    act-none u v = simp (kind-seen, ne-eqb _ _ u, ne-eqb _ _ v)
+    act-none = neither MIN (withAct by-min) PROD (withAct by-prod)
 
     pub accu-max : p .cursor .kind ≡ MAX → p .cursor .why ≡ 0 → accumulation (view s p b n) ≡ advance (seen s (p .cursor) (headed s (with-accu 0) b) n)
     unfolding accumulation
-    accu-max k z = simp (kind-seen, eq-eqb _ _ k) (ap advance (changed s (p .cursor) (headed s h b) n (withAccu by-max) z))
+    accu-max = the-first MAX (withAccu by-max) BSUM (withAccu by-bsum)
 
     pub accu-bsum : p .cursor .kind ≡ BSUM → p .cursor .why ≡ 0 → accumulation (view s p b n) ≡ advance (seen s (p .cursor) (headed s (with-accu 1) b) n)
     unfolding accumulation
-    accu-bsum k z = simp (kind-seen, k) (ap advance (changed s (p .cursor) (headed s h b) n (withAccu by-bsum) z))
+    accu-bsum = the-second MAX (withAccu by-max) BSUM (withAccu by-bsum) refl
 
     pub accu-none : (p .cursor .kind ≡ MAX → ⊥) → (p .cursor .kind ≡ BSUM → ⊥) → accumulation (view s p b n) ≡ refuse 2 (view s p b n)
     unfolding accumulation
-    accu-none u v = simp (kind-seen, ne-eqb _ _ u, ne-eqb _ _ v)
+    accu-none = neither MAX (withAccu by-max) BSUM (withAccu by-bsum)
 
     -- ACT stands here
     pub act-line : p .cursor .kind ≡ ACT → activationLine (view s p b n) ≡ expect SEMICOLON (activation (expect COLON (expect ACT (view s p b n))))

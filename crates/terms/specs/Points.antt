@@ -1,4 +1,4 @@
--- The points of a term as the code holds them, and as a block has them.
+-- A helper: the points of a term as the code holds them, and as a block has them (model's `Point`).
 use mathlib.Core.List.{List, map}
 use Prim.Native.Nat.{ℕ, _≤_}
 use lib.IntN.{pos}

@@ -31,7 +31,7 @@ fn on_line(x: Crisp, p: Point, q: Point) -> Degree
 }
 
 // By the first n points.
-pub fn term_degree(ps: [Point; 4], n: usize, x: Crisp) -> Degree
+pub fn term_degree(ps: [Point; bounds::POINTS], n: usize, x: Crisp) -> Degree
     requires { ⌜ (1 ≤ n) × (n ≤ 4) × InCrisp (x .0) × ((k : ℕ) → k < n → PointOk (pointAt ps k)) ⌝ }
     ensures { λ r. ⌜ (r .0 ≡ termDegree (pointViews ps n) (x .0)) × (r .0 ≤ M) ⌝ }
 {
