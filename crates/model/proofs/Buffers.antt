@@ -1,14 +1,16 @@
 -- Buffers and refusal numbers: room that is short, fits or is left over; what every refusal's number and place are.
+use mathlib.Core.Bool.{true, false}
 use mathlib.Core.List.{List, [], _∷_, _++_, map}
 use mathlib.Core.Option.{none, some}
 use mathlib.Core.Path.{_≡_, refl}
 use Prim.Native.Nat.{ℕ}
+use native.Mathlib.Omega.{arith}
 use lib.ListN.{drop, replicate}
 use Rattle.model.specs.Basic.{bytes}
 use Rattle.model.specs.Outcome.{Outcome, accepted, refused, into, lengthIn, verdictIn, bufferAfter}
 use Rattle.model.specs.Refusals.{refusalOf, writtenOf, verdictOf}
 use Rattle.model.specs.Image.{image}
-use Rattle.model.specs.Buffers.{readsInto, listsInto}
+use Rattle.model.specs.Buffers.{readsInto, listsInto, readsTo}
 use Rattle.model.specs.declared.Refusal.{Refusal}
 use Rattle.model.specs.declared.Refusal.the-variants.{TextTooLong, WrongToken, WrongNumber, WrongName, NotDeclared, TooMany, WrongPosition, Unpaired, PartMissing, BufferTooShort, ImageNotAccepted, WrongCount, WrongHeld, WrongReading}
 use Rattle.model.specs.declared.Written.the-variants.{Bytes, Refused as NotWritten}
@@ -80,3 +82,15 @@ lister-rooms = refl
 lister-refused-first : map (λ n. listsInto n (drop 1 (image trust))) (0 ∷ 449 ∷ []) ≡ refused 11 none ∷ refused 11 none ∷ []
 unfolding opened
 lister-refused-first = refl
+
+-- TEXTS OF BYTES: the example and its listing read to its image; a number that is no byte stands in no text
+example-reads-to : readsTo exampleText (image trust) × readsTo exampleListing (image trust)
+unfolding opened
+example-reads-to = ((refl, refl), (refl, refl))
+
+impossible : false ≡ true → ⊥
+impossible h = let z : _≡_ {A = ℕ} 0 1 = cc in omega arith
+
+no-byte : (img : List ℕ) → readsTo (exampleText ++ (bytes "(*" ++ (256 ∷ bytes "*)"))) img → ⊥
+unfolding opened
+no-byte img h = impossible (h .0)

@@ -190,6 +190,11 @@ checks-in-order :
 unfolding opened
 checks-in-order = refl
 
+-- the second reading is missing
+missing-second : onRecord stored (whole (pos 0) ∷ []) 2 (pos 10000 ∷ negsuc 2999 ∷ []) ≡ refused 14 (some 1)
+unfolding opened
+missing-second = refl
+
 -- of the example, whose output has no RANGE: the crisp bounds alone, and each unused place, also a negative one
 abbrev wrongRecords : List (List ℤ)
 wrongRecords =
