@@ -1,1 +1,1 @@
-// Laws that many crates share: of tests, of lists and tables, of conditions, of the reader's rules. Proofs only.
+// Laws that many crates share: of tests, lists, tables and conditions, and of the reader's rules as a whole. Proofs only.
