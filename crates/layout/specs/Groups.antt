@@ -1,5 +1,5 @@
--- A helper: what the load check tests, in the three groups in which the code goes about it. `layout/proofs/Groups.groups`
--- ties them, with the length, to model's `isImageOf`.
+-- A helper: what the load check tests, in the three groups in which the code goes about it.
+-- `layout/proofs/Groups.groups` ties them, with the length, to model's `isImageOf`.
 use mathlib.Core.Bool.{Bool, true}
 use mathlib.Core.Path.{_≡_}
 use mathlib.Core.List.{[], _∷_, _++_, map}

@@ -1,5 +1,5 @@
--- A helper: tables of an image row by row, with the firsts as running totals. `layout/proofs/TableLaws` ties `laid` to the
--- tables of model's Image, `layout/proofs/RowLaws` `rowsOk` to what stands in the words.
+-- A helper: tables of an image row by row, with the firsts as running totals. `layout/proofs/TableLaws` ties `laid` to
+-- the tables of model's Image, `layout/proofs/RowLaws` `rowsOk` to what stands in the words.
 use mathlib.Core.Bool.{Bool, true, _&&_}
 use mathlib.Core.List.{List, [], _∷_, _++_}
 use Prim.Native.Nat.{ℕ, zero, suc, _+_, _*_}

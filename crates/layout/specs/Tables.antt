@@ -1,5 +1,5 @@
--- A helper: the rows of each table, and what the words of an image must satisfy to be those of the block that they stand
--- for. `layout/proofs/Bytes.same-image` ties all of it to model's `image` and `decode`.
+-- A helper: the rows of each table, and what the words of an image must satisfy to be those of the block that they
+-- stand for. `layout/proofs/Bytes.same-image` ties all of it to model's `image` and `decode`.
 use mathlib.Core.Bool.{Bool}
 use mathlib.Core.List.{List, [], _∷_, _++_}
 use Prim.Native.Nat.{ℕ, zero, suc, _+_, _*_}
@@ -103,10 +103,12 @@ inputTermRows w = rowsOk termRow termNext (termAt w) w (w TERM-TABLE) termWidth 
 
 unfoldable pub outputTermRows : (ℕ → ℕ) → Bool
 outputTermRows w =
-    rowsOk termRow termNext (outputTermAt w) w (w TERM-TABLE) termWidth (outputTermsIn w) (inputTermsIn w) (inputPointsIn w)
+    rowsOk termRow termNext (outputTermAt w) w (w TERM-TABLE) termWidth (outputTermsIn w) (inputTermsIn w)
+    (inputPointsIn w)
 
 unfoldable pub outputPointRows : (ℕ → ℕ) → Bool
-outputPointRows w = rowsOk (alone pointWords) onward (outputPointAt w) w (w POINT-TABLE) pointWidth (outputTermsIn w) (inputPointsIn w) tt
+outputPointRows w =
+    rowsOk (alone pointWords) onward (outputPointAt w) w (w POINT-TABLE) pointWidth (outputTermsIn w) (inputPointsIn w) tt
 
 unfoldable pub ruleRows : (ℕ → ℕ) → Bool
 ruleRows w = rowsOk ruleRow ruleNext (ruleAt w) w (w RULE-TABLE) ruleWidth (w RULES) 0 (0, 0)

@@ -1,5 +1,5 @@
--- A helper: a float by the fields of its bits (`readings/proofs/Bits` ties them to the library's floats), and the magnitude
--- of a signed fraction that is rounded (`readings/proofs/Rounding` to model's `nearestℤ`).
+-- A helper: a float by the fields of its bits (`readings/proofs/Bits` ties them to the library's floats), and the
+-- magnitude of a signed fraction that is rounded (`readings/proofs/Rounding` to model's `nearestℤ`).
 use Prim.Native.Nat.{ℕ, zero, suc, _+_, _*_, _-_}
 use Rattle.model.specs.Degrees.{nearest}
 
