@@ -1,13 +1,13 @@
 -- A listing is bytes, at most 31,421 of them.
 use mathlib.Core.Path.{_≡_, refl}
 use mathlib.Core.List.{List, [], _∷_}
-use mathlib.Core.Bool.{Bool, true, false, not}
+use mathlib.Core.Bool.{Bool, true, false}
 use Prim.Native.Nat.{ℕ, zero, suc, _+_, _*_, _/_, _≤_, _<_}
 use native.Mathlib.Omega.{arith}
 use borrow.Author.Tests.{leb-true, ltb-true}
 use lib.Dec.{leb, eqb}
 use lib.ListN.{length, getD, length-append}
-use Rattle.model.specs.Basic.{isEmpty, all, total, gather}
+use Rattle.model.specs.Basic.{all, total, gather}
 use Rattle.model.specs.Bounds.{M, ruleNumberLeast, ruleNumberLimit}
 use Rattle.model.specs.Block.{Conclusion, Rule, Block, inputTerms, size}
 use Rattle.model.specs.declared.Pair.{Pair}
@@ -18,8 +18,9 @@ use Rattle.model.specs.declared.Activation.{Activation}
 use Rattle.model.specs.declared.Activation.the-variants.{Min as by-min, Prod as by-prod}
 use Rattle.model.specs.Listing.{inputTermName, inputLine, outputLine, fuzzifyText, defuzzifyText, andText, orText, actText, accuText, conclusionText, weightText, ruleLine, ruleBlockText, listing}
 use Rattle.model.specs.WellFormed.{unitOk, inputOk, outputOk, conclusionOk, ruleOk, wellFormed}
-use Rattle.laws.proofs.Tests.{both, passed, clash}
+use Rattle.laws.proofs.Tests.{both, passed}
 use Rattle.laws.proofs.Lists.{all-append}
+use Rattle.listing_laws.proofs.Finding.{not-empty}
 use Rattle.listing_laws.proofs.Facts.{rule-facts, block-facts}
 use Rattle.listing_laws.proofs.Names.{input-named, output-named, conclusion-named}
 use Rattle.listing_laws.proofs.LongConditions.{condition-short}
@@ -66,10 +67,6 @@ unfolding all
 accu-room by-max = record { small = refl; short = omega arith }
 accu-room by-bsum = record { small = refl; short = omega arith }
 
-some-there : {A : Type 0} (xs : List A) → not (isEmpty xs) ≡ true → 1 ≤ length xs
-some-there [] e = clash e
-some-there (x ∷ xs) e = omega arith
-
 module _ (b : Block) (h : wellFormed b ≡ true) where
   conclusion-room : (k : Conclusion) → conclusionOk b k ≡ true → Fits 36 (conclusionText b k)
   unfolding all conclusionText
@@ -88,7 +85,7 @@ module _ (b : Block) (h : wellFormed b ≡ true) where
       let w = weight-room (r .weight) (f .weight) in
       record {
         small = simp (all-append, n .small, c .small, k .small, w .small);
-        short = simp length-append (omega (arith, n .short, t, k .short, w .short, some-there (r .conclusions) (f .some)));
+        short = simp length-append (omega (arith, n .short, t, k .short, w .short, not-empty (r .conclusions) (f .some)));
       }
 
   rule-block-room : Fits 21825 (ruleBlockText b)

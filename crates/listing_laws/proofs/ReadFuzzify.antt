@@ -27,7 +27,7 @@ use Rattle.listing_laws.proofs.Facts.{InputFacts, TermFacts, term-facts
 use Rattle.listing_laws.proofs.Reading.{at, headKind, judged-pass, expects, listed-reads, some-read}
 use Rattle.listing_laws.proofs.Stages.{staged, focus, bareInput}
 
-last-points : (ts : List Term) (t : Term) → lastPoints (ts ++ (t ∷ [])) ≡ t .points
+pub last-points : (ts : List Term) (t : Term) → lastPoints (ts ++ (t ∷ [])) ≡ t .points
 last-points [] t = refl
 last-points (u ∷ []) t = refl
 last-points (u ∷ v ∷ ts) t = last-points (v ∷ ts) t

@@ -14,6 +14,7 @@ use Rattle.model.specs.Keywords
 use Rattle.model.specs.Tokens.{Token, token}
 use Rattle.model.specs.Block.{Block}
 use Rattle.model.specs.Parse.{Parse, Part, Checks, kind, text, is, advance, change, judged, expect, repeatOn, repeated, listed, ownName}
+use Rattle.laws.proofs.Repetition.{turn, no-turn}
 use Rattle.listing_laws.proofs.Items.{Item, item, itemOf, name, comma, commas}
 
 -- tokens of some items; the place of each goes by how many follow it
@@ -80,16 +81,6 @@ unfolding at
 length-rest f xs b w = length-laid f xs
 
 -- REPETITION
-module _ (k : ℕ) (part : Part) where
-  once : (n : ℕ) (r : Parse) → is k r ≡ true → repeatOn (suc n) k part r ≡ repeatOn n k part (part r)
-  unfolding repeatOn
-  once n r e = rw (repeatOn, e)
-
-  never : (n : ℕ) (r : Parse) → is k r ≡ false → repeatOn n k part r ≡ r
-  unfolding repeatOn
-  never zero r e = refl
-  never (suc n) r e = rw (repeatOn, e)
-
 -- part reads the items of each element of a list in turn; the block and the condition words go by the elements read
 abbrev pub Walks : {X : Type 0} → Part → (X → List Item) → (List X → Block) → (List X → ℕ) → (ℕ → ℕ) → List X → Type 0
 Walks {X} part items B W f xs =
@@ -115,13 +106,13 @@ module _ {X : Type 0} (k : ℕ) (part : Part) (items : X → List Item) (B : Lis
       → repeatOn n k part (at f (gather items es ++ rest) (B ds) (W ds)) ≡ at f rest (B xs) (W xs)
   unfolding gather
   repeats n ds [] e h =
-      never k part n (at f rest (B ds) (W ds)) (is-head k f rest (B ds) (W ds) ∙ stops)
+      no-turn k part n (at f rest (B ds) (W ds)) (is-head k f rest (B ds) (W ds) ∙ stops)
       ∙ ap (λ (l : List X). at f rest (B l) (W l)) (sym (append-nil ds) ∙ sym e)
   repeats zero ds (x ∷ es) e h = absurd (omega arith)
   repeats (suc n) ds (x ∷ es) e h =
       let ys = gather items es ++ rest in
       ap (λ (l : List Item). repeatOn (suc n) k part (at f l (B ds) (W ds))) (append-assoc (items x) (gather items es) rest)
-      ∙ once k part n (at f (items x ++ ys) (B ds) (W ds)) (is-head k f (items x ++ ys) (B ds) (W ds) ∙ starts x ys)
+      ∙ turn k part n (at f (items x ++ ys) (B ds) (W ds)) (is-head k f (items x ++ ys) (B ds) (W ds) ∙ starts x ys)
       ∙ ap (repeatOn n k part) (walks ds x es ys e)
       ∙ repeats n (ds ++ (x ∷ [])) es (e ∙ sym (append-snoc ds x es)) (omega arith)
 
@@ -179,7 +170,7 @@ pub listed-one : (part : Part) (r : Parse) (f : ℕ → ℕ) (rest : List Item) 
 unfolding listed repeated
 listed-one part r f rest b w h stops =
     ap (repeated Keywords.COMMA (λ q. part (expect Keywords.COMMA q))) h
-    ∙ never Keywords.COMMA (λ q. part (expect Keywords.COMMA q)) _ (at f rest b w) (is-head Keywords.COMMA f rest b w ∙ stops)
+    ∙ no-turn Keywords.COMMA (λ q. part (expect Keywords.COMMA q)) _ (at f rest b w) (is-head Keywords.COMMA f rest b w ∙ stops)
 
 -- PLACES: any tokens are laid from their items
 abbrev pub placesOf : List Token → ℕ → ℕ

@@ -20,6 +20,7 @@ use Rattle.laws.proofs.Tests.{pass, and-i}
 use Rattle.laws.proofs.Each.{Each}
 use Rattle.laws.proofs.Lists.{updateLast-snoc}
 use Rattle.listing_laws.proofs.Finding.{none-of, named}
+use Rattle.listing_laws.proofs.ReadFuzzify.{last-points}
 use Rattle.reading_laws.proofs.Steps.{Fact, Good, Leads, _▹_, good-so, good-advance, good-change, good-judged, name-here, good-expect, good-repeated, good-listed}
 use Rattle.reading_laws.proofs.Numbers.{crisp-value, unit-value, rising-last}
 use Rattle.reading_laws.proofs.Focus.{Except, focus, unfocus, except-update, except-so, except-at, map-update, map-updateLast, all-last, absent, named-last}
@@ -38,11 +39,6 @@ record Growing (v : Input) : Type 0 where
   points : all pointOk (last .points) ≡ true
   rises : rising [] (map (λ p. p .at) (last .points)) ≡ true
   most : length (last .points) ≤ pointLimit
-
-last-points : (ts : List Term) (t : Term) → lastPoints (ts ++ (t ∷ [])) ≡ t .points
-last-points [] t = refl
-last-points (s ∷ []) t = refl
-last-points (s ∷ u ∷ ts) t = last-points (u ∷ ts) t
 
 module _ (v : Input) where
   term-begun : (n : List ℕ) → isName n ≡ true → InputFine v → ltb (length (v .terms)) termLimit ≡ true

@@ -17,7 +17,7 @@ use Rattle.stored_names.proofs.Tables.{Exact}
 use Rattle.layout.specs.Groups.{tablesOk}
 use Rattle.layout.proofs.RowLaws.{stands, stood}
 use Rattle.layout.proofs.TableLaws.{Runs, runs-from}
-use Rattle.layout.proofs.Parts.{inputFirst, input-row, output-row}
+use Rattle.layout.proofs.Parts.{outputFirsts-run, inputFirst, input-row}
 
 -- P holds of n numbers from i on
 abbrev pub Span : (ℕ → Type 0) → ℕ → ℕ → Type 0
@@ -78,12 +78,6 @@ module _ (w : ℕ → ℕ) where
   unfolding inputRows
   inputs-run h = runs-from inputRow inputNext (inputAt w) w (w 9) 7 (λ n. n) (inputFirst w) (inputCount w) (λ i n e. input-row w i n e) (w 2) 0 0 h
 
-  outputs-run : outputRows w ≡ true → Runs (outputFirstAt w) (outputCount w) (w 3) 0 (inputTermsIn w)
-  unfolding outputRows
-  outputs-run h =
-      runs-from outputRow outputNext (outputAt w) w (w 10) 11 (λ n. n) (outputFirstAt w) (outputCount w) (λ i n e. output-row w i n e)
-      (w 3) 0 (inputTermsIn w) h
-
   -- all names are exact
   pub record Names : Type 0 where
     pub inputs : Exact w (w 9) 7 (w 2) 0
@@ -106,6 +100,6 @@ module _ (w : ℕ → ℕ) where
             let q = runs-within (inputFirst w) (inputCount w) (w 2) 0 0 (inputs-run ir) i (omega arith) (omega arith) in
             ti k (omega arith) (omega (arith, q .1));
         outputTerms = λ i l k a b.
-            let q = runs-within (outputFirstAt w) (outputCount w) (w 3) 0 (inputTermsIn w) (outputs-run or) i (omega arith) (omega arith) in
+            let q = runs-within (outputFirstAt w) (outputCount w) (w 3) 0 (inputTermsIn w) (outputFirsts-run w or) i (omega arith) (omega arith) in
             to k (omega (arith, q .0)) (omega (arith, q .1));
       }
