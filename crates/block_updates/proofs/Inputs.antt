@@ -15,61 +15,28 @@ use Rattle.lookup.proofs.Names.{name-same, name-other, placed-set}
 use Rattle.block_tables.specs.declared.Input.{Input}
 use Rattle.block_tables.specs.declared.Tables.{Tables}
 use Rattle.block_tables.specs.View.{no-input, pointView, termView, inputView, singletonView, outputView, declared, blockView, Holds}
+use Rattle.block_updates.proofs.Fields.{tablesOf, holdsOf}
 use Rattle.block_updates.specs.Changes.{Changes}
 use Rattle.block_updates.proofs.Tabs.{tab-more, tab-same, kept}
 use Rattle.block_updates.proofs.Views.{term-same, input-same, singleton-same, output-same}
 
 abbrev pub named : Tables → ℕ → ℕ → Tables
-named t a e = record {
-  start = a;
-  end = e;
-  «input_count» = t .«input_count»;
-  «output_count» = t .«output_count»;
-  names = t .names;
-  inputs =
-      t .inputs;
-  outputs = t .outputs;
-  counts = t .counts;
-  points = t .points;
-  singletons = t .singletons;
-}
+named t a e = tablesOf a e (t .«input_count») (t .«output_count») (t .names) (t .inputs) (t .outputs) (t .counts) (t .points) (t .singletons)
 
 module _ (s : List ℕ) (t : Tables) (a e : ℕ) (g : Holds s t) (o : a ≤ e) (l : e ≤ length s) where
   pub is-named : Changes s t (named t a e) (withName (slice a e s))
   unfolding blockView inputView outputView termView singletonView pointView
-  is-named = record {
-    view = refl;
-    holds = record {
-      order = o;
-      inside = l;
-      placed = g .placed;
-      inputCount = g .inputCount;
-      outputCount = g .outputCount;
-      inputTerms = g .inputTerms;
-      outputTerms = g .outputTerms;
-      pointCounts = g .pointCounts;
-      names-size = g .names-size;
-      inputs-size = g .inputs-size;
-      outputs-size = g .outputs-size;
-      counts-size = g .counts-size;
-      points-size = g .points-size;
-      singletons-size = g .singletons-size;
-    };
-  }
+  is-named =
+      record {
+        view = refl;
+        holds = holdsOf o l (g .placed) (g .inputCount) (g .outputCount) (g .inputTerms) (g .outputTerms) (g .pointCounts) (g .names-size) (g .inputs-size)
+            (g .outputs-size) (g .counts-size) (g .points-size) (g .singletons-size);
+      }
 
 abbrev pub withInput : Tables → ℕ → ℕ → Tables
-withInput t a e = record {
-  start = t .start;
-  end = t .end;
-  «input_count» = t .«input_count» + 1;
-  «output_count» = t .«output_count»;
-  names = set (set (t .names) (t .«input_count») a) (112 + t .«input_count») e;
-  inputs = set (t .inputs) (t .«input_count») no-input;
-  outputs = t .outputs;
-  counts = t .counts;
-  points = t .points;
-  singletons = t .singletons;
-}
+withInput t a e =
+    tablesOf (t .start) (t .end) (t .«input_count» + 1) (t .«output_count») (set (set (t .names) (t .«input_count») a) (112 + t .«input_count») e)
+    (set (t .inputs) (t .«input_count») no-input) (t .outputs) (t .counts) (t .points) (t .singletons)
 
 module _ (s : List ℕ) (t : Tables) (a e : ℕ) (h : t .«input_count» < 8) (g : Holds s t) (o : a ≤ e) (l : e ≤ length s) where
   stays : (j : ℕ) → (j ≡ t .«input_count» → ⊥) → j < 112 → nameOf s (withInput t a e .names) j ≡ nameOf s (t .names) j
@@ -105,20 +72,8 @@ module _ (s : List ℕ) (t : Tables) (a e : ℕ) (h : t .«input_count» < 8) (g
       let q = tab-same (outputView s t) (outputView s (withInput t a e)) (t .«output_count») output-stays in
       record {
         view = λ x. declared (slice (t .start) (t .end) s) (p x) (q x);
-        holds = record {
-          order = g .order;
-          inside = g .inside;
-          placed = placed-set s (t .names) (t .«input_count») a e (omega arith) (g .names-size) o l (g .placed);
-          inputCount = omega arith;
-          outputCount = g .outputCount;
-          inputTerms = kept (λ (v : Input). v .terms) 7 (t .inputs) (t .«input_count») no-input no-input (omega arith) (g .inputTerms);
-          outputTerms = g .outputTerms;
-          pointCounts = g .pointCounts;
-          names-size = simp length-set (g .names-size);
-          inputs-size = simp length-set (g .inputs-size);
-          outputs-size = g .outputs-size;
-          counts-size = g .counts-size;
-          points-size = g .points-size;
-          singletons-size = g .singletons-size;
-        };
+        holds = holdsOf (g .order) (g .inside) (placed-set s (t .names) (t .«input_count») a e (omega arith) (g .names-size) o l (g .placed)) (omega arith)
+            (g .outputCount) (kept (λ (v : Input). v .terms) 7 (t .inputs) (t .«input_count») no-input no-input (omega arith) (g .inputTerms)) (g .outputTerms)
+            (g .pointCounts) (simp length-set (g .names-size)) (simp length-set (g .inputs-size)) (g .outputs-size) (g .counts-size) (g .points-size)
+            (g .singletons-size);
       }

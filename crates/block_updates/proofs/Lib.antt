@@ -1,3 +1,4 @@
+pub mod Fields
 pub mod Tabs
 pub mod Views
 pub mod Inputs

@@ -13,23 +13,15 @@ use Rattle.lookup.proofs.Names.{name-same, name-other, placed-set}
 use Rattle.block_tables.specs.declared.Output.{Output}
 use Rattle.block_tables.specs.declared.Tables.{Tables}
 use Rattle.block_tables.specs.View.{no-output, pointView, inputView, singletonView, rangeView, defaultView, outputView, declared, blockView, Holds}
+use Rattle.block_updates.proofs.Fields.{tablesOf, holdsOf}
 use Rattle.block_updates.specs.Changes.{Changes}
 use Rattle.block_updates.proofs.Tabs.{tab-more, tab-same, kept}
 use Rattle.block_updates.proofs.Views.{term-same, input-same, singleton-same, output-same}
 
 abbrev pub withOutput : Tables → ℕ → ℕ → Tables
-withOutput t a e = record {
-  start = t .start;
-  end = t .end;
-  «input_count» = t .«input_count»;
-  «output_count» = t .«output_count» + 1;
-  names = set (set (t .names) (8 + t .«output_count») a) (112 + (8 + t .«output_count»)) e;
-  inputs = t .inputs;
-  outputs = set (t .outputs) (t .«output_count») no-output;
-  counts = t .counts;
-  points = t .points;
-  singletons = t .singletons;
-}
+withOutput t a e =
+    tablesOf (t .start) (t .end) (t .«input_count») (t .«output_count» + 1) (set (set (t .names) (8 + t .«output_count») a) (112 + (8 + t .«output_count»)) e)
+    (t .inputs) (set (t .outputs) (t .«output_count») no-output) (t .counts) (t .points) (t .singletons)
 
 module _ (s : List ℕ) (t : Tables) (a e : ℕ) (h : t .«output_count» < 6) (g : Holds s t) (o : a ≤ e) (l : e ≤ length s) where
   stays : (j : ℕ) → (j ≡ 8 + t .«output_count» → ⊥) → j < 112 → nameOf s (withOutput t a e .names) j ≡ nameOf s (t .names) j
@@ -71,20 +63,8 @@ module _ (s : List ℕ) (t : Tables) (a e : ℕ) (h : t .«output_count» < 6) (
       (record { name = slice a e s; terms = []; range = none; default = none }) output-stays output-new in
       record {
         view = λ x. declared (slice (t .start) (t .end) s) (p x) (q x);
-        holds = record {
-          order = g .order;
-          inside = g .inside;
-          placed = placed-set s (t .names) (8 + t .«output_count») a e (omega arith) (g .names-size) o l (g .placed);
-          inputCount = g .inputCount;
-          outputCount = omega arith;
-          inputTerms = g .inputTerms;
-          outputTerms = kept (λ (v : Output). v .terms) 7 (t .outputs) (t .«output_count») no-output no-output (omega arith) (g .outputTerms);
-          pointCounts = g .pointCounts;
-          names-size = simp length-set (g .names-size);
-          inputs-size = g .inputs-size;
-          outputs-size = simp length-set (g .outputs-size);
-          counts-size = g .counts-size;
-          points-size = g .points-size;
-          singletons-size = g .singletons-size;
-        };
+        holds = holdsOf (g .order) (g .inside) (placed-set s (t .names) (8 + t .«output_count») a e (omega arith) (g .names-size) o l (g .placed))
+            (g .inputCount) (omega arith) (g .inputTerms)
+            (kept (λ (v : Output). v .terms) 7 (t .outputs) (t .«output_count») no-output no-output (omega arith) (g .outputTerms)) (g .pointCounts)
+            (simp length-set (g .names-size)) (g .inputs-size) (simp length-set (g .outputs-size)) (g .counts-size) (g .points-size) (g .singletons-size);
       }

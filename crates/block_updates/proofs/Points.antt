@@ -17,24 +17,16 @@ use Rattle.lookup.specs.Names.{nameOf}
 use Rattle.block_tables.specs.declared.Point.{Point}
 use Rattle.block_tables.specs.declared.Tables.{Tables}
 use Rattle.block_tables.specs.View.{no-point, inputRow, pointView, termView, inputView, singletonView, outputView, outputsView, declared, blockView, Holds}
+use Rattle.block_updates.proofs.Fields.{tablesOf, holdsOf}
 use Rattle.block_updates.specs.Changes.{Changes, LastTerm}
 use Rattle.block_updates.proofs.Tabs.{tab-update, tab-updateLast, kept}
 use Rattle.block_updates.proofs.Views.{term-same, input-same}
 
 -- the point p for the term at k
 abbrev pub withPoint : Tables → ℕ → Point → Tables
-withPoint t k p = record {
-  start = t .start;
-  end = t .end;
-  «input_count» = t .«input_count»;
-  «output_count» = t .«output_count»;
-  names = t .names;
-  inputs = t .inputs;
-  outputs = t .outputs;
-  counts = set (t .counts) k (getD (t .counts) k 0 + 1);
-  points = set (t .points) (k * 4 + getD (t .counts) k 0) p;
-  singletons = t .singletons;
-}
+withPoint t k p =
+    tablesOf (t .start) (t .end) (t .«input_count») (t .«output_count») (t .names) (t .inputs) (t .outputs) (set (t .counts) k (getD (t .counts) k 0 + 1))
+    (set (t .points) (k * 4 + getD (t .counts) k 0) p) (t .singletons)
 
 module _ (s : List ℕ) (t : Tables) (i k : ℕ) (p : Point) (b : LastTerm t i k) (h : getD (t .counts) k 0 < 4) (g : Holds s t) where
   low : k < 56
@@ -99,20 +91,7 @@ module _ (s : List ℕ) (t : Tables) (i k : ℕ) (p : Point) (b : LastTerm t i k
       (simp zero-add input-longer) (λ m f d. simp zero-add (input-stays m d)) (b .input) in
       record {
         view = λ x. declared (slice (t .start) (t .end) s) (r x) (outputsView s t);
-        holds = record {
-          order = g .order;
-          inside = g .inside;
-          placed = g .placed;
-          inputCount = g .inputCount;
-          outputCount = g .outputCount;
-          inputTerms = g .inputTerms;
-          outputTerms = g .outputTerms;
-          pointCounts = kept (λ (m : ℕ). m) 4 (t .counts) k (getD (t .counts) k 0 + 1) 0 (omega arith) (g .pointCounts);
-          names-size = g .names-size;
-          inputs-size = g .inputs-size;
-          outputs-size = g .outputs-size;
-          counts-size = simp length-set (g .counts-size);
-          points-size = simp length-set (g .points-size);
-          singletons-size = g .singletons-size;
-        };
+        holds = holdsOf (g .order) (g .inside) (g .placed) (g .inputCount) (g .outputCount) (g .inputTerms) (g .outputTerms)
+            (kept (λ (m : ℕ). m) 4 (t .counts) k (getD (t .counts) k 0 + 1) 0 (omega arith) (g .pointCounts)) (g .names-size) (g .inputs-size) (g .outputs-size)
+            (simp length-set (g .counts-size)) (simp length-set (g .points-size)) (g .singletons-size);
       }

@@ -15,24 +15,15 @@ use Rattle.model.specs.declared.Crisp.{Crisp}
 use Rattle.block_tables.specs.declared.Output.{Output}
 use Rattle.block_tables.specs.declared.Tables.{Tables}
 use Rattle.block_tables.specs.View.{no-output, outputRow, pointView, termView, inputView, singletonView, rangeView, defaultView, outputView, inputsView, declared, blockView, Holds}
+use Rattle.block_updates.proofs.Fields.{tablesOf, holdsOf}
 use Rattle.block_updates.specs.Changes.{Changes}
 use Rattle.block_updates.proofs.Tabs.{tab-update, kept}
 use Rattle.block_updates.proofs.Views.{singleton-same, output-same}
 
 -- ROWS: another row for output o, with as many terms
 abbrev pub withRow : Tables → ℕ → Output → Tables
-withRow t o v = record {
-  start = t .start;
-  end = t .end;
-  «input_count» = t .«input_count»;
-  «output_count» = t .«output_count»;
-  names = t .names;
-  inputs = t .inputs;
-  outputs = set (t .outputs) o v;
-  counts = t .counts;
-  points = t .points;
-  singletons = t .singletons;
-}
+withRow t o v =
+    tablesOf (t .start) (t .end) (t .«input_count») (t .«output_count») (t .names) (t .inputs) (set (t .outputs) o v) (t .counts) (t .points) (t .singletons)
 
 module _ (s : List ℕ) (t : Tables) (o : ℕ) (v : Output) (f : Output′ → Output′) (b : o < t .«output_count») (e : v .terms ≡ outputRow t o .terms)
     (g : Holds s t)
@@ -57,22 +48,9 @@ module _ (s : List ℕ) (t : Tables) (o : ℕ) (v : Output) (f : Output′ → O
       (λ m h d. simp zero-add (others m d)) b in
       record {
         view = λ x. declared (slice (t .start) (t .end) s) (inputsView s t) (r x);
-        holds = record {
-          order = g .order;
-          inside = g .inside;
-          placed = g .placed;
-          inputCount = g .inputCount;
-          outputCount = g .outputCount;
-          inputTerms = g .inputTerms;
-          outputTerms = kept (λ (w : Output). w .terms) 7 (t .outputs) o v no-output (let q = g .outputTerms o in omega (arith, e)) (g .outputTerms);
-          pointCounts = g .pointCounts;
-          names-size = g .names-size;
-          inputs-size = g .inputs-size;
-          outputs-size = simp length-set (g .outputs-size);
-          counts-size = g .counts-size;
-          points-size = g .points-size;
-          singletons-size = g .singletons-size;
-        };
+        holds = holdsOf (g .order) (g .inside) (g .placed) (g .inputCount) (g .outputCount) (g .inputTerms)
+            (kept (λ (w : Output). w .terms) 7 (t .outputs) o v no-output (let q = g .outputTerms o in omega (arith, e)) (g .outputTerms)) (g .pointCounts)
+            (g .names-size) (g .inputs-size) (simp length-set (g .outputs-size)) (g .counts-size) (g .points-size) (g .singletons-size);
       }
 
 abbrev pub ranged : Output → Crisp → Crisp → Output

@@ -15,6 +15,7 @@ use Rattle.model.specs.declared.Crisp.{Crisp}
 use Rattle.block_tables.specs.declared.Output.{Output}
 use Rattle.block_tables.specs.declared.Tables.{Tables}
 use Rattle.block_tables.specs.View.{zero-crisp, no-output, outputRow, pointView, inputView, singletonView, rangeView, defaultView, outputView, declared, blockView, Holds}
+use Rattle.block_updates.proofs.Fields.{tablesOf, holdsOf}
 use Rattle.block_updates.specs.Changes.{Changes}
 use Rattle.block_updates.proofs.Tabs.{tab-more, tab-same, tab-update, kept}
 use Rattle.block_updates.proofs.Views.{term-same, input-same, singleton-same, output-same}
@@ -24,18 +25,9 @@ abbrev pub longer : Output → Output
 longer v = record { terms = v .terms + 1; ranged = v .ranged; least = v .least; most = v .most; numbered = v .numbered; default = v .default }
 
 abbrev pub withSingletonAt : Tables → ℕ → ℕ → ℕ → ℕ → Crisp → Tables
-withSingletonAt t o k a e y = record {
-  start = t .start;
-  end = t .end;
-  «input_count» = t .«input_count»;
-  «output_count» = t .«output_count»;
-  names = set (set (t .names) (70 + k) a) (112 + (70 + k)) e;
-  inputs = t .inputs;
-  outputs = set (t .outputs) o (longer (outputRow t o));
-  counts = t .counts;
-  points = t .points;
-  singletons = set (t .singletons) k y;
-}
+withSingletonAt t o k a e y =
+    tablesOf (t .start) (t .end) (t .«input_count») (t .«output_count») (set (set (t .names) (70 + k) a) (112 + (70 + k)) e) (t .inputs)
+    (set (t .outputs) o (longer (outputRow t o))) (t .counts) (t .points) (set (t .singletons) k y)
 
 module _ (s : List ℕ) (t : Tables) (o k a e : ℕ) (y : Crisp) (c : k ≡ o * 7 + outputRow t o .terms) (b : o < t .«output_count»)
     (h : outputRow t o .terms < 7) (g : Holds s t) (ae : a ≤ e) (l : e ≤ length s) where
@@ -102,20 +94,8 @@ module _ (s : List ℕ) (t : Tables) (o k a e : ℕ) (y : Crisp) (c : k ≡ o * 
       (simp zero-add output-longer) (λ m f d. simp zero-add (output-stays m f d)) b in
       record {
         view = λ x. declared (slice (t .start) (t .end) s) (p x) (q x);
-        holds = record {
-          order = g .order;
-          inside = g .inside;
-          placed = placed-set s (t .names) (70 + k) a e (omega arith) (g .names-size) ae l (g .placed);
-          inputCount = g .inputCount;
-          outputCount = g .outputCount;
-          inputTerms = g .inputTerms;
-          outputTerms = kept (λ (v : Output). v .terms) 7 (t .outputs) o (longer (outputRow t o)) no-output (omega arith) (g .outputTerms);
-          pointCounts = g .pointCounts;
-          names-size = simp length-set (g .names-size);
-          inputs-size = g .inputs-size;
-          outputs-size = simp length-set (g .outputs-size);
-          counts-size = g .counts-size;
-          points-size = g .points-size;
-          singletons-size = simp length-set (g .singletons-size);
-        };
+        holds = holdsOf (g .order) (g .inside) (placed-set s (t .names) (70 + k) a e (omega arith) (g .names-size) ae l (g .placed)) (g .inputCount)
+            (g .outputCount) (g .inputTerms) (kept (λ (v : Output). v .terms) 7 (t .outputs) o (longer (outputRow t o)) no-output (omega arith) (g .outputTerms))
+            (g .pointCounts) (simp length-set (g .names-size)) (g .inputs-size) (simp length-set (g .outputs-size)) (g .counts-size) (g .points-size)
+            (simp length-set (g .singletons-size));
       }

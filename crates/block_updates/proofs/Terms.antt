@@ -16,6 +16,7 @@ use Rattle.lookup.proofs.Names.{name-same, name-other, placed-set}
 use Rattle.block_tables.specs.declared.Input.{Input}
 use Rattle.block_tables.specs.declared.Tables.{Tables}
 use Rattle.block_tables.specs.View.{no-input, inputRow, pointView, termView, inputView, outputView, declared, blockView, Holds}
+use Rattle.block_updates.proofs.Fields.{tablesOf, holdsOf}
 use Rattle.block_updates.specs.Changes.{Changes, LastTerm}
 use Rattle.block_updates.proofs.Tabs.{tab-more, tab-same, tab-update, kept}
 use Rattle.block_updates.proofs.Views.{term-same, input-same, singleton-same, output-same}
@@ -25,18 +26,9 @@ abbrev pub longer : Input → Input
 longer v = record { int = v .int; terms = v .terms + 1 }
 
 abbrev pub withTerm : Tables → ℕ → ℕ → ℕ → ℕ → Tables
-withTerm t i k a e = record {
-  start = t .start;
-  end = t .end;
-  «input_count» = t .«input_count»;
-  «output_count» = t .«output_count»;
-  names = set (set (t .names) (14 + k) a) (112 + (14 + k)) e;
-  inputs = set (t .inputs) i (longer (inputRow t i));
-  outputs = t .outputs;
-  counts = set (t .counts) k 0;
-  points = t .points;
-  singletons = t .singletons;
-}
+withTerm t i k a e =
+    tablesOf (t .start) (t .end) (t .«input_count») (t .«output_count») (set (set (t .names) (14 + k) a) (112 + (14 + k)) e)
+    (set (t .inputs) i (longer (inputRow t i))) (t .outputs) (set (t .counts) k 0) (t .points) (t .singletons)
 
 module _ (s : List ℕ) (t : Tables) (i k a e : ℕ) (c : k ≡ i * 7 + inputRow t i .terms) (b : i < t .«input_count») (h : inputRow t i .terms < 7)
     (g : Holds s t) (o : a ≤ e) (l : e ≤ length s) where
@@ -103,22 +95,10 @@ module _ (s : List ℕ) (t : Tables) (i k a e : ℕ) (c : k ≡ i * 7 + inputRow
       let q = tab-same (outputView s t) (outputView s (withTerm t i k a e)) (t .«output_count») output-stays in
       record {
         view = λ x. declared (slice (t .start) (t .end) s) (p x) (q x);
-        holds = record {
-          order = g .order;
-          inside = g .inside;
-          placed = placed-set s (t .names) (14 + k) a e (omega arith) (g .names-size) o l (g .placed);
-          inputCount = g .inputCount;
-          outputCount = g .outputCount;
-          inputTerms = kept (λ (v : Input). v .terms) 7 (t .inputs) i (longer (inputRow t i)) no-input (omega arith) (g .inputTerms);
-          outputTerms = g .outputTerms;
-          pointCounts = kept (λ (m : ℕ). m) 4 (t .counts) k 0 0 (omega arith) (g .pointCounts);
-          names-size = simp length-set (g .names-size);
-          inputs-size = simp length-set (g .inputs-size);
-          outputs-size = g .outputs-size;
-          counts-size = simp length-set (g .counts-size);
-          points-size = g .points-size;
-          singletons-size = g .singletons-size;
-        };
+        holds = holdsOf (g .order) (g .inside) (placed-set s (t .names) (14 + k) a e (omega arith) (g .names-size) o l (g .placed)) (g .inputCount)
+            (g .outputCount) (kept (λ (v : Input). v .terms) 7 (t .inputs) i (longer (inputRow t i)) no-input (omega arith) (g .inputTerms)) (g .outputTerms)
+            (kept (λ (m : ℕ). m) 4 (t .counts) k 0 0 (omega arith) (g .pointCounts)) (simp length-set (g .names-size)) (simp length-set (g .inputs-size))
+            (g .outputs-size) (simp length-set (g .counts-size)) (g .points-size) (g .singletons-size);
       }
 
 pub is-last : (s : List ℕ) (t : Tables) (i k a e : ℕ) → k ≡ i * 7 + inputRow t i .terms → i < t .«input_count» → Holds s t → LastTerm (withTerm t i k a e) i k

@@ -19,6 +19,7 @@ use Rattle.lookup.specs.Names.{nameOf}
 use Rattle.block_tables.specs.declared.Input.{Input}
 use Rattle.block_tables.specs.declared.Tables.{Tables}
 use Rattle.block_tables.specs.View.{no-input, pointView, termView, inputView, singletonView, outputView, outputsView, declared, blockView, Holds}
+use Rattle.block_updates.proofs.Fields.{tablesOf, holdsOf}
 use Rattle.block_updates.specs.Changes.{Changes, Typed}
 use Rattle.block_updates.proofs.Tabs.{tab-from}
 use Rattle.block_updates.proofs.Views.{term-same, input-same}
@@ -60,18 +61,7 @@ typed-end old new from i to d k h l = record {
     behind j a b false q = d .behind j a (ltb-false j i q)
 
 abbrev pub withInputs : Tables → List Input → Tables
-withInputs t rows = record {
-  start = t .start;
-  end = t .end;
-  «input_count» = t .«input_count»;
-  «output_count» = t .«output_count»;
-  names = t .names;
-  inputs = rows;
-  outputs = t .outputs;
-  counts = t .counts;
-  points = t .points;
-  singletons = t .singletons;
-}
+withInputs t rows = tablesOf (t .start) (t .end) (t .«input_count») (t .«output_count») (t .names) rows (t .outputs) (t .counts) (t .points) (t .singletons)
 
 module _ (s : List ℕ) (t : Tables) (n : ℕ) (rows : List Input) (d : Typed (t .inputs) n (t .«input_count») rows) (g : Holds s t) where
   input-stays : (i : ℕ) → i < n → inputView s (withInputs t rows) i ≡ inputView s t i
@@ -98,20 +88,6 @@ module _ (s : List ℕ) (t : Tables) (n : ℕ) (rows : List Input) (d : Typed (t
       (λ k a b. simp zero-add (input-typed k b a)) in
       record {
         view = λ x. declared (slice (t .start) (t .end) s) (p x) (outputsView s t);
-        holds = record {
-          order = g .order;
-          inside = g .inside;
-          placed = g .placed;
-          inputCount = g .inputCount;
-          outputCount = g .outputCount;
-          inputTerms = bound;
-          outputTerms = g .outputTerms;
-          pointCounts = g .pointCounts;
-          names-size = g .names-size;
-          inputs-size = d .size;
-          outputs-size = g .outputs-size;
-          counts-size = g .counts-size;
-          points-size = g .points-size;
-          singletons-size = g .singletons-size;
-        };
+        holds = holdsOf (g .order) (g .inside) (g .placed) (g .inputCount) (g .outputCount) bound (g .outputTerms) (g .pointCounts) (g .names-size) (d .size)
+            (g .outputs-size) (g .counts-size) (g .points-size) (g .singletons-size);
       }
