@@ -105,5 +105,5 @@ growth("  rules", "text_vectors", [8, 16, 32, 64], lambda n: block(n, 9))
 print("load check, by rules of nine condition words")
 growth("  rules", "image_vectors", [8, 16, 32, 64], lambda n: image(n, 9))
 for name in ["text_vectors", "image_vectors"]:
-    print(f"{name}: peak of the stack {peak(name)} bytes; frames of 400 bytes and more")
-    frames(name, 400)
+    print(f"{name}: peak of the stack {peak(name)} bytes; frames of 300 bytes and more")
+    frames(name, 300)
