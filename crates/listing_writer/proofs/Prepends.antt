@@ -4,7 +4,6 @@ use mathlib.Core.List.{List, [], _∷_, _++_, append-assoc, append-nil}
 use Prim.Native.Nat.{ℕ, suc, _+_, _-_, _≤_, _<_}
 use native.Mathlib.Omega.{arith}
 use borrow.Author.Tests.{le-ltb, lt-ltb}
-use lib.Dec.{ltb}
 use lib.ListN.{length, getD, set, drop, take, length-append}
 use lib.Seq.{drop-cons, drop-length, take-suc, take-all, set-at, length-take-le}
 use Rattle.listing_writer.specs.Prepends.{top, next, setBefore, countAfter, prepended, Prepends}
