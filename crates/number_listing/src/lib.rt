@@ -9,7 +9,7 @@ use listing_writer::put;
 use model::Crisp;
 use model::Degree;
 
-fn digit(d: u32) -> u8
+fn digit(d: usize) -> u8
     requires { ⌜ d < 10 ⌝ }
     ensures { λ r. ⌜ r ≡ 48 + d ⌝ }
 {
@@ -17,7 +17,7 @@ fn digit(d: u32) -> u8
 }
 
 // The decimal digits of a number.
-pub fn digits(out: &mut [u8], k: usize, n: u32) -> usize
+pub fn digits(out: &mut [u8], k: usize, n: usize) -> usize
     ensures { λ r. ⌜ Prepends k r (digits n) (now (out .entry)) (now (out .exit)) ⌝ }
 {
     let mut p = k;
@@ -30,7 +30,7 @@ pub fn digits(out: &mut [u8], k: usize, n: u32) -> usize
 }
 
 // The last digit, without a zero.
-fn last_digit(out: &mut [u8], k: usize, n: u32) -> usize
+fn last_digit(out: &mut [u8], k: usize, n: usize) -> usize
     ensures { λ r. ⌜ Prepends k r (trimmed (lastDigit n)) (now (out .entry)) (now (out .exit)) ⌝ }
 {
     if n % 10 == 0 {
@@ -40,7 +40,7 @@ fn last_digit(out: &mut [u8], k: usize, n: u32) -> usize
 }
 
 // The last two digits, without the zeros at their end.
-fn last_two(out: &mut [u8], k: usize, n: u32) -> usize
+fn last_two(out: &mut [u8], k: usize, n: usize) -> usize
     ensures { λ r. ⌜ Prepends k r (trimmed (lastTwo n)) (now (out .entry)) (now (out .exit)) ⌝ }
 {
     if n % 100 == 0 {
@@ -51,7 +51,7 @@ fn last_two(out: &mut [u8], k: usize, n: u32) -> usize
 }
 
 // The point and the three digits behind it, without the zeros at their end.
-fn fraction(out: &mut [u8], k: usize, n: u32) -> usize
+fn fraction(out: &mut [u8], k: usize, n: usize) -> usize
     ensures { λ r. ⌜ Prepends k r (afterPoint (trimmed (lastThree n))) (now (out .entry)) (now (out .exit)) ⌝ }
 {
     if n % 1000 == 0 {
@@ -62,7 +62,7 @@ fn fraction(out: &mut [u8], k: usize, n: u32) -> usize
     put(out, q, b'.')
 }
 
-pub fn thousandths(out: &mut [u8], k: usize, n: u32) -> usize
+pub fn thousandths(out: &mut [u8], k: usize, n: usize) -> usize
     ensures { λ r. ⌜ Prepends k r (thousandthsText n) (now (out .entry)) (now (out .exit)) ⌝ }
 {
     let p = fraction(out, k, n);
@@ -70,14 +70,14 @@ pub fn thousandths(out: &mut [u8], k: usize, n: u32) -> usize
 }
 
 // How far x is from 0; of the least i32 too.
-fn magnitude(x: Crisp) -> u32
+fn magnitude(x: Crisp) -> usize
     ensures { λ r. ⌜ r ≡ natAbs (x .0) ⌝ }
 {
     let v = x.0;
     if v < 0 {
-        return (0 - v as i64) as u32;
+        return (0 - v as i64) as usize;
     }
-    v as u32
+    v as usize
 }
 
 pub fn crisp(out: &mut [u8], k: usize, x: Crisp) -> usize
@@ -94,5 +94,5 @@ pub fn crisp(out: &mut [u8], k: usize, x: Crisp) -> usize
 pub fn unit(out: &mut [u8], k: usize, d: Degree) -> usize
     ensures { λ r. ⌜ Prepends k r (unitText (d .0)) (now (out .entry)) (now (out .exit)) ⌝ }
 {
-    thousandths(out, k, d.0 / 1000)
+    thousandths(out, k, (d.0 / 1000) as usize)
 }

@@ -35,7 +35,7 @@ cast-result-2 : tie.Need-cast-result-2
 cast-result-2 c =
     let s = small (x c) (in-32 c) in
     rw (toZ-ofZ w32 (x c) (in-32 c), toZ-ofZ w64 (x c) (in-64 c), negated (x c) (below c), toZ-pos w64 (natAbs (x c)) (omega arith))
-    (tt, record { fits = s })
+    (tt, record { fits = omega (arith, s) })
 
 returns : tie.Need-returns
 returns c =
@@ -53,7 +53,7 @@ module _ (c : tie.Else1) where
   above = rw (toZ-ofZ w32 y within) at (c .if1 .left)
 
 cast-result-3 : tie.Need-cast-result-3
-cast-result-3 c = rw (toZ-ofZ w32 (y c) (within c)) (positive (y c) (above c), record { fits = small (y c) (within c) })
+cast-result-3 c = rw (toZ-ofZ w32 (y c) (within c)) (positive (y c) (above c), record { fits = omega (arith, small (y c) (within c)) })
 
 returns-2 : tie.Need-returns-2
 returns-2 c = rw (toZ-ofZ w32 (y c) (within c))
