@@ -12,3 +12,4 @@ pub mod Search
 pub mod Slices
 pub mod Again
 pub mod Signed
+pub mod Finding

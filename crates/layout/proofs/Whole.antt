@@ -69,7 +69,7 @@ module _ (w : ℕ → ℕ) where
   words-stand zero i = tt
   words-stand (suc k) i = (refl, at-shift w (w 14 + suc i) (suc (w 14 + i)) (tab (λ m. w (w 14 + m)) k (suc i)) (omega arith) (words-stand k (suc i)))
 
-  term-next : (i n : ℕ) → termNext n (termAt w i) ≡ n + termCount w i
+  pub term-next : (i n : ℕ) → termNext n (termAt w i) ≡ n + termCount w i
   unfolding termAt
   term-next i n = ap (λ (x : ℕ). n + x) (length-tab (pointAt w) (w (w 11 + i * 6 + 5)) (w (w 11 + i * 6 + 4)))
 

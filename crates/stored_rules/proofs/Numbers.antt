@@ -15,8 +15,8 @@ use Rattle.model.specs.Bounds.{ruleNumberLeast, ruleNumberLimit}
 use Rattle.model.specs.WellFormed.{ruleOk}
 use Rattle.model.specs.Image.{tab, ruleAt}
 use Rattle.laws.proofs.Tests.{both, passed}
+use Rattle.laws.proofs.Places.{distinct-more, distinct-stop}
 use Rattle.stored_rules.specs.Walk.{ruleNumber, ruleStored, rowStored, rulesWalk}
-use Rattle.stored_rules.proofs.Loops.{distinct-more, distinct-stop}
 
 not-back : (a : Bool) (b : Bool) → b ≡ not a → a ≡ not b
 not-back true b e = ap not (sym e)
