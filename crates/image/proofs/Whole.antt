@@ -10,12 +10,13 @@ use lib.ListN.{length, take, drop, length-append}
 use lib.Seq.{slice}
 use borrow.Author.Tests.{lt-ltb, le-ltb}
 use Rattle.model.specs.Basic.{gather}
-use Rattle.model.specs.Block.{Block, Rule, inputTerms, conclusions}
+use Rattle.model.specs.Block.{Block, Rule, conclusions}
 use Rattle.model.specs.Block as block
 use Rattle.model.specs.Image.{terms, points, pairWord, pairOf, accuWord, accuOf, actWord, actOf, nameWords, inputTable, outputTable, termTable, pointWords, ruleTable, postfix, conclusionWords, counts, widths, offsets, endOf, headerSize, header, words, image}
 use Rattle.model.specs.Outcome.{accepted, refused, into, lengthIn, bufferAfter}
 use Rattle.laws.proofs.Conditions.{length-pairs}
 use Rattle.words.proofs.Bytes.{length-bytes}
+use Rattle.layout.specs.Rows.{laid}
 use Rattle.layout.specs.Tables.{inputRow, inputNext, outputRow, outputNext, termRow, termNext, ruleRow, ruleNext}
 use Rattle.layout.proofs.RowLaws.{length-laid}
 use Rattle.layout.proofs.TableLaws.{input-table, output-table, term-table, rule-table}
@@ -50,8 +51,8 @@ module _ (b : Block) where
       no : block.Input
       no = record { name = []; type = Rattle.model.specs.declared.InputType.the-variants.Real; terms = [] }
 
-  length-outputs : (n : ℕ) → length (outputTable n (b .outputs)) ≡ length (b .outputs) * 11
-  length-outputs n = ap length (output-table n (b .outputs)) ∙ length-laid outputRow outputNext (λ k. no) (λ k. k) 0 11 wide-output n (b .outputs)
+  length-outputs : length (outputTable b 0 (b .outputs)) ≡ length (b .outputs) * 11
+  length-outputs = ap length (output-table b) ∙ length-laid outputRow outputNext (λ k. no) (λ k. k) 0 11 wide-output _ (b .outputs)
     where
       no : block.Output
       no = record { name = []; terms = []; range = mathlib.Core.Option.none; default = mathlib.Core.Option.none }
@@ -76,20 +77,20 @@ module _ (b : Block) where
       let e = ruleTable 0 0 (b .rules) ++ f in
       let d = gather pointWords (points b) ++ e in
       let c = termTable 0 (terms b) ++ d in
-      let o = outputTable (length (inputTerms b)) (b .outputs) ++ c in
+      let o = outputTable b 0 (b .outputs) ++ c in
       let i = inputTable 0 (b .inputs) ++ o in
       omega (
         arith,
         length-append (header b) i,
         length-append (inputTable 0 (b .inputs)) o,
-        length-append (outputTable (length (inputTerms b)) (b .outputs)) c,
+        length-append (outputTable b 0 (b .outputs)) c,
         length-append (termTable 0 (terms b)) d,
         length-append (gather pointWords (points b)) e,
         length-append (ruleTable 0 0 (b .rules)) f,
         length-append (gather (λ r. postfix (r .condition)) (b .rules)) g,
         length-header b,
         length-inputs,
-        length-outputs (length (inputTerms b)),
+        length-outputs,
         length-terms,
         length-points (points b),
         length-rules,
@@ -154,7 +155,8 @@ module _ (s : List ℕ) (t : Tables) (h : Heading) (rs : List Rule) (ok : Holds 
   words-are =
       (λ j. header-is j
       ++ (inputs-laid s t j
-      ++ ((ap (λ (x : ℕ). outputTable x (outputsView s t)) (first-output s t ok own list order) ∙ outputs-laid s t (own .count)) j
+      ++ ((output-table (wholeView s t h rs)
+      ∙ ap (λ (x : ℕ). laid outputRow outputNext x (outputsView s t)) (first-output s t ok own list order) ∙ outputs-laid s t (own .count)) j
       ++ (terms-laid s t ok own list order j
       ++ (points-laid s t ok own list order j
       ++ (all-kept rs rules ws ks m n k kept wide long full .table j

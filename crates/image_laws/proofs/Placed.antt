@@ -5,7 +5,7 @@ use Prim.Native.Nat.{ℕ, _+_, _*_}
 use native.Mathlib.Omega.{arith}
 use lib.ListN.{length}
 use Rattle.model.specs.Basic.{gather, total}
-use Rattle.model.specs.Block.{Block, inputTerms, conclusions, size}
+use Rattle.model.specs.Block.{Block, conclusions, size}
 use Rattle.model.specs.Image.{pairWord, accuWord, actWord, nameWords, terms, points, postfix, inputTable, outputTable, termTable, pointWords, ruleTable, conclusionWords, offsets, endOf, header, words, pointAt, termAt, inputAt, outputAt, ruleAt}
 use Rattle.laws.proofs.Places.{At, at-shift, at-cut}
 use Rattle.layout.specs.Tables.{inputRow, inputNext, outputRow, outputNext, termRow, termNext, ruleRow, ruleNext, alone, onward}
@@ -24,7 +24,7 @@ pub record Placed (w : ℕ → ℕ) (b : Block) : Type 0 where
   pub rules : w 6 ≡ length (b .rules)
   pub codes : At w 16 (codeWords b)
   pub inputsAt : At w (w 9) (inputTable 0 (b .inputs))
-  pub outputsAt : At w (w 10) (outputTable (length (inputTerms b)) (b .outputs))
+  pub outputsAt : At w (w 10) (outputTable b 0 (b .outputs))
   pub termsAt : At w (w 11) (termTable 0 (terms b))
   pub pointsAt : At w (w 12) (gather pointWords (points b))
   pub rulesAt : At w (w 13) (ruleTable 0 0 (b .rules))
@@ -36,7 +36,7 @@ module _ (w : ℕ → ℕ) (b : Block) where
   I = inputTable 0 (b .inputs)
 
   abbrev O : List ℕ
-  O = outputTable (length (inputTerms b)) (b .outputs)
+  O = outputTable b 0 (b .outputs)
 
   abbrev T : List ℕ
   T = termTable 0 (terms b)
@@ -65,9 +65,7 @@ module _ (w : ℕ → ℕ) (b : Block) where
   inputs-long = ap length (input-table 0 (b .inputs)) ∙ length-laid inputRow inputNext (inputAt w) w 0 7 wide-input 0 (b .inputs)
 
   outputs-long : length O ≡ length (b .outputs) * 11
-  outputs-long =
-      let n = length (inputTerms b) in
-      ap length (output-table n (b .outputs)) ∙ length-laid outputRow outputNext (outputAt w) w 0 11 wide-output n (b .outputs)
+  outputs-long = ap length (output-table b) ∙ length-laid outputRow outputNext (outputAt w) w 0 11 wide-output _ (b .outputs)
 
   terms-long : length T ≡ length (terms b) * 6
   terms-long = ap length (term-table 0 (terms b)) ∙ length-laid termRow termNext (termAt w) w 0 6 wide-term 0 (terms b)

@@ -101,10 +101,10 @@ module _ (w : ℕ → ℕ) where
       ap length (input-table n (tab (inputAt w) (w 2) 0)) ∙ length-laid inputRow inputNext (inputAt w) w 0 7 wide-input n (tab (inputAt w) (w 2) 0)
       ∙ ap (λ (x : ℕ). x * 7) (length-tab (inputAt w) (w 2) 0)
 
-  outputs-long : (n : ℕ) → length (outputTable n (decode w .outputs)) ≡ w 3 * 11
+  outputs-long : length (outputTable (decode w) 0 (decode w .outputs)) ≡ w 3 * 11
   unfolding decode
-  outputs-long n =
-      ap length (output-table n (tab (outputAt w) (w 3) 0)) ∙ length-laid outputRow outputNext (outputAt w) w 0 11 wide-output n (tab (outputAt w) (w 3) 0)
+  outputs-long =
+      ap length (output-table (decode w)) ∙ length-laid outputRow outputNext (outputAt w) w 0 11 wide-output _ (tab (outputAt w) (w 3) 0)
       ∙ ap (λ (x : ℕ). x * 11) (length-tab (outputAt w) (w 3) 0)
 
   terms-long : (n : ℕ) (ts : List Term) → length (termTable n ts) ≡ length ts * 6
@@ -287,7 +287,7 @@ module _ (w : ℕ → ℕ) where
   I = inputTable 0 (decode w .inputs)
 
   abbrev O : List ℕ
-  O = outputTable (length (inputTerms (decode w))) (decode w .outputs)
+  O = outputTable (decode w) 0 (decode w .outputs)
 
   abbrev T : List ℕ
   T = termTable 0 (terms (decode w))
@@ -316,9 +316,9 @@ module _ (w : ℕ → ℕ) where
   outputs-stand f g h =
       let e : inputTermsIn w ≡ length (inputTerms (decode w)) = sym (ap length (inputTerms-are w g) ∙ length-tab (termAt w) (inputTermsIn w) 0) in
       lay (w 10 + 0 * 11) (28 + w 2 * 7) (laid outputRow outputNext (inputTermsIn w) (tab (outputAt w) (w 3) 0))
-      (outputTable (length (inputTerms (decode w))) (tab (outputAt w) (w 3) 0))
+      (outputTable (decode w) 0 (tab (outputAt w) (w 3) 0))
       (omega (arith, f .at10))
-      (sym (output-table (inputTermsIn w) (tab (outputAt w) (w 3) 0)) ∙ ap (λ (n : ℕ). outputTable n (tab (outputAt w) (w 3) 0)) e)
+      (ap (λ (n : ℕ). laid outputRow outputNext n (tab (outputAt w) (w 3) 0)) e ∙ sym (output-table (decode w)))
       (rows-out outputRow outputNext (outputAt w) w (w 10) 11 wide-output (w 3) 0 (inputTermsIn w) h)
 
   terms-stand : Offsets → inputRows w ≡ true → outputRows w ≡ true → inputTermRows w ≡ true → outputTermRows w ≡ true → At w (w 11) T
@@ -381,7 +381,7 @@ module _ (w : ℕ → ℕ) where
       → length (conclusions (decode w)) ≡ w 8 → Lengths
   lengths-from t p c k = record {
     inputs = inputs-long 0;
-    outputs = outputs-long (length (inputTerms (decode w)));
+    outputs = outputs-long;
     terms′ = terms-long 0 (terms (decode w)) ∙ ap (λ (x : ℕ). x * 6) t;
     points′ = points-long (points (decode w)) ∙ ap (λ (x : ℕ). x * 2) p;
     rules = rules-long 0 0;
@@ -552,10 +552,10 @@ module _ (w : ℕ → ℕ) where
   outputs-pass f g a =
       let e : length (inputTerms (decode w)) ≡ inputTermsIn w = ap length (inputTerms-are w g) ∙ length-tab (termAt w) (inputTermsIn w) 0 in
       rows-in outputRow outputNext (outputAt w) w (w 10) 11 wide-output (w 3) 0 (inputTermsIn w)
-      (lay (28 + w 2 * 7) (w 10 + 0 * 11) (outputTable (length (inputTerms (decode w))) (tab (outputAt w) (w 3) 0))
+      (lay (28 + w 2 * 7) (w 10 + 0 * 11) (outputTable (decode w) 0 (tab (outputAt w) (w 3) 0))
       (laid outputRow outputNext (inputTermsIn w) (tab (outputAt w) (w 3) 0))
       (omega (arith, f .at10))
-      (ap (λ (n : ℕ). outputTable n (tab (outputAt w) (w 3) 0)) e ∙ output-table (inputTermsIn w) (tab (outputAt w) (w 3) 0)) a)
+      (output-table (decode w) ∙ ap (λ (n : ℕ). laid outputRow outputNext n (tab (outputAt w) (w 3) 0)) e) a)
 
   terms-pass : inputRows w ≡ true → outputRows w ≡ true → At w (w 11) T → (inputTermRows w ≡ true) × (outputTermRows w ≡ true)
   unfolding inputTermRows outputTermRows
