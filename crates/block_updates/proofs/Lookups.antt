@@ -1,6 +1,6 @@
 -- What a block says of the names in the tables, of any block with these inputs and outputs.
 use mathlib.Core.Path.{_≡_, refl, ap, _∙_}
-use mathlib.Core.List.{List, [], _∷_, _++_, map}
+use mathlib.Core.List.{List, [], map}
 use mathlib.Core.Option.{none}
 use Prim.Native.Nat.{ℕ, suc, _+_, _*_, _-_, _≤_, _<_}
 use native.Mathlib.Omega.{arith}
@@ -11,7 +11,7 @@ use Rattle.model.specs.Block.{Block, termsOf, singletonsOf, rangeOf}
 use Rattle.model.specs.Image.{tab}
 use Rattle.model.specs.Tokens.{sameName}
 use Rattle.model.specs.Declarations.{inputOf, outputOf, termOf, singletonOf, lastPoints, pointsOf}
-use Rattle.laws.proofs.Lists.{map-tab}
+use Rattle.laws.proofs.Lists.{map-tab, last-points}
 use Rattle.laws.proofs.Places.{length-tab, tab-nth, tab-ext, tab-last}
 use Rattle.lookup.specs.Names.{nameOf}
 use Rattle.lookup.proofs.Names.{index-tab}
@@ -70,14 +70,9 @@ module _ (s : List ℕ) (t : Tables) (b : Block) (e : b .inputs ≡ inputsView s
       let q : inputRow t i .terms ≡ suc j = omega (arith, l .some) in
       let r : i * 7 + j ≡ k = omega (arith, l .last, l .some) in
       ap lastPoints (terms-are i (l .input) ∙ ap (λ (n : ℕ). tab (termView s t i) n 0) q ∙ tab-last (termView s t i) j 0)
-      ∙ last-is (tab (termView s t i) j 0) (termView s t i (0 + j))
+      ∙ last-points (tab (termView s t i) j 0) (termView s t i (0 + j))
       ∙ ap (λ (m : ℕ). termView s t i m .points) (omega arith)
       ∙ ap (λ (m : ℕ). tab (pointView t) (getD (t .counts) m 0) (m * 4)) r
-    where
-      last-is : (ts : List block.Term) (x : block.Term) → lastPoints (ts ++ (x ∷ [])) ≡ x .points
-      last-is [] x = refl
-      last-is (y ∷ []) x = refl
-      last-is (y ∷ z ∷ ts) x = last-is (z ∷ ts) x
 
 module _ (s : List ℕ) (t : Tables) (b : Block) (e : b .outputs ≡ outputsView s t) where
   pub output-of : (w : List ℕ) → outputOf w b ≡ indexOf (sameName w) (tab (nameOf s (t .names)) (t .«output_count») 8)

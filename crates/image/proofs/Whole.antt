@@ -17,10 +17,8 @@ use Rattle.model.specs.Outcome.{accepted, refused, into, lengthIn, bufferAfter}
 use Rattle.laws.proofs.Conditions.{length-pairs}
 use Rattle.words.proofs.Bytes.{length-bytes}
 use Rattle.layout.specs.Rows.{laid}
-use Rattle.layout.specs.Tables.{inputRow, inputNext, outputRow, outputNext, termRow, termNext, ruleRow, ruleNext}
-use Rattle.layout.proofs.RowLaws.{length-laid}
-use Rattle.layout.proofs.TableLaws.{input-table, output-table, term-table, rule-table}
-use Rattle.layout.proofs.Parts.{wide-input, wide-output, wide-term}
+use Rattle.layout.specs.Tables.{outputRow, outputNext}
+use Rattle.layout.proofs.TableLaws.{output-table}
 use Rattle.block_tables.specs.declared.Tables.{Tables}
 use Rattle.block_tables.specs.declared.Heading.{Heading}
 use Rattle.block_tables.specs.View.{outputsView, inputView, outputView, wholeView, Holds, Headed}
@@ -30,45 +28,13 @@ use Rattle.image.specs.declared.Counts.{Counts}
 use Rattle.image.specs.declared.Slots.{Slots}
 use Rattle.image.specs.Rows.{heldIn, variableRows, ruleRows, countList, headWords}
 use Rattle.image.proofs.Views.{Ordered, inputs-laid, outputs-laid, terms-laid, points-laid, first-output, terms-count, points-count}
+use Rattle.layout.proofs.Lengths.{header-long, inputs-long, outputs-long, terms-long, points-long, rules-long}
 use Rattle.layout.proofs.Whole.{length-conditions}
 use Rattle.layout.proofs.Codes.{pair-code, accu-code, act-code}
 use Rattle.image.proofs.Kept.{words-count, conclusions-count, all-kept}
 
 -- HOW LONG the words of a block are
-length-points : (ps : List block.Point) → length (gather pointWords ps) ≡ length ps * 2
-unfolding gather
-length-points [] = refl
-length-points (p ∷ ps) = omega (arith, length-points ps)
-
-length-header : (b : Block) → length (header b) ≡ 28
-unfolding header offsets nameWords
-length-header b = refl
-
 module _ (b : Block) where
-  length-inputs : length (inputTable 0 (b .inputs)) ≡ length (b .inputs) * 7
-  length-inputs = ap length (input-table 0 (b .inputs)) ∙ length-laid inputRow inputNext (λ k. no) (λ k. k) 0 7 wide-input 0 (b .inputs)
-    where
-      no : block.Input
-      no = record { name = []; type = Rattle.model.specs.declared.InputType.the-variants.Real; terms = [] }
-
-  length-outputs : length (outputTable b 0 (b .outputs)) ≡ length (b .outputs) * 11
-  length-outputs = ap length (output-table b) ∙ length-laid outputRow outputNext (λ k. no) (λ k. k) 0 11 wide-output _ (b .outputs)
-    where
-      no : block.Output
-      no = record { name = []; terms = []; range = mathlib.Core.Option.none; default = mathlib.Core.Option.none }
-
-  length-terms : length (termTable 0 (terms b)) ≡ length (terms b) * 6
-  length-terms = ap length (term-table 0 (terms b)) ∙ length-laid termRow termNext (λ k. no) (λ k. k) 0 6 wide-term 0 (terms b)
-    where
-      no : block.Term
-      no = record { name = []; points = [] }
-
-  length-rules : length (ruleTable 0 0 (b .rules)) ≡ length (b .rules) * 6
-  length-rules = ap length (rule-table 0 0 (b .rules)) ∙ length-laid ruleRow ruleNext (λ k. no) (λ k. k) 0 6 (λ σ r. refl) (0, 0) (b .rules)
-    where
-      no : Rule
-      no = record { number = 0; condition = block.term 0; conclusions = []; weight = 0 }
-
   length-words : length (words b) ≡ endOf headerSize (counts b) widths
   unfolding words endOf
   length-words =
@@ -88,12 +54,12 @@ module _ (b : Block) where
         length-append (gather pointWords (points b)) e,
         length-append (ruleTable 0 0 (b .rules)) f,
         length-append (gather (λ r. postfix (r .condition)) (b .rules)) g,
-        length-header b,
-        length-inputs,
-        length-outputs,
-        length-terms,
-        length-points (points b),
-        length-rules,
+        header-long b,
+        inputs-long b,
+        outputs-long b,
+        terms-long b,
+        points-long b,
+        rules-long b,
         length-conditions (b .rules),
         length-pairs (conclusions b),
       )

@@ -255,7 +255,8 @@ module _ (b : Block) (h : wellFormed b ≡ true) where
       let r = c .rules in
       let w = c .words′ in
       let k = c .conclusions′ in
-      let names = each-append Fits (nameWords (b .name)) (nameWords (b .ruleBlock)) (name-fits (b .name) (f .name)) (name-fits (b .ruleBlock) (f .ruleBlock)) in (
+      let names = each-append Fits (nameWords (b .name)) (nameWords (b .ruleBlock))
+      (name-fits (b .name) (f .name)) (name-fits (b .ruleBlock) (f .ruleBlock)) in (
         omega arith,
         (
           omega arith,

@@ -2,6 +2,7 @@ pub mod Tests
 pub mod Each
 pub mod Places
 pub mod Lists
+pub mod Arrays
 pub mod Conditions
 pub mod Pieces
 pub mod Walk

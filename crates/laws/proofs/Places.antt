@@ -139,10 +139,6 @@ fill-front {A} f d y n i h e =
     ∙ sym (append-snoc (tab f i 0) (f (0 + i)) rest)
     ∙ ap (λ (l : List A). l ++ rest) (sym (tab-last f i 0) ∙ ap (λ (k : ℕ). tab f k 0) (omega arith))
 
-pub map-replicate : {A B : Type 0} (g : A → B) (n : ℕ) (a : A) → map g (replicate n a) ≡ replicate n (g a)
-map-replicate g zero a = refl
-map-replicate {B = B} g (suc n) a = ap (λ (l : List B). g a ∷ l) (map-replicate g n a)
-
 -- ELEMENTS
 pub tab-nth : {A : Type 0} (f : ℕ → A) (n p k : ℕ) (d : A) → k < n → getD (tab f n p) k d ≡ f (p + k)
 unfolding tab

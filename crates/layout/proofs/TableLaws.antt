@@ -9,6 +9,7 @@ use lib.Seq.{take-at}
 use Rattle.model.specs.Basic.{same, gather, total}
 use Rattle.model.specs.Block.{Input, Output, Term, Rule, Block, inputTerms, outputFirst, size}
 use Rattle.model.specs.Image.{nameWords, rangeWords, defaultWords, inputTable, outputTable, termTable, ruleTable, tab}
+use Rattle.laws.proofs.Lists as lists
 use Rattle.laws.proofs.Lists.{tab-append, total-last}
 use Rattle.laws.proofs.Tests.{both}
 use Rattle.layout.specs.Rows.{laid, rowsOk}
@@ -106,14 +107,12 @@ pub sums-more : (c : ℕ → ℕ) (k i : ℕ) → sums c (suc k) i ≡ c i + sum
 unfolding sums
 sums-more c k i = refl
 
-pub length-gather : {R A : Type 0} (items : R → List A) (dec : ℕ → R) (c : ℕ → ℕ) → ((j : ℕ) → length (items (dec j)) ≡ c j)
-    → (k i : ℕ) → length (gather items (tab dec k i)) ≡ sums c k i
-unfolding gather tab sums
-length-gather items dec c e zero i = refl
-length-gather items dec c e (suc k) i =
-    length-append (items (dec i)) (gather items (tab dec k (suc i))) ∙ (λ j. e i j + length-gather items dec c e k (suc i) j)
-
 pub total-sums : {R : Type 0} (size : R → ℕ) (dec : ℕ → R) (c : ℕ → ℕ) → ((j : ℕ) → size (dec j) ≡ c j) → (k i : ℕ) → total size (tab dec k i) ≡ sums c k i
 unfolding total tab sums
 total-sums size dec c e zero i = refl
 total-sums size dec c e (suc k) i = λ j. e i j + total-sums size dec c e k (suc i) j
+
+pub length-gather : {R A : Type 0} (items : R → List A) (dec : ℕ → R) (c : ℕ → ℕ) → ((j : ℕ) → length (items (dec j)) ≡ c j)
+    → (k i : ℕ) → length (gather items (tab dec k i)) ≡ sums c k i
+length-gather items dec c e k i =
+    lists.length-gather items _ (λ r. refl) (tab dec k i) ∙ total-sums (λ r. length (items r)) dec c e k i

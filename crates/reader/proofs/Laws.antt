@@ -115,10 +115,12 @@ module _ (s : List ℕ) (t : Tables) (h : Heading) where
         unfolding readsInto
         refused-so z =
             let e : outcomeOf end ≡ refused (end .why) (some (end .place)) = simp (ne-eqb _ _ (λ q. z (why-is ∙ q))) refl in
-            ap (λ (o : Outcome Block). andThen o (λ b. into room (image b))) (text-not-too-long s l ∙ e) ∙ (λ j. refused (sym why-is j) (some (sym place-is j)))
+            ap (λ (o : Outcome Block). andThen o (λ b. into room (image b))) (text-not-too-long s l ∙ e)
+            ∙ (λ j. refused (sym why-is j) (some (sym place-is j)))
 
         pub accepted-so : f .why ≡ 0 → readsInto room s ≡ into room (image (wholeView s t h rs))
         unfolding readsInto
         accepted-so z =
             let e : outcomeOf end ≡ accepted (end .block) = simp (eq-eqb _ _ (sym why-is ∙ z)) refl in
-            ap (λ (o : Outcome Block). andThen o (λ b. into room (image b))) (text-not-too-long s l ∙ e) ∙ ap (λ (b : Block). into room (image b)) (sym block-is)
+            ap (λ (o : Outcome Block). andThen o (λ b. into room (image b))) (text-not-too-long s l ∙ e)
+            ∙ ap (λ (b : Block). into room (image b)) (sym block-is)
