@@ -1,19 +1,14 @@
 -- What is written is the image of the block that the arrays stand for, and how long that is.
-use mathlib.Core.Path.{_≡_, refl, sym, ap, _∙_}
+use mathlib.Core.Path.{_≡_, sym, ap, _∙_}
 use mathlib.Core.List.{List, [], _∷_, _++_, append-assoc}
-use mathlib.Core.Bool.{false}
-use mathlib.Core.Option.{some}
-use Prim.Native.Nat.{ℕ, _*_, _≤_, _<_}
+use Prim.Native.Nat.{ℕ, _*_}
 use native.Mathlib.Omega.{arith}
-use lib.Dec.{ltb}
-use lib.ListN.{length, take, drop, length-append}
+use lib.ListN.{length, take, length-append}
 use lib.Seq.{slice}
-use borrow.Author.Tests.{lt-ltb, le-ltb}
 use Rattle.model.specs.Basic.{gather}
 use Rattle.model.specs.Block.{Block, Rule, conclusions}
 use Rattle.model.specs.Block as block
 use Rattle.model.specs.Image.{terms, points, pairWord, pairOf, accuWord, accuOf, actWord, actOf, nameWords, inputTable, outputTable, termTable, pointWords, ruleTable, postfix, conclusionWords, counts, widths, offsets, endOf, headerSize, header, words, image}
-use Rattle.model.specs.Outcome.{accepted, refused, into, lengthIn, bufferAfter}
 use Rattle.laws.proofs.Conditions.{length-pairs}
 use Rattle.words.proofs.Bytes.{length-bytes}
 use Rattle.layout.specs.Rows.{laid}
@@ -63,20 +58,6 @@ module _ (b : Block) where
         length-conditions (b .rules),
         length-pairs (conclusions b),
       )
-
--- THE ANSWERS
-module _ (img old : List ℕ) (n : ℕ) (long : length img ≡ n) where
-  pub too-short : length old < n → (refused 10 (some n) ≡ lengthIn (into (length old) img)) × (old ≡ bufferAfter old (into (length old) img))
-  unfolding into
-  too-short h = rw (long, lt-ltb (length old) n h) (refl, refl)
-
-  fits : n ≤ length old → into (length old) img ≡ accepted img
-  unfolding into
-  fits h = let f : ltb (length old) (length img) ≡ false = le-ltb (length old) (length img) (omega arith) in rw f
-
-  pub stored : (new : List ℕ) → n ≤ length old → new ≡ img ++ drop n old
-      → (accepted n ≡ lengthIn (into (length old) img)) × (new ≡ bufferAfter old (into (length old) img))
-  stored new h e = (rw (fits h) (ap accepted (sym long)), rw (fits h) (e ∙ ap (λ (k : ℕ). img ++ drop k old) (sym long)))
 
 -- THE WHOLE
 module _ (s : List ℕ) (t : Tables) (h : Heading) (rs : List Rule) (ok : Holds s t) (head : Headed s h) (own list : Slots) (order : Ordered t own list)

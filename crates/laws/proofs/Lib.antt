@@ -14,3 +14,4 @@ pub mod Slices
 pub mod Again
 pub mod Signed
 pub mod Finding
+pub mod Buffers

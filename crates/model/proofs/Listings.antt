@@ -1,5 +1,7 @@
--- Listings: numbers without needless zeros, every line of every part, and a text that is put into the order of its listing.
+-- Listings: numbers without needless zeros, every line of every part, a text that is put into the order of its listing, and
+-- what the listing program prints.
 use mathlib.Core.List.{List, [], _∷_, _++_, map}
+use mathlib.Core.Option.{none, some}
 use mathlib.Core.Path.{_≡_, refl}
 use Prim.Native.Nat.{ℕ}
 use Prim.Native.String.{String}
@@ -8,7 +10,9 @@ use Rattle.model.specs.Basic.{bytes}
 use Rattle.model.specs.Outcome.{Outcome, accepted, andThen}
 use Rattle.model.specs.Reader.{reads}
 use Rattle.model.specs.Listing.{digits, crispText, unitText, listing}
+use Rattle.model.specs.Printed.{refusedLine, printed}
 use Rattle.model.proofs.Opened.{opened}
+use Rattle.model.proofs.Example.{exampleText, exampleListing}
 use Rattle.model.proofs.Texts.{defuzzified, ruleEnded}
 
 abbrev listed : List ℕ → Outcome (List ℕ)
@@ -81,3 +85,17 @@ algorithm-lines :
     ∷ "AND : BDIF;\n  OR : BSUM;\n  ACT : MIN;\n  ACCU : MAX" ∷ [])
 unfolding opened
 algorithm-lines = refl
+
+-- THE PROGRAM
+prints-example : printed exampleText ≡ exampleListing
+unfolding opened
+prints-example = refl
+
+prints-refusals : map (λ w. printed (bytes w)) ("" ∷ "FUNCTION_BLOCK VAR" ∷ "FUNCTION_BLOCK f VAR_INPUT a, a: REAL;" ∷ "  (*)" ∷ [])
+    ≡ map bytes ("refused 2 at 0\n" ∷ "refused 2 at 15\n" ∷ "refused 4 at 30\n" ∷ "refused 2 at 2\n" ∷ [])
+unfolding opened
+prints-refusals = refl
+
+prints-places : refusedLine 10 (some 31421) ∷ refusedLine 11 none ∷ [] ≡ map bytes ("refused 10 at 31421\n" ∷ "refused 11 at none\n" ∷ [])
+unfolding opened
+prints-places = refl

@@ -14,6 +14,7 @@ pub mod WellFormed
 pub mod Image
 pub mod Listing
 pub mod Buffers
+pub mod Printed
 pub mod Degrees
 pub mod Readings
 pub mod Evaluation

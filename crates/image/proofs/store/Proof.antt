@@ -13,7 +13,8 @@ use Rattle.image.specs.declared.Counts.{Counts}
 use Rattle.image.specs.Rows.{headWords, variableWords, entriesOf}
 use Rattle.word_writer.proofs.Over.{joined, retold, from-start}
 use Rattle.image.proofs.Views.{Ordered}
-use Rattle.image.proofs.Whole.{words-are, size-is, too-short, stored}
+use Rattle.laws.proofs.Buffers.{too-short, stored}
+use Rattle.image.proofs.Whole.{words-are, size-is}
 use Rattle.image.proofs.store.Statement.{statement}
 use Rattle.image.proofs.store.Tie as tie
 

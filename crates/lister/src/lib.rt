@@ -1,0 +1,57 @@
+// The lister: a stored image to its text, or the refusal by number.
+ghost use mathlib.Core.Path.{_≡_};
+ghost use lib.ListN.{length};
+ghost use Rattle.model.specs.Outcome.{lengthIn, bufferAfter};
+ghost use Rattle.model.specs.Refusals.{writtenOf};
+ghost use Rattle.model.specs.Image.{wordAt, decode};
+ghost use Rattle.model.specs.Listing.{listing};
+ghost use Rattle.model.specs.Buffers.{listsInto};
+ghost use Rattle.header.specs.Header.{Heads};
+ghost use Rattle.layout.specs.Groups.{Sound};
+ghost use Rattle.listing_writer.specs.Prepends.{Prepends};
+use header::Header;
+use listing_writer::puts;
+use model::Refusal;
+use model::Written;
+
+// No listing is longer.
+pub const LONGEST: usize = 31_421;
+
+// The text of an accepted image.
+fn block(out: &mut [u8], k: usize, img: &[u8], h: Header) -> usize
+    requires { ⌜ Sound (wordAt (now img)) × Heads (wordAt (now img)) h ⌝ }
+    ensures { λ r. ⌜ Prepends k r (listing (decode (wordAt (now (img .entry))))) (now (out .entry)) (now (out .exit)) ⌝ }
+{
+    let a = puts(out, k, b"END_FUNCTION_BLOCK\n");
+    let b = rule_listing::rule_block(out, a, img, h);
+    let c = variable_listing::defuzzify_parts(out, b, img, h);
+    let d = variable_listing::fuzzify_parts(out, c, img, h);
+    let e = puts(out, d, b"END_VAR\n");
+    let f = variable_listing::output_declarations(out, e, img, h);
+    let g = puts(out, f, b"END_VAR\nVAR_OUTPUT\n");
+    let i = variable_listing::input_declarations(out, g, img, h);
+    let j = puts(out, i, b"\nVAR_INPUT\n");
+    let l = name_listing::name(out, j, img, header::BLOCK_NAME);
+    puts(out, l, b"FUNCTION_BLOCK ")
+}
+
+// The listing of the image into the buffer: its length, or the refusal, which leaves the buffer as it came.
+pub fn list(img: &[u8], out: &mut [u8]) -> Written
+    ensures { λ r. ⌜ writtenOf r ≡ lengthIn (listsInto (length (now (out .entry))) (now (img .entry))) ⌝ }
+    ensures buffer { λ r. ⌜ now (out .exit)
+        ≡ bufferAfter (now (out .entry)) (listsInto (length (now (out .entry))) (now (img .entry))) ⌝ }
+{
+    let c = load::examine(img);
+    if !c.ok {
+        return Written::Refused(Refusal::ImageNotAccepted);
+    }
+    let h = c.header;
+    let mut text = [0u8; LONGEST];
+    let n = block(&mut text, 0, img, h);
+    if out.len() < n {
+        return Written::Refused(Refusal::BufferTooShort(n));
+    }
+    let first = LONGEST - n;
+    bytes::copy(&text[first..], out);
+    Written::Bytes(n)
+}
