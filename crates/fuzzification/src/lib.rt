@@ -41,7 +41,7 @@ fn point_at(img: &[u8], h: Header, i: usize) -> Point
 }
 
 // The n points from the first on.
-fn term_points(img: &[u8], h: Header, first: usize, n: usize) -> [Point; bounds::POINTS]
+pub fn term_points(img: &[u8], h: Header, first: usize, n: usize) -> [Point; bounds::POINTS]
     requires { ⌜ Heads (wordAt (now img)) h × (first ≤ 4294967295) × (n ≤ pointLimit) ⌝ }
     ensures { λ r. ⌜ map pointView r
         ≡ filled pointLimit (pointView noPoint) (tab (pointAt (wordAt (now (img .entry)))) n first) ⌝ }

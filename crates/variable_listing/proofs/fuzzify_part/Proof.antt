@@ -1,0 +1,112 @@
+use native.Mathlib.Omega.{arith}
+use mathlib.Core.Path.{_≡_, ap, _∙_}
+use Prim.Native.Nat.{ℕ, _+_}
+use Rattle.model.specs.Image.{wordAt, inputPlace, inputAt}
+use Rattle.model.specs.Listing.{fuzzifyText}
+use Rattle.layout.specs.Tables.{inputCount}
+use Rattle.listing_writer.proofs.Prepends.{joined}
+use Rattle.fuzzification.proofs.Entries.{input-limit, first-is, accepted-terms}
+use borrow.Author.Needs.{needs}
+use Rattle.variable_listing.proofs.fuzzify_part.Statement.{statement}
+use Rattle.variable_listing.proofs.fuzzify_part.Tie as tie
+
+-- the words of the input's row that were read
+reads-are : (c : tie.After-word2) →
+    let s = c .before .before .before .before .before in
+    let w = wordAt (s .args .img .now) in
+    (c .before .word .result ≡ w (inputPlace w (s .args .i) + 5)) × (c .word2 .result ≡ inputCount w (s .args .i))
+reads-are c =
+    let row = c .before .before in
+    let s = row .before .before .before in
+    let w = wordAt (s .args .img .now) in
+    let e = row .input-row .ensures .0 w (s .pre .1) in
+    (c .before .word .ensures .0 ∙ ap (λ (o : ℕ). w (o + 5)) e, c .word2 .ensures .0 ∙ ap (λ (o : ℕ). w (o + 6)) e)
+
+input-row-requires : tie.Need-input-row-requires
+input-row-requires c κs =
+    let s = c .before .before in
+    let h = s .pre .1 in
+    omega (arith, h .input-table, h .fits 9, s .pre .2, input-limit (wordAt (s .args .img .now)) (s .pre .0))
+
+add-word : tie.Need-add-word
+add-word c = search needs
+
+word-requires : tie.Need-word-requires
+word-requires c κs = search needs
+
+add-word-2 : tie.Need-add-word-2
+add-word-2 c = search needs
+
+word-requires-2 : tie.Need-word-requires-2
+word-requires-2 c κs = search needs
+
+slice-aggregate-puts : tie.Need-slice-aggregate-puts
+slice-aggregate-puts c = search needs
+
+puts-requires : tie.Need-puts-requires
+puts-requires c κs = search needs
+
+input-terms-requires : tie.Need-input-terms-requires
+input-terms-requires c κs =
+    let v = c .before .before .before .before .before .before in
+    let s = v .before .before .before .before .before in
+    let w = wordAt (s .args .img .now) in
+    let r = reads-are v in
+    let i = s .args .i in
+    let t = accepted-terms w i (v .before .word .result) (v .word2 .result) (s .pre .0) (s .pre .2) (r .0 ∙ first-is w i (s .pre .0) (s .pre .2)) (r .1) in
+    ((s .pre .1, v .before .word .ensures .1, t .0), t .1)
+
+slice-aggregate-puts-2 : tie.Need-slice-aggregate-puts-2
+slice-aggregate-puts-2 c = search needs
+
+puts-requires-2 : tie.Need-puts-requires-2
+puts-requires-2 c κs = search needs
+
+name-requires : tie.Need-name-requires
+name-requires c κs = search needs
+
+slice-aggregate-puts-3 : tie.Need-slice-aggregate-puts-3
+slice-aggregate-puts-3 c = search needs
+
+puts-requires-3 : tie.Need-puts-requires-3
+puts-requires-3 c κs = search needs
+
+same-length : tie.Need-same-length
+same-length c = search needs
+
+returns : tie.Need-returns
+unfolding fuzzifyText inputAt
+returns c =
+    let p3 = c .before .before in
+    let n = p3 .before .before .before .before .before in
+    let p2 = n .before .before .before .before in
+    let t = p2 .before .before .before .before .before in
+    let p1 = t .before .before .before .before in
+    let v = p1 .before .before .before in
+    let row = v .before .before in
+    let s = row .before .before .before in
+    let w = wordAt (s .args .img .now) in
+    let e = row .input-row .ensures .0 w (s .pre .1) in
+    let r = reads-are v in
+    let ts = rw (r .0, r .1) at (t .input-terms .ensures) in
+    joined (joined (joined (joined (p1 .puts .ensures) ts) (p2 .puts2 .ensures)) (rw e at (n .name .ensures))) (p3 .puts3 .ensures)
+
+pub fuzzify-part-spec : {M : Type 1} → statement M
+fuzzify-part-spec =
+    tie.close
+    (tie.spec
+    input-row-requires
+    add-word
+    word-requires
+    add-word-2
+    word-requires-2
+    slice-aggregate-puts
+    puts-requires
+    input-terms-requires
+    slice-aggregate-puts-2
+    puts-requires-2
+    name-requires
+    slice-aggregate-puts-3
+    puts-requires-3
+    same-length
+    returns)

@@ -1,0 +1,108 @@
+use native.Mathlib.Omega.{arith}
+use mathlib.Core.Path.{_≡_, sym, ap, _∙_}
+use Prim.Native.Nat.{ℕ, _+_}
+use lib.Seq.{length-take-le}
+use Rattle.model.specs.Block.{Term}
+use Rattle.model.specs.Image.{wordAt, nameAt, termPlace, termAt}
+use Rattle.layout.specs.Tables.{termCount}
+use Rattle.name_field.proofs.Names.{name-front}
+use Rattle.fuzzification.proofs.Entries.{points-few, points-read}
+use borrow.Author.Needs.{needs}
+use Rattle.variable_listing.proofs.input_term.Statement.{statement}
+use Rattle.variable_listing.proofs.input_term.Tie as tie
+
+-- the words of the term's row that were read
+reads-are : (c : tie.After-word2) →
+    let s = c .before .before .before .before .before in
+    let w = wordAt (s .args .img .now) in
+    (c .before .word .result ≡ termCount w (s .args .t)) × (c .word2 .result ≡ w (termPlace w (s .args .t) + 4))
+reads-are c =
+    let row = c .before .before in
+    let s = row .before .before .before in
+    let w = wordAt (s .args .img .now) in
+    let e = row .term-row .ensures .0 w (s .pre .0 .0) in
+    (c .before .word .ensures .0 ∙ ap (λ (o : ℕ). w (o + 5)) e, c .word2 .ensures .0 ∙ ap (λ (o : ℕ). w (o + 4)) e)
+
+term-row-requires : tie.Need-term-row-requires
+term-row-requires c κs = let h = c .before .before .pre .0 .0 in omega (arith, h .term-table, h .fits 11)
+
+add-word : tie.Need-add-word
+add-word c = search needs
+
+word-requires : tie.Need-word-requires
+word-requires c κs = search needs
+
+add-word-2 : tie.Need-add-word-2
+add-word-2 c = search needs
+
+word-requires-2 : tie.Need-word-requires-2
+word-requires-2 c κs = search needs
+
+term-points-requires : tie.Need-term-points-requires
+term-points-requires c κs =
+    let row = c .before .before in
+    let s = row .before .before .before in
+    let few = points-few (wordAt (s .args .img .now)) (s .args .t) (s .pre .1) in
+    (s .pre .0 .0, c .word2 .ensures .1, omega (arith, reads-are c .0, few .1))
+
+bytes-at-requires : tie.Need-bytes-at-requires
+bytes-at-requires c κs = search needs
+
+slice-aggregate-first-zero : tie.Need-slice-aggregate-first-zero
+slice-aggregate-first-zero c = search needs
+
+first-zero-requires : tie.Need-first-zero-requires
+first-zero-requires c κs = search needs
+
+array-share-prefix-s : tie.Need-array-share-prefix-s
+array-share-prefix-s c = search needs
+
+slice-aggregate-term-line : tie.Need-slice-aggregate-term-line
+slice-aggregate-term-line c =
+    let zero = c .before .before in
+    sym (length-take-le (zero .first-zero .result) (zero .before .before .bytes-at .result) (search needs))
+
+term-line-requires : tie.Need-term-line-requires
+term-line-requires c κs =
+    let ps = c .before .before .before .before .before in
+    let s = ps .before .before .before .before .before .before in
+    omega (arith, reads-are (ps .before) .0, points-few (wordAt (s .args .img .now)) (s .args .t) (s .pre .1) .1)
+
+same-length : tie.Need-same-length
+same-length c = search needs
+
+returns : tie.Need-returns
+unfolding termAt
+returns c =
+    let l = c .before .before in
+    let zero = l .before .before .before in
+    let bytes = zero .before .before in
+    let ps = bytes .before in
+    let row = ps .before .before .before in
+    let s = row .before .before .before in
+    let w = wordAt (s .args .img .now) in
+    let e = row .term-row .ensures .0 w (s .pre .0 .0) in
+    let r = reads-are (ps .before) in
+    let n = name-front w (row .term-row .result) _ _ (bytes .bytes-at .ensures) (zero .first-zero .ensures .0) ∙ ap (nameAt w) e in
+    let p = points-read w (s .args .t) _ _ (ps .term-points .result) (r .0) (r .1) (ps .term-points .ensures) in
+    let same : _≡_ {A = Term} (record { name = _; points = _ }) (termAt w (s .args .t)) = λ j. record { name = n j; points = p j } in
+    rw same at (l .term-line .ensures)
+
+pub input-term-spec : {M : Type 1} → statement M
+input-term-spec =
+    tie.close
+    (tie.spec
+    term-row-requires
+    add-word
+    word-requires
+    add-word-2
+    word-requires-2
+    term-points-requires
+    bytes-at-requires
+    slice-aggregate-first-zero
+    first-zero-requires
+    array-share-prefix-s
+    slice-aggregate-term-line
+    term-line-requires
+    same-length
+    returns)
