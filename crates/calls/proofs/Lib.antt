@@ -1,0 +1,6 @@
+pub mod Right
+pub mod Raised
+pub mod Outputs
+pub mod Low
+pub mod Steps
+pub mod Claim
