@@ -4,3 +4,4 @@ pub mod Outputs
 pub mod Low
 pub mod Steps
 pub mod Claim
+pub mod Contracts
