@@ -24,6 +24,7 @@ use Rattle.model.specs.declared.Mark.the-variants.{None, Fired, Default,
 use Rattle.model.specs.declared.Answer.{Answer}
 use Rattle.model.specs.declared.Held.{Held}
 use Rattle.model.specs.declared.Evaluation.{Evaluation}
+use Rattle.model.specs.declared.Reply.{Reply}
 
 -- THE RULES
 -- the degree of every input term, by the inputs' values
@@ -156,6 +157,10 @@ pub record Tells (r : Evaluation) (h : Held) (o : Outcome CallResult) : Type 0 w
   pub verdict : verdictOf (r .verdict) ≡ verdictIn o
   pub answers : r .answers ≡ answersAfter o
   pub held : r .held ≡ heldAfter h o
+
+-- a call for daily use as an evaluation: its reply, with the record that it leaves
+abbrev pub leaving : Reply → Held → Evaluation
+leaving r after = record { verdict = r .verdict; answers = r .answers; held = after }
 
 unfoldable pub fresh : List ℕ → Outcome Held
 fresh img = andThen (loads img) (λ b. accepted (freshOf b))
