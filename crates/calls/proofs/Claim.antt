@@ -1,7 +1,7 @@
 -- Demand 3, of every image and every list of calls on it.
 use mathlib.Core.Path.{_≡_, refl, sym, ap, _∙_, subst}
-use mathlib.Core.Bool.{Bool, true}
-use mathlib.Core.List.{List, [], _∷_, _++_, map, foldl}
+use mathlib.Core.Bool.{true}
+use mathlib.Core.List.{List, [], _∷_, map, foldl}
 use Prim.Native.Nat.{ℕ, _≤_}
 use lib.IntN.{ℤ}
 use Rattle.model.specs.Basic.{if_then_else_}
@@ -11,16 +11,15 @@ use Rattle.model.specs.Outcome.{Outcome, accepted, andThen}
 use Rattle.model.specs.Refusals.{verdictOf}
 use Rattle.model.specs.Image.{loads}
 use Rattle.model.specs.WellFormed.{wellFormed}
-use Rattle.model.specs.Evaluation.{termDegrees, valuesOf, heldOf, freshOf, fresh, recordIn, Call}
-use Rattle.model.specs.declared.Answer.{Answer}
+use Rattle.model.specs.Evaluation.{valuesOf, heldOf, starting, freshOf, fresh, recordIn}
 use Rattle.model.specs.declared.Held.{Held}
 use Rattle.laws.proofs.Each.{Each, each-so, each-append}
 use Rattle.image_laws.proofs.Loads.{loads-iff}
 use Rattle.round_trip.proofs.RoundTrip.{passes-iff}
-use Rattle.calls.specs.Calls.{rightCall, ruling, given, degreesBy, figuresAfter, answered, defined, starting, degreesIn, Made, callOf, resultOf, Link, Trace, recordAfter, acceptedIn, lastFigures, Seen, outputsSeen, seen, CallsHold, Demand3}
+use Rattle.model.specs.Calls.{rightCall, ruling, given, inputDegrees, figuresAfter, defined, degreesIn, Made, callOf, resultOf, Link, Trace, recordAfter, acceptedIn, lastFigures, Seen, outputsSeen, seen, CallsHold, Demand3}
 use Rattle.calls.proofs.Outputs.{Good, Fit, starting-fit}
 use Rattle.calls.proofs.Low.{outputs-ok, block-low, call-low}
-use Rattle.calls.proofs.Steps.{Step, step}
+use Rattle.calls.proofs.Steps.{step}
 
 -- what is carried along a list
 record Along (b : Block) (h : Held) (xs : List ℤ) (ms : List Made) : Type 0 where
@@ -38,7 +37,7 @@ module _ (img : List ℕ) (b : Block) (loaded : loads img ≡ accepted b) (ok : 
       let s = step img b loaded ok xs f m (subst (λ (g : Held). Link img g m) e (t .0)) in
       let ys = figuresAfter b xs (callOf m) in
       let r = along ms (resultOf m .held) ys (s .held) (s .fit) (t .1) in
-      let here = if acceptedIn m then outputsSeen b (degreesBy b (callOf m)) 0 (b .outputs) xs (resultOf m .answers) else [] in
+      let here = if acceptedIn m then outputsSeen b (inputDegrees b (callOf m)) 0 (b .outputs) xs (resultOf m .answers) else [] in
       record {
         right = (s .right, r .right);
         verdicts = (s .verdict, r .verdicts);
@@ -47,8 +46,8 @@ module _ (img : List ℕ) (b : Block) (loaded : loads img ≡ accepted b) (ok : 
         after = r .after ∙ ap (λ (l : List ℤ). heldOf (foldl (lastFigures b) l ms)) (sym (s .last));
       }
 
-  degrees-low : (ms : List Made) → Each (λ m. acceptedIn m ≡ true → Each (λ d. d ≤ M) (degreesIn b (degreesBy b (callOf m)))) ms
-  unfolding degreesBy
+  degrees-low : (ms : List Made) → Each (λ m. acceptedIn m ≡ true → Each (λ d. d ≤ M) (degreesIn b (inputDegrees b (callOf m)))) ms
+  unfolding inputDegrees
   degrees-low [] = tt
   degrees-low (m ∷ ms) = (λ e. call-low b ok (given (valuesOf 0 (b .inputs) (callOf m .readings))), degrees-low ms)
 

@@ -22,11 +22,13 @@ use Rattle.model.specs.declared.Evaluation.{Evaluation}
 use Rattle.model.specs.declared.Fresh.{Fresh}
 use Rattle.model.specs.declared.Held.{Held}
 use Rattle.model.specs.declared.Reading.{Reading}
+use Rattle.model.specs.declared.Reply.{Reply}
 use Rattle.model.specs.declared.Verdict.{Verdict}
 use Rattle.load.proofs.check as load-check
 use Rattle.evaluation.proofs.fresh_of as fresh-of
 use Rattle.evaluation.proofs.evaluate as evaluate-by-value
-use Rattle.calls.specs.Calls.{evaluated, Link}
+use Rattle.daily.proofs.evaluate_held as evaluate-held
+use Rattle.model.specs.Calls.{evaluated, daily, Link}
 
 module _ {M : Type 1} (𝓤 : URA M) (H : Heap 𝓤) (A : Atoms 𝓤) (at-mem : Memory → SProp 𝓤) (run : Routine → Fun 𝓤) (κ : Lft) where
   abbrev Asks-nothing : SProp 𝓤 → Type 2
@@ -51,3 +53,10 @@ module _ {M : Type 1} (𝓤 : URA M) (H : Heap 𝓤) (A : Atoms 𝓤) (at-mem : 
       Asks-nothing (c .requires tt)
       × (c .ensures tt r e ≡ fact 𝓤 (Link (now img) before (evaluated (record { readings = rs; count = n }) r)))
   evaluate-links img rs n before r e = (refl, refl)
+
+  -- `daily::evaluate_held`: a link with the lent record, as it comes and as it is left
+  held-links : (κ′ : Lft) (img : RefT (List ℕ)) (rs : List Reading) (n : ℕ) (held : RefT Held) (r : Reply) (e : AtExit evaluate-held.ended (κ, (κ′, tt)))
+      → let c = evaluate-held.clauses 𝓤 H A at-mem run (κ, (κ′, tt)) (img, (rs, (n, (held, tt)))) in
+      Asks-nothing (c .requires tt)
+      × (c .ensures tt r e ≡ fact 𝓤 (Link (now img) (now held) (daily (record { readings = rs; count = n }) r (now (e .1 .1 .1 .0)))))
+  held-links κ′ img rs n held r e = (refl, refl)

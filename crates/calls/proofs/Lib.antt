@@ -1,4 +1,5 @@
 pub mod Right
+pub mod Records
 pub mod Raised
 pub mod Outputs
 pub mod Low

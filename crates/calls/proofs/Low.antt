@@ -1,29 +1,28 @@
 -- Every degree of a well-formed block is at most 1: points and weights, and of any call input terms, conditions, rules, heights.
-use mathlib.Core.Path.{_≡_, refl}
+use mathlib.Core.Path.{_≡_}
 use mathlib.Core.Bool.{Bool, true, false}
-use mathlib.Core.List.{List, [], _∷_, _++_, map}
+use mathlib.Core.List.{List, [], _∷_, map}
 use Prim.Native.Nat.{ℕ, zero, suc, _≤_, _<_, _%_}
 use native.Mathlib.Omega.{arith}
 use borrow.Author.Tests.{leb-true}
 use lib.Dec.{leb, eqb}
 use lib.IntN.{ℤ, pos}
 use lib.ListN.{length, getD}
-use Rattle.model.specs.Basic.{if_then_else_, all, every, gather}
+use Rattle.model.specs.Basic.{if_then_else_, all, gather}
 use Rattle.model.specs.Bounds.{M}
 use Rattle.model.specs.Tokens.{inCrisp}
-use Rattle.model.specs.Block.{Point, Term, Singleton, Input, Output, Condition, term, neg, two, Conclusion, Rule, Block, inputTerms, outputTerms}
+use Rattle.model.specs.Block.{Point, Term, Input, Condition, term, neg, two, Conclusion, Rule, Block, inputTerms, outputTerms}
 use Rattle.model.specs.Image.{points, singletonTerm, terms}
-use Rattle.model.specs.Degrees.{notOf, pairs, prodOf, termDegree, conditionDegree}
+use Rattle.model.specs.Degrees.{termDegree, conditionDegree}
 use Rattle.model.specs.WellFormed.{unitOk, pointOk, termOk, inputOk, outputOk, ruleOk, wellFormed}
 use Rattle.model.specs.Evaluation.{termDegrees, ruleDegree, accumulated, accumulateAll, subconclusions, height}
 use Rattle.model.specs.declared.Accumulation.{Accumulation}
-use Rattle.model.specs.declared.Pair.{Pair}
 use Rattle.laws.proofs.Each.{Each, each-passes, each-so, each-append, each-map, each-gather, each-at}
 use Rattle.laws.proofs.Tests.{both, passed}
 use Rattle.degrees.proofs.Laws.{prod-fits, pair-degree, accumulated-degree}
 use Rattle.crisp.specs.Crisp.{InCrisp}
 use Rattle.terms.proofs.Degree.{term-le}
-use Rattle.calls.specs.Calls.{parts, degreesOf, degreesIn, outputTermPlaces}
+use Rattle.model.specs.Calls.{parts, degreesOf, degreesIn, outputTermPlaces}
 
 abbrev Low : ℕ → Type 0
 Low d = d ≤ M
@@ -133,7 +132,8 @@ module _ (b : Block) (ok : wellFormed b ≡ true) where
         one : (r : Rule) → Low (ruleDegree b ds r) → Each Low (gather (λ k. if eqb (k .term) t then ruleDegree b ds r ∷ [] else []) (r .conclusions))
         one r h =
             each-gather Low (λ (k : Conclusion). if eqb (k .term) t then ruleDegree b ds r ∷ [] else []) (r .conclusions)
-            (always (λ k. Each Low (if eqb (k .term) t then ruleDegree b ds r ∷ [] else [])) (λ k. kept (eqb (k .term) t) (ruleDegree b ds r) h) (r .conclusions))
+            (always (λ k. Each Low (if eqb (k .term) t then ruleDegree b ds r ∷ [] else []))
+            (λ k. kept (eqb (k .term) t) (ruleDegree b ds r) h) (r .conclusions))
 
     accumulate-low : (k : Accumulation) (h : ℕ) (es : List ℕ) → Low h → Each Low es → Low (accumulateAll k h es)
     unfolding accumulateAll

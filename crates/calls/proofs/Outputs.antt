@@ -4,20 +4,20 @@ use mathlib.Core.Bool.{Bool, true, false, _&&_, not}
 use mathlib.Core.List.{List, [], _∷_, _++_, map}
 use mathlib.Core.Logic.{_↔_}
 use mathlib.Core.Option.{Option, none, some}
-use Prim.Native.Nat.{ℕ, zero, suc, _+_, _-_, _≤_, _<_}
+use Prim.Native.Nat.{ℕ, zero, suc, _-_, _<_}
 use native.Mathlib.Omega.{arith}
-use borrow.Author.Tests.{ltb-true, ltb-false, le-ltb, leb-true}
-use lib.Dec.{T, ltb, leb, eqb}
+use borrow.Author.Tests.{ltb-true, leb-true}
+use lib.Dec.{T, ltb, eqb}
 use lib.IntN.{ℤ, pos, natAbs}
 use lib.ListN.{length, replicate}
 use lib.Signed.{leZ, ltZ, ≤ℤ-refl, ltZ-yes, ltZ-no, clashℤ}
-use Rattle.model.specs.Basic.{if_then_else_, all, every, isEmpty, between}
-use Rattle.model.specs.Block.{Singleton, Range, Output, Block, outputFirst, inRange}
+use Rattle.model.specs.Basic.{if_then_else_, all, isEmpty}
+use Rattle.model.specs.Block.{Range, Output, Block, outputFirst, inRange}
 use Rattle.model.specs.Image.{tab}
 use Rattle.model.specs.Tokens.{isName, inCrisp}
 use Rattle.model.specs.WellFormed.{rangeOk, figureOk, defaultOk, singletonOk, outputOk}
 use Rattle.model.specs.Degrees.{nearestℤ}
-use Rattle.model.specs.Evaluation.{moment, sumOf, answerWith, unfired, outputAnswer, outputAnswers, noAnswer, padded, height, startOf, heldOf, figuresOf, heldOk}
+use Rattle.model.specs.Evaluation.{moment, sumOf, answerWith, unfired, outputAnswer, outputAnswers, padded, height, startOf, figures, heldOf, figuresOf, heldOk}
 use Rattle.model.specs.declared.Mark.{Mark}
 use Rattle.model.specs.declared.Mark.the-variants.{None, Fired, Default, Held as HeldMark}
 use Rattle.model.specs.declared.Answer.{Answer}
@@ -26,7 +26,7 @@ use Rattle.laws.proofs.Tests.{both, and-i, passed, clash}
 use Rattle.laws.proofs.Places.{length-tab}
 use Rattle.crisp.specs.Crisp.{InCrisp}
 use Rattle.crisp.proofs.Laws.{not-at-most}
-use Rattle.calls.specs.Calls.{figures, Seen, outputsSeen, markOf, figureOf, raised, raisedIn, Between, isMarked}
+use Rattle.model.specs.Calls.{Seen, outputsSeen, markOf, figureOf, raised, raisedIn, Between, isMarked}
 use Rattle.calls.proofs.Raised as R
 
 -- ONE OUTPUT
@@ -73,8 +73,7 @@ module _ (v : Output) (hs : List ℕ) (x : ℤ) (even : length hs ≡ length (v 
   told-fired : 0 < sumOf hs → ltb 0 (sumOf hs) ≡ true → Told (answerWith Fired fig (sumOf hs))
   told-fired p e =
       let b = R.between (v .terms) hs even crisp p in
-      let some-raised : isEmpty (raised (v .terms) hs) ≡ false = turn (isEmpty (raised (v .terms) hs)) (sym (R.sum-raised (v .terms) hs even) ∙ e) in
-      (
+      let some-raised : isEmpty (raised (v .terms) hs) ≡ false = turn (isEmpty (raised (v .terms) hs)) (sym (R.sum-raised (v .terms) hs even) ∙ e) in (
         record {
           marked = refl;
           fired-raised = (λ q. some-raised, λ q. refl);

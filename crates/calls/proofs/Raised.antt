@@ -3,16 +3,15 @@ use mathlib.Core.Path.{_≡_, refl, sym, ap, _∙_, subst}
 use mathlib.Core.Bool.{Bool, true, false, _&&_, not}
 use mathlib.Core.List.{List, [], _∷_, map}
 use mathlib.Core.Option.{Option, none, some}
-use Prim.Native.Nat.{ℕ, zero, suc, _+_, _≤_, _<_}
+use Prim.Native.Nat.{ℕ, zero, suc, _+_, _<_}
 use native.Mathlib.Omega.{arith}
 use borrow.Author.Tests.{ltb-true, ltb-false, lt-ltb, leb-true, le-leb}
-use lib.Dec.{T, ltb, leb}
+use lib.Dec.{T, ltb}
 use lib.IntN.{ℤ, pos, negsuc}
 use lib.ListN.{length, getD, length-map}
 use lib.Signed.{leZ, _≤ℤ_, leZ-yes, ≤ℤ-refl}
 use Rattle.model.specs.Basic.{if_then_else_, isEmpty, total}
 use Rattle.model.specs.Block.{Singleton, Range, inRange}
-use Rattle.model.specs.Bounds.{crispLimit}
 use Rattle.model.specs.Tokens.{inCrisp}
 use Rattle.model.specs.WellFormed.{figureOk}
 use Rattle.model.specs.Degrees.{nearestℤ}
@@ -22,7 +21,7 @@ use Rattle.laws.proofs.Tests.{both, and-i, clash}
 use Rattle.crisp.specs.Crisp.{InCrisp}
 use Rattle.crisp.proofs.Laws.{not-at-most, bounds}
 use Rattle.centre.proofs.Between.{from-low, to-high}
-use Rattle.calls.specs.Calls.{raised, lowest, highest, Between}
+use Rattle.model.specs.Calls.{raised, foremost, lowest, highest, Between}
 
 -- THE ORDER
 pub passes : (b : Bool) → T b → b ≡ true
@@ -44,9 +43,6 @@ test a b h = passes (leZ a b) (h .le)
 order : (a b : ℤ) → leZ a b ≡ true → a ≤ℤ b
 order a b e = leZ-yes (subst T (sym e) tt)
 
-≤-trans : (a b c : ℤ) → a ≤ℤ b → b ≤ℤ c → a ≤ℤ c
-≤-trans a b c h k = order a c (le-trans a b c (test a b h) (test b c k))
-
 -- a figure between two that an output may have is one too
 pub ok-between : (g : Option Range) (lo hi z : ℤ) → figureOk g lo ≡ true → figureOk g hi ≡ true → lo ≤ℤ z → z ≤ℤ hi → figureOk g z ≡ true
 ok-between g lo hi z p q h k =
@@ -56,7 +52,8 @@ ok-between g lo hi z p q h k =
   where
     within : (a b : ℤ) → leZ a lo && leZ lo b ≡ true → leZ a hi && leZ hi b ≡ true → leZ a z && leZ z b ≡ true
     within a b e f =
-        and-i (leZ a z) (leZ z b) (le-trans a lo z (both (leZ a lo) (leZ lo b) e .0) (test lo z h)) (le-trans z hi b (test z hi k) (both (leZ a hi) (leZ hi b) f .1))
+        and-i (leZ a z) (leZ z b) (le-trans a lo z (both (leZ a lo) (leZ lo b) e .0) (test lo z h))
+        (le-trans z hi b (test z hi k) (both (leZ a hi) (leZ hi b) f .1))
 
     crisp : inCrisp lo ≡ true → inCrisp hi ≡ true → inCrisp z ≡ true
     crisp e f = bounds z ∙ within (negsuc 999999999) (pos 1000000000) (sym (bounds lo) ∙ e) (sym (bounds hi) ∙ f)
@@ -66,44 +63,41 @@ ok-between g lo hi z p q h k =
     ranged (some r) e f = within (r .least) (r .most) e f
 
 -- LOWEST AND HIGHEST
-module _ (P : ℤ → Type 0) where
-  pub lowest-in : (x : ℤ) (xs : List ℤ) → P x → Each P xs → P (lowest x xs)
-  lowest-in x [] p ps = p
-  lowest-in x (y ∷ ys) p ps = go (leZ x y) (lowest-in x ys p (ps .1)) (lowest-in y ys (ps .0) (ps .1))
-    where
-      go : (b : Bool) → P (lowest x ys) → P (lowest y ys) → P (if b then lowest x ys else lowest y ys)
-      go true s t = s
-      go false s t = t
-
-  pub highest-in : (x : ℤ) (xs : List ℤ) → P x → Each P xs → P (highest x xs)
-  highest-in x [] p ps = p
-  highest-in x (y ∷ ys) p ps = go (leZ x y) (highest-in x ys p (ps .1)) (highest-in y ys (ps .0) (ps .1))
-    where
-      go : (b : Bool) → P (highest x ys) → P (highest y ys) → P (if b then highest y ys else highest x ys)
-      go true s t = t
-      go false s t = s
-
-abbrev AtMost : ℤ → ℤ → List ℤ → Type 0
-AtMost l x xs = (l ≤ℤ x) × Each (λ y. l ≤ℤ y) xs
-
-abbrev AtLeast : ℤ → ℤ → List ℤ → Type 0
-AtLeast h x xs = (x ≤ℤ h) × Each (λ y. y ≤ℤ h) xs
-
-lowest-le : (x : ℤ) (xs : List ℤ) → AtMost (lowest x xs) x xs
-lowest-le x [] = (≤ℤ-refl x, tt)
-lowest-le x (y ∷ ys) = go (leZ x y) refl (lowest-le x ys) (lowest-le y ys)
+foremost-in : (P : ℤ → Type 0) (before : ℤ → ℤ → Bool) (x : ℤ) (xs : List ℤ) → P x → Each P xs → P (foremost before x xs)
+foremost-in P before x [] p ps = p
+foremost-in P before x (y ∷ ys) p ps = go (before x y) (foremost-in P before x ys p (ps .1)) (foremost-in P before y ys (ps .0) (ps .1))
   where
-    go : (b : Bool) → leZ x y ≡ b → AtMost (lowest x ys) x ys → AtMost (lowest y ys) y ys → AtMost (if b then lowest x ys else lowest y ys) x (y ∷ ys)
-    go true e s t = (s .0, (≤-trans (lowest x ys) x y (s .0) (order x y e), s .1))
-    go false e s t = (≤-trans (lowest y ys) y x (t .0) (not-at-most x y e), t)
+    go : (b : Bool) → P (foremost before x ys) → P (foremost before y ys) → P (if b then foremost before x ys else foremost before y ys)
+    go true s t = s
+    go false s t = t
 
-highest-ge : (x : ℤ) (xs : List ℤ) → AtLeast (highest x xs) x xs
-highest-ge x [] = (≤ℤ-refl x, tt)
-highest-ge x (y ∷ ys) = go (leZ x y) refl (highest-ge x ys) (highest-ge y ys)
-  where
-    go : (b : Bool) → leZ x y ≡ b → AtLeast (highest x ys) x ys → AtLeast (highest y ys) y ys → AtLeast (if b then highest y ys else highest x ys) x (y ∷ ys)
-    go true e s t = (≤-trans x y (highest y ys) (order x y e) (t .0), t)
-    go false e s t = (s .0, (≤-trans y x (highest x ys) (not-at-most x y e) (s .0), s .1))
+module _ (before : ℤ → ℤ → Bool) (self : (a : ℤ) → before a a ≡ true) (chain : (a b c : ℤ) → before a b ≡ true → before b c ≡ true → before a c ≡ true)
+    (turned : (a b : ℤ) → before a b ≡ false → before b a ≡ true) where
+  abbrev Before : ℤ → ℤ → List ℤ → Type 0
+  Before l x xs = (before l x ≡ true) × Each (λ y. before l y ≡ true) xs
+
+  foremost-before : (x : ℤ) (xs : List ℤ) → Before (foremost before x xs) x xs
+  foremost-before x [] = (self x, tt)
+  foremost-before x (y ∷ ys) = go (before x y) refl (foremost-before x ys) (foremost-before y ys)
+    where
+      go : (b : Bool) → before x y ≡ b → Before (foremost before x ys) x ys → Before (foremost before y ys) y ys
+          → Before (if b then foremost before x ys else foremost before y ys) x (y ∷ ys)
+      go true e s t = (s .0, (chain (foremost before x ys) x y (s .0) e, s .1))
+      go false e s t = (chain (foremost before y ys) y x (t .0) (turned x y e), t)
+
+le-self : (a : ℤ) → leZ a a ≡ true
+le-self a = test a a (≤ℤ-refl a)
+
+le-turned : (a b : ℤ) → leZ a b ≡ false → leZ b a ≡ true
+le-turned a b e = test b a (not-at-most a b e)
+
+lowest-le : (x : ℤ) (xs : List ℤ) → Each (λ y. lowest x xs ≤ℤ y) (x ∷ xs)
+lowest-le x xs = each-so (λ y e. order (lowest x xs) y e) (x ∷ xs) (foremost-before leZ le-self le-trans le-turned x xs)
+
+highest-ge : (x : ℤ) (xs : List ℤ) → Each (λ y. y ≤ℤ highest x xs) (x ∷ xs)
+highest-ge x xs =
+    each-so (λ y e. order y (highest x xs) e) (x ∷ xs)
+    (foremost-before (λ y z. leZ z y) le-self (λ a b c h k. le-trans c b a k h) (λ a b e. le-turned b a e) x xs)
 
 -- THE RAISED SINGLETONS
 pub sum-raised : (ss : List Singleton) (hs : List ℕ) → length hs ≡ length ss → ltb 0 (sumOf hs) ≡ not (isEmpty (raised ss hs))
@@ -167,12 +161,11 @@ module _ (ss : List Singleton) (hs : List ℕ) (even : length hs ≡ length ss) 
           let hi = highest x xs in
           let n : length positions ≡ length hs = count ∙ sym even in
           let low : Each (λ y. lo ≤ℤ y) (raised ss hs) = rw e (lowest-le x xs) in
-          let high : Each (λ y. y ≤ℤ hi) (raised ss hs) = rw e (highest-ge x xs) in
-          (
-            from-low positions hs n (crisp-at ss crisp) some-height lo (lowest-in InCrisp x xs (c .0) (c .1))
-            (λ k l h. raised-at (λ y. lo ≤ℤ y) ss hs low k (omega (arith, count)) h),
-            to-high positions hs n (crisp-at ss crisp) some-height hi (highest-in InCrisp x xs (c .0) (c .1))
-            (λ k l h. raised-at (λ y. y ≤ℤ hi) ss hs high k (omega (arith, count)) h),
+          let high : Each (λ y. y ≤ℤ hi) (raised ss hs) = rw e (highest-ge x xs) in (
+            from-low positions hs n (crisp-at ss crisp) some-height lo (foremost-in InCrisp leZ x xs (c .0) (c .1))
+                (λ k l h. raised-at (λ y. lo ≤ℤ y) ss hs low k (omega (arith, count)) h),
+            to-high positions hs n (crisp-at ss crisp) some-height hi (foremost-in InCrisp (λ y z. leZ z y) x xs (c .0) (c .1))
+                (λ k l h. raised-at (λ y. y ≤ℤ hi) ss hs high k (omega (arith, count)) h),
           )
 
 -- what lies between raised singletons is a figure that the output may have
@@ -184,4 +177,5 @@ ok-raised g ss hs z ok h = go (raised ss hs) (raised-each (λ y. figureOk g y �
     go [] q b = absurd b
     go (x ∷ xs) q b =
         let P : ℤ → Type 0 = λ y. figureOk g y ≡ true in
-        ok-between g (lowest x xs) (highest x xs) z (lowest-in P x xs (q .0) (q .1)) (highest-in P x xs (q .0) (q .1)) (b .0) (b .1)
+        ok-between g (lowest x xs) (highest x xs) z (foremost-in P leZ x xs (q .0) (q .1))
+        (foremost-in P (λ y z. leZ z y) x xs (q .0) (q .1)) (b .0) (b .1)

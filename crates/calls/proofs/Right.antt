@@ -1,5 +1,5 @@
 -- A call is right exactly where its readings have crisp values and their number is the inputs'.
-use mathlib.Core.Path.{_≡_, refl, sym, ap, _∙_}
+use mathlib.Core.Path.{_≡_, refl, ap, _∙_}
 use mathlib.Core.Bool.{Bool, true, false, _&&_, not}
 use mathlib.Core.List.{List, [], _∷_}
 use mathlib.Core.Option.{Option, none, some}
@@ -12,12 +12,12 @@ use Rattle.model.specs.Basic.{if_then_else_}
 use Rattle.model.specs.Block.{Input, Block}
 use Rattle.model.specs.Outcome.{Outcome, accepted, refused, andThen, verdictIn}
 use Rattle.model.specs.Readings.{realOf, taken, valueIn}
-use Rattle.model.specs.Evaluation.{valuesOf, Call}
+use Rattle.model.specs.Evaluation.{valuesOf}
 use Rattle.model.specs.declared.InputType.{InputType}
 use Rattle.model.specs.declared.InputType.the-variants.{Real as real, Int as int}
 use Rattle.model.specs.declared.Reading.{Reading}
 use Rattle.model.specs.declared.Reading.the-variants.{Real, Int, Absent}
-use Rattle.calls.specs.Calls.{fits, allFit, rightCall, ruling, isAccepted}
+use Rattle.model.specs.Calls.{Call, fits, allFit, rightCall, ruling, isAccepted}
 
 abbrev isSome : Option ℤ → Bool
 isSome none = false
@@ -46,7 +46,8 @@ values-fit i (v ∷ vs) (r ∷ rs) =
     go (values-fit (suc i) vs rs) (valueIn (taken (v .type) r)) ∙ ap (λ (x : Bool). x && allFit vs rs) (fits-is (v .type) r)
   where
     go : isAccepted (valuesOf (suc i) vs rs) ≡ allFit vs rs → (o : Option ℤ)
-        → isAccepted {A = List ℤ} (elim o [ none ↦ refused 14 (some i) | some x ↦ andThen (valuesOf (suc i) vs rs) (λ xs. accepted (x ∷ xs)) ]) ≡ isSome o && allFit vs rs
+        → isAccepted {A = List ℤ} (elim o [ none ↦ refused 14 (some i) | some x ↦ andThen (valuesOf (suc i) vs rs) (λ xs. accepted (x ∷ xs)) ])
+        ≡ isSome o && allFit vs rs
     go ih none = refl
     go ih (some x) = accepted-then (valuesOf (suc i) vs rs) (λ xs. x ∷ xs) ∙ ih
 

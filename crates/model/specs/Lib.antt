@@ -17,3 +17,4 @@ pub mod Buffers
 pub mod Degrees
 pub mod Readings
 pub mod Evaluation
+pub mod Calls

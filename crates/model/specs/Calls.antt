@@ -1,8 +1,8 @@
--- Demand 3: lists of evaluation calls on one image, and what holds of each, sentence by sentence (`Demand3` at the end).
+-- Demand 3: lists of evaluation calls on one image, and what holds of them, sentence by sentence.
 use mathlib.Core.Bool.{Bool, true, false, _&&_, not}
 use mathlib.Core.List.{List, [], _∷_, _++_, map, foldl}
 use mathlib.Core.Logic.{_↔_}
-use mathlib.Core.Option.{Option, none, some}
+use mathlib.Core.Option.{none, some}
 use mathlib.Core.Path.{_≡_}
 use Prim.Native.Nat.{ℕ, suc, _≤_}
 use lib.Dec.{ltb, eqb}
@@ -10,28 +10,29 @@ use lib.Ieee.{Float, nan, inf, fin}
 use lib.IntN.{ℤ, pos}
 use lib.ListN.{length, take, drop, getD}
 use lib.Signed.{leZ, _≤ℤ_}
-use Rattle.model.specs.Basic.{if_then_else_, isEmpty, gather}
+use Rattle.model.specs.Basic.{if_then_else_, isEmpty, gather, Each}
 use Rattle.model.specs.Bounds.{M}
-use Rattle.model.specs.Block.{Input, Singleton, Output, Condition, term, neg, two, Block, inputTerms, outputTerms, outputFirst}
+use Rattle.model.specs.Block.{InputType, real, int, Input, Singleton, Output, Condition, term, neg, two, Block, inputTerms, outputTerms, outputFirst}
 use Rattle.model.specs.Outcome.{Outcome, accepted, refused, verdictIn}
 use Rattle.model.specs.Refusals.{verdictOf}
 use Rattle.model.specs.Image.{tab, points, loads}
 use Rattle.model.specs.Buffers.{readsTo}
 use Rattle.model.specs.Degrees.{conditionDegree}
-use Rattle.model.specs.Evaluation.{termDegrees, ruleDegree, subconclusions, height, blockAnswers, noAnswer, padded, startOf, heldOf, valuesOf, evaluate, Tells, fresh, recordIn, Call}
-use Rattle.model.specs.declared.InputType.{InputType}
-use Rattle.model.specs.declared.InputType.the-variants.{Real as real, Int as int}
+use Rattle.model.specs.Evaluation.{termDegrees, ruleDegree, subconclusions, height, blockAnswers, noAnswer, padded, figures, heldOf, starting, valuesOf, evaluate, Tells, leaving, fresh, recordIn}
 use Rattle.model.specs.declared.Reading.{Reading}
 use Rattle.model.specs.declared.Reading.the-variants.{Real, Int, Absent}
 use Rattle.model.specs.declared.Mark.{Mark}
 use Rattle.model.specs.declared.Mark.the-variants.{None, Fired, Default, Held as HeldMark}
 use Rattle.model.specs.declared.Answer.{Answer}
 use Rattle.model.specs.declared.Held.{Held}
-use Rattle.model.specs.declared.Verdict.{Verdict}
 use Rattle.model.specs.declared.Evaluation.{Evaluation}
-use Rattle.laws.proofs.Each.{Each}
+use Rattle.model.specs.declared.Reply.{Reply}
 
 -- RIGHT CALLS
+pub record Call : Type 0 where
+  pub readings : List Reading
+  pub count : ℕ
+
 abbrev pub isFinite : Float → Bool
 isFinite nan = false
 isFinite (inf s) = false
@@ -68,27 +69,20 @@ given (accepted xs) = xs
 given (refused n p) = []
 
 -- the degrees of the input terms, by the readings of a right call
-unfoldable pub degreesBy : Block → Call → List ℕ
-degreesBy b c = termDegrees (b .inputs) (given (valuesOf 0 (b .inputs) (c .readings)))
+unfoldable pub inputDegrees : Block → Call → List ℕ
+inputDegrees b c = termDegrees (b .inputs) (given (valuesOf 0 (b .inputs) (c .readings)))
 
 -- of a right call, where xs are the held figures
-unfoldable pub answersBy : Block → List ℤ → Call → List Answer
-answersBy b xs c = blockAnswers b (given (valuesOf 0 (b .inputs) (c .readings))) xs
-
-abbrev pub starting : Block → List ℤ
-starting b = map (λ v. startOf (v .range)) (b .outputs)
-
--- the thousandths of answers
-abbrev pub figures : List Answer → List ℤ
-figures gs = map (λ a. a .thousandths .0) gs
+unfoldable pub answersOf : Block → List ℤ → Call → List Answer
+answersOf b xs c = blockAnswers b (given (valuesOf 0 (b .inputs) (c .readings))) xs
 
 -- the figures after a call: its own where it is right, and those before it where not
 unfoldable pub figuresAfter : Block → List ℤ → Call → List ℤ
-figuresAfter b xs c = if rightCall b c then figures (answersBy b xs c) else xs
+figuresAfter b xs c = if rightCall b c then figures (answersOf b xs c) else xs
 
 -- all places of a call; xs are the figures of the last right call before, or the starting ones
 unfoldable pub answered : Block → List ℤ → Call → List Answer
-answered b xs c = padded noAnswer (if rightCall b c then answersBy b xs c else [])
+answered b xs c = padded noAnswer (if rightCall b c then answersOf b xs c else [])
 
 -- of a list of calls
 unfoldable pub defined : Block → List ℤ → List Call → List (List Answer)
@@ -120,21 +114,22 @@ degreesIn b ds =
     ++ map (height b ds) (outputTermPlaces b))))
 
 -- A LIST OF CALLS AS A HOST MAKES IT
--- a call and what came of it: of the evaluator, what it returned; for daily use, what it returned and the lent record then
+-- a call and what came of it: what the evaluator returned; for daily use, the reply and the lent record then
 pub data Made : Type 0 where
   evaluated : Call → Evaluation → Made
-  daily : Call → Verdict → List Answer → Held → Made
+  daily : Call → Reply → Held → Made
 
 abbrev pub callOf : Made → Call
 callOf (evaluated c r) = c
-callOf (daily c v gs h) = c
+callOf (daily c r h) = c
 
 -- verdict, answers, and the record returned or left
 abbrev pub resultOf : Made → Evaluation
 resultOf (evaluated c r) = r
-resultOf (daily c v gs h) = record { verdict = v; answers = gs; held = h }
+resultOf (daily c r h) = leaving r h
 
--- the contracts of `evaluation::evaluate` and `daily::evaluate`, on the record h
+-- what the contracts of `evaluation::evaluate` and `daily::evaluate_held` say of a call on the record h
+-- (`calls/proofs/Contracts`)
 abbrev pub Link : List ℕ → Held → Made → Type 0
 Link img h m = Tells (resultOf m) h (evaluate img (callOf m .readings) (callOf m .count) h)
 
@@ -158,8 +153,8 @@ acceptedIn m = isAccepted (verdictOf (resultOf m .verdict))
 unfoldable pub lastFigures : Block → List ℤ → Made → List ℤ
 lastFigures b xs m = if acceptedIn m then figures (take (length (b .outputs)) (resultOf m .answers)) else xs
 
--- an output in an accepted call: its heights by the readings, the figure that the last accepted call before answered for it, or
--- the starting one, and its answer
+-- an output in an accepted call: its heights by the readings, the figure that the last accepted call before answered
+-- for it, or the starting one, and its answer
 pub record Seen : Type 0 where
   pub output : Output
   pub heights : List ℕ
@@ -182,7 +177,7 @@ outputsSeen b ds i (v ∷ vs) xs gs =
 unfoldable pub seen : Block → List ℤ → List Made → List Seen
 seen b xs [] = []
 seen b xs (m ∷ ms) =
-    (if acceptedIn m then outputsSeen b (degreesBy b (callOf m)) 0 (b .outputs) xs (resultOf m .answers) else [])
+    (if acceptedIn m then outputsSeen b (inputDegrees b (callOf m)) 0 (b .outputs) xs (resultOf m .answers) else [])
     ++ seen b (lastFigures b xs m) ms
 
 abbrev pub markOf : Seen → Mark
@@ -200,14 +195,16 @@ raised (s ∷ ss) (h ∷ hs) = if ltb 0 h then s .at ∷ raised ss hs else raise
 abbrev pub raisedIn : Seen → List ℤ
 raisedIn o = raised (o .output .terms) (o .heights)
 
--- the lowest and the highest of x and xs
+-- of x and xs the one that is before all others
+abbrev pub foremost : (ℤ → ℤ → Bool) → ℤ → List ℤ → ℤ
+foremost before x [] = x
+foremost before x (y ∷ ys) = if before x y then foremost before x ys else foremost before y ys
+
 abbrev pub lowest : ℤ → List ℤ → ℤ
-lowest x [] = x
-lowest x (y ∷ ys) = if leZ x y then lowest x ys else lowest y ys
+lowest x xs = foremost leZ x xs
 
 abbrev pub highest : ℤ → List ℤ → ℤ
-highest x [] = x
-highest x (y ∷ ys) = if leZ x y then highest y ys else highest x ys
+highest x xs = foremost (λ y z. leZ z y) x xs
 
 abbrev pub Between : List ℤ → ℤ → Type 0
 Between [] z = ⊥
@@ -228,8 +225,8 @@ pub record CallsHold (b : Block) (h : Held) (xs : List ℤ) (ms : List Made) : T
   pub verdicts : Each (λ m. verdictOf (resultOf m .verdict) ≡ ruling b (callOf m)) ms
   -- every degree lies between 0 and 1
   pub block-degrees : Each (λ d. d ≤ M) (degreesOf b)
-  pub call-degrees : Each (λ m. acceptedIn m ≡ true → Each (λ d. d ≤ M) (degreesIn b (degreesBy b (callOf m)))) ms
-  -- in each accepted call the answer is the one that document 01 defines (a refused one answers all places as none, zero)
+  pub call-degrees : Each (λ m. acceptedIn m ≡ true → Each (λ d. d ≤ M) (degreesIn b (inputDegrees b (callOf m)))) ms
+  -- in each accepted call the answer is the one that document 01 defines; a refused one answers all as none, zero
   pub answers-defined : map (λ m. resultOf m .answers) ms ≡ defined b xs (map callOf ms)
   -- every output is marked fired, default or held
   pub marked : Each (λ o. isMarked (markOf o) ≡ true) (seen b xs ms)
@@ -247,7 +244,7 @@ pub record CallsHold (b : Block) (h : Held) (xs : List ℤ) (ms : List Made) : T
 pub record Demand3 (img : List ℕ) : Type 0 where
   -- a stored image passes the load check exactly when some text reads to it
   pub passes : verdictIn (loads img) ≡ accepted tt ↔ ((s : List ℕ) × readsTo s img)
-  -- the rest holds for every passed image and every list of evaluation calls on it, refused ones included; the first call gets
-  -- the image's fresh held record
+  -- the rest holds for every passed image and every list of evaluation calls on it, refused ones included; the first
+  -- call gets the image's fresh held record
   pub calls : (b : Block) → loads img ≡ accepted b → (ms : List Made) → Trace img (recordIn (fresh img)) ms
       → CallsHold b (recordIn (fresh img)) (starting b) ms
