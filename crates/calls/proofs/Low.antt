@@ -2,12 +2,12 @@
 use mathlib.Core.Path.{_≡_}
 use mathlib.Core.Bool.{Bool, true, false}
 use mathlib.Core.List.{List, [], _∷_, map}
-use Prim.Native.Nat.{ℕ, zero, suc, _≤_, _<_, _%_}
+use Prim.Native.Nat.{ℕ, _≤_, _%_}
 use native.Mathlib.Omega.{arith}
 use borrow.Author.Tests.{leb-true}
 use lib.Dec.{leb, eqb}
 use lib.IntN.{ℤ, pos}
-use lib.ListN.{length, getD}
+use lib.ListN.{getD}
 use Rattle.model.specs.Basic.{if_then_else_, all, gather}
 use Rattle.model.specs.Bounds.{M}
 use Rattle.model.specs.Tokens.{inCrisp}
@@ -17,7 +17,7 @@ use Rattle.model.specs.Degrees.{termDegree, conditionDegree}
 use Rattle.model.specs.WellFormed.{unitOk, pointOk, termOk, inputOk, outputOk, ruleOk, wellFormed}
 use Rattle.model.specs.Evaluation.{termDegrees, ruleDegree, accumulated, accumulateAll, subconclusions, height}
 use Rattle.model.specs.declared.Accumulation.{Accumulation}
-use Rattle.laws.proofs.Each.{Each, each-passes, each-so, each-append, each-map, each-gather, each-at}
+use Rattle.laws.proofs.Each.{Each, each-passes, each-so, each-append, each-map, each-gather, each-at, each-always}
 use Rattle.laws.proofs.Tests.{both, passed}
 use Rattle.degrees.proofs.Laws.{prod-fits, pair-degree, accumulated-degree}
 use Rattle.crisp.specs.Crisp.{InCrisp}
@@ -54,14 +54,8 @@ rule-low : (b : Block) (r : Rule) → ruleOk b r ≡ true → Low (r .weight)
 unfolding ruleOk
 rule-low b r e = unit-low (r .weight) (passed _ e .1 .1 .1 .1 .0)
 
-always : {A : Type 0} (P : A → Type 0) → ((x : A) → P x) → (xs : List A) → Each P xs
-always P f [] = tt
-always P f (x ∷ xs) = (f x, always P f xs)
-
-point-at : (ps : List Point) → Each PointLow ps → (k : ℕ) → k < length ps → PointLow (getD ps k (record { at = pos 0; degree = 0 }))
-point-at [] h k l = absurd (omega arith)
-point-at (p ∷ ps) h zero l = h .0
-point-at (p ∷ ps) h (suc k) l = point-at ps (h .1) k (omega arith)
+point-at : (ps : List Point) → Each PointLow ps → (k : ℕ) → PointLow (getD ps k (record { at = pos 0; degree = 0 }))
+point-at ps h k = each-at PointLow (record { at = pos 0; degree = 0 }) (omega arith, omega arith) ps h k
 
 input-terms-low : (vs : List Input) (xs : List ℤ) → Each (λ v. Each TermLow (v .terms)) vs → Each Low (termDegrees vs xs)
 unfolding termDegrees
@@ -70,7 +64,7 @@ input-terms-low (v ∷ vs) [] h = tt
 input-terms-low (v ∷ vs) (x ∷ xs) h =
     each-append Low (map (λ t. termDegree (t .points) x) (v .terms)) (termDegrees vs xs)
     (each-map Low (λ (t : Term). termDegree (t .points) x) (v .terms)
-    (each-so (λ t q. term-le (t .points) x (point-at (t .points) q)) (v .terms) (h .0)))
+    (each-so (λ t q. term-le (t .points) x (λ k l. point-at (t .points) q k)) (v .terms) (h .0)))
     (input-terms-low vs xs (h .1))
 
 module _ (b : Block) (ok : wellFormed b ≡ true) where
@@ -101,7 +95,7 @@ module _ (b : Block) (ok : wellFormed b ≡ true) where
           each-append Points (inputTerms b) (map singletonTerm (outputTerms b))
           (each-gather Points (λ (v : Input). v .terms) (b .inputs)
           (each-so (λ v h. each-so (λ t q. each-so (λ p r. r .1) (t .points) q) (v .terms) h) (b .inputs) inputs-ok))
-          (each-map Points singletonTerm (outputTerms b) (always (λ s. Points (singletonTerm s)) (λ s. (omega arith, tt)) (outputTerms b)))
+          (each-map Points singletonTerm (outputTerms b) (each-always (λ s. (omega arith, tt)) (outputTerms b)))
 
   -- BY THE DEGREES OF THE INPUT TERMS
   module _ (ds : List ℕ) (low : Each Low ds) where
@@ -132,8 +126,7 @@ module _ (b : Block) (ok : wellFormed b ≡ true) where
         one : (r : Rule) → Low (ruleDegree b ds r) → Each Low (gather (λ k. if eqb (k .term) t then ruleDegree b ds r ∷ [] else []) (r .conclusions))
         one r h =
             each-gather Low (λ (k : Conclusion). if eqb (k .term) t then ruleDegree b ds r ∷ [] else []) (r .conclusions)
-            (always (λ k. Each Low (if eqb (k .term) t then ruleDegree b ds r ∷ [] else []))
-            (λ k. kept (eqb (k .term) t) (ruleDegree b ds r) h) (r .conclusions))
+            (each-always (λ k. kept (eqb (k .term) t) (ruleDegree b ds r) h) (r .conclusions))
 
     accumulate-low : (k : Accumulation) (h : ℕ) (es : List ℕ) → Low h → Each Low es → Low (accumulateAll k h es)
     unfolding accumulateAll
@@ -151,11 +144,11 @@ module _ (b : Block) (ok : wellFormed b ≡ true) where
         let D = conditionDegree (b .pair) ds in
         let ts = outputTermPlaces b in
         each-append Low ds _ low (
-        each-append Low (map D cs) _ (each-map Low D cs (always (λ c. Low (D c)) condition-low cs)) (
+        each-append Low (map D cs) _ (each-map Low D cs (each-always condition-low cs)) (
         each-append Low (map (ruleDegree b ds) (b .rules)) _ (each-map Low (ruleDegree b ds) (b .rules) rules-low) (
         each-append Low (gather (subconclusions b ds) ts) _
-        (each-gather Low (subconclusions b ds) ts (always (λ t. Each Low (subconclusions b ds t)) subconclusions-low ts))
-        (each-map Low (height b ds) ts (always (λ t. Low (height b ds t)) height-low ts)))))
+        (each-gather Low (subconclusions b ds) ts (each-always subconclusions-low ts))
+        (each-map Low (height b ds) ts (each-always height-low ts)))))
 
   pub call-low : (xs : List ℤ) → Each Low (degreesIn b (termDegrees (b .inputs) xs))
   call-low xs = degrees-low (termDegrees (b .inputs) xs) (input-terms-low (b .inputs) xs inputs-ok)

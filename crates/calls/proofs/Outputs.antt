@@ -8,6 +8,7 @@ use Prim.Native.Nat.{ℕ, zero, suc, _-_, _<_}
 use native.Mathlib.Omega.{arith}
 use borrow.Author.Tests.{ltb-true, leb-true}
 use lib.Dec.{T, ltb, eqb}
+use lib.Ieee.Bits.{is-true}
 use lib.IntN.{ℤ, pos, natAbs}
 use lib.ListN.{length, replicate}
 use lib.Signed.{leZ, ltZ, ≤ℤ-refl, ltZ-yes, ltZ-no, clashℤ}
@@ -202,7 +203,7 @@ less-most a b h = go (leZ a b) refl
     go false e = clashℤ (ltZ-yes (subst T (sym h) tt)) (not-at-most a b e)
 
 not-less : (a b : ℤ) → ltZ a b ≡ false → leZ b a ≡ true
-not-less a b h = R.passes (leZ b a) (ltZ-no {a = a} {b = b} (subst (λ (q : Bool). T (not q)) (sym h) tt) .le)
+not-less a b h = is-true (leZ b a) (ltZ-no {a = a} {b = b} (subst (λ (q : Bool). T (not q)) (sym h) tt) .le)
 
 start-ok : (g : Option Range) → rangeOk g ≡ true → figureOk g (startOf g) ≡ true
 start-ok none e = refl
@@ -221,7 +222,7 @@ start-ok (some g) e = go (ltZ (pos 0) l) (ltZ h (pos 0)) refl refl
     ends = both (inCrisp h) (ltZ l h) (parts .1)
 
     same : (x : ℤ) → leZ x x ≡ true
-    same x = R.passes (leZ x x) (≤ℤ-refl x .le)
+    same x = is-true (leZ x x) (≤ℤ-refl x .le)
 
     ok : (z : ℤ) → inCrisp z ≡ true → leZ l z ≡ true → leZ z h ≡ true → figureOk (some g) z ≡ true
     ok z p q r = and-i (inCrisp z) (leZ l z && leZ z h) p (and-i (leZ l z) (leZ z h) q r)

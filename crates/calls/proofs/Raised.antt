@@ -7,6 +7,7 @@ use Prim.Native.Nat.{ℕ, zero, suc, _+_, _<_}
 use native.Mathlib.Omega.{arith}
 use borrow.Author.Tests.{ltb-true, ltb-false, lt-ltb, leb-true, le-leb}
 use lib.Dec.{T, ltb}
+use lib.Ieee.Bits.{is-true}
 use lib.IntN.{ℤ, pos, negsuc}
 use lib.ListN.{length, getD, length-map}
 use lib.Signed.{leZ, _≤ℤ_, leZ-yes, ≤ℤ-refl}
@@ -16,7 +17,7 @@ use Rattle.model.specs.Tokens.{inCrisp}
 use Rattle.model.specs.WellFormed.{figureOk}
 use Rattle.model.specs.Degrees.{nearestℤ}
 use Rattle.model.specs.Evaluation.{moment, sumOf}
-use Rattle.laws.proofs.Each.{Each, each-so}
+use Rattle.laws.proofs.Each.{Each, each-so, each-map, each-at}
 use Rattle.laws.proofs.Tests.{both, and-i, clash}
 use Rattle.crisp.specs.Crisp.{InCrisp}
 use Rattle.crisp.proofs.Laws.{not-at-most, bounds}
@@ -24,10 +25,6 @@ use Rattle.centre.proofs.Between.{from-low, to-high}
 use Rattle.model.specs.Calls.{raised, foremost, lowest, highest, Between}
 
 -- THE ORDER
-pub passes : (b : Bool) → T b → b ≡ true
-passes true t = refl
-passes false t = absurd t
-
 le-trans : (a b c : ℤ) → leZ a b ≡ true → leZ b c ≡ true → leZ a c ≡ true
 le-trans (pos a) (pos b) (pos c) h k = le-leb a c (omega (arith, leb-true a b h, leb-true b c k))
 le-trans (pos a) (pos b) (negsuc c) h k = clash k
@@ -38,7 +35,7 @@ le-trans (negsuc a) (negsuc b) (pos c) h k = refl
 le-trans (negsuc a) (negsuc b) (negsuc c) h k = le-leb c a (omega (arith, leb-true b a h, leb-true c b k))
 
 test : (a b : ℤ) → a ≤ℤ b → leZ a b ≡ true
-test a b h = passes (leZ a b) (h .le)
+test a b h = is-true (leZ a b) (h .le)
 
 order : (a b : ℤ) → leZ a b ≡ true → a ≤ℤ b
 order a b e = leZ-yes (subst T (sym e) tt)
@@ -138,14 +135,12 @@ module _ (P : ℤ → Type 0) where
       go true q = q .1
       go false q = q
 
-crisp-at : (ss : List Singleton) → Each (λ s. InCrisp (s .at)) ss → (k : ℕ) → k < length (map (λ s. s .at) ss) → InCrisp (getD (map (λ s. s .at) ss) k (pos 0))
-crisp-at [] ps k l = absurd (omega arith)
-crisp-at (s ∷ ss) ps zero l = ps .0
-crisp-at (s ∷ ss) ps (suc k) l = crisp-at ss (ps .1) k (omega arith)
-
 module _ (ss : List Singleton) (hs : List ℕ) (even : length hs ≡ length ss) (crisp : Each (λ s. InCrisp (s .at)) ss) (some-height : 0 < sumOf hs) where
   abbrev positions : List ℤ
   positions = map (λ s. s .at) ss
+
+  crisp-at : (k : ℕ) → k < length positions → InCrisp (getD positions k (pos 0))
+  crisp-at k l = each-at InCrisp (pos 0) (omega arith) positions (each-map InCrisp (λ (s : Singleton). s .at) ss crisp) k
 
   count : length positions ≡ length ss
   count = length-map ss (λ (s : Singleton). s .at)
@@ -162,9 +157,9 @@ module _ (ss : List Singleton) (hs : List ℕ) (even : length hs ≡ length ss) 
           let n : length positions ≡ length hs = count ∙ sym even in
           let low : Each (λ y. lo ≤ℤ y) (raised ss hs) = rw e (lowest-le x xs) in
           let high : Each (λ y. y ≤ℤ hi) (raised ss hs) = rw e (highest-ge x xs) in (
-            from-low positions hs n (crisp-at ss crisp) some-height lo (foremost-in InCrisp leZ x xs (c .0) (c .1))
+            from-low positions hs n crisp-at some-height lo (foremost-in InCrisp leZ x xs (c .0) (c .1))
                 (λ k l h. raised-at (λ y. lo ≤ℤ y) ss hs low k (omega (arith, count)) h),
-            to-high positions hs n (crisp-at ss crisp) some-height hi (foremost-in InCrisp (λ y z. leZ z y) x xs (c .0) (c .1))
+            to-high positions hs n crisp-at some-height hi (foremost-in InCrisp (λ y z. leZ z y) x xs (c .0) (c .1))
                 (λ k l h. raised-at (λ y. y ≤ℤ hi) ss hs high k (omega (arith, count)) h),
           )
 
