@@ -5,6 +5,7 @@ ghost use Prim.Native.Nat.{_≤_, _<_};
 ghost use Rattle.io.specs.Counts.{Counts};
 use model::Answer;
 use model::Evaluation;
+use model::Mark;
 use model::Reading;
 use model::Refusal;
 use model::Taken;
@@ -40,20 +41,20 @@ fn image_of(text: &[u8], out: &mut [u8]) -> usize
 }
 
 // One call on the fresh record.
-fn call(img: &[u8], readings: [Reading; 8], n: usize) -> Evaluation {
+fn call(img: &[u8], readings: [Reading; bounds::INPUTS], n: usize) -> Evaluation {
     let fresh = evaluation::fresh_of(img);
     let held = fresh.held;
     evaluation::evaluate(img, readings, n, held)
 }
 
-fn call_on_text(text: &[u8], readings: [Reading; 8], n: usize) -> Evaluation {
+fn call_on_text(text: &[u8], readings: [Reading; bounds::INPUTS], n: usize) -> Evaluation {
     let mut out = io::buffer();
     let k = image_of(text, &mut out);
     call(&out[..k], readings, n)
 }
 
 // The answer of the first output, where the block of a file gets n readings.
-fn answer_of(file: &[u8], readings: [Reading; 8], n: usize) -> Answer {
+fn answer_of(file: &[u8], readings: [Reading; bounds::INPUTS], n: usize) -> Answer {
     let mut text = io::buffer();
     let k = text_of(file, &mut text);
     let e = call_on_text(&text[..k], readings, n);
@@ -61,7 +62,7 @@ fn answer_of(file: &[u8], readings: [Reading; 8], n: usize) -> Answer {
     answers[0]
 }
 
-fn reals(a: f32, b: f32, c: f32) -> [Reading; 8] {
+fn reals(a: f32, b: f32, c: f32) -> [Reading; bounds::INPUTS] {
     [
         Reading::Real(a),
         Reading::Real(b),
@@ -74,7 +75,7 @@ fn reals(a: f32, b: f32, c: f32) -> [Reading; 8] {
     ]
 }
 
-// The digits of rest / unit behind the point, all of them: unit divides a power of ten of at most 52 noughts.
+// All digits of rest / unit behind the point, where unit divides 10^52.
 fn write_fraction(rest: u64, unit: u64)
     requires { ⌜ (rest < unit) × (unit ≤ 4503599627370496) ⌝ }
 {
@@ -90,8 +91,8 @@ fn write_fraction(rest: u64, unit: u64)
     }
 }
 
-// A float is its 53 places, taken as a whole number, over this: 2^52 where it is below 2, and half as much for each power
-// of two more.
+// What the 53 places of a float, read as a whole number, are to be divided by: 2^52 where it is below 2, and half as much
+// for each power of two more.
 fn unit_of(exponent: u64) -> u64
     ensures { λ r. ⌜ (1 ≤ r) × (r ≤ 4503599627370496) ⌝ }
 {
@@ -126,9 +127,15 @@ fn write_float(x: f64) {
     write_fraction(places % unit, unit);
 }
 
+// The sum of heights; a refused call has none.
 fn write_sum(a: Answer) {
+    let m = a.mark;
     let s = a.sum;
-    io::print_decimal(1, s as u64);
+    match m {
+        Mark::None => io::write_all(1, b"no answer"),
+        _ => io::print_decimal(1, s as u64),
+    }
+    ;
 }
 
 fn sharp_line() {
@@ -151,14 +158,14 @@ fn sharp_line() {
 }
 
 // A degree, in millionths.
-fn degree_line(name: &[u8], file: &[u8], readings: [Reading; 8], n: usize) {
+fn degree_line(name: &[u8], file: &[u8], readings: [Reading; bounds::INPUTS], n: usize) {
     io::write_all(1, name);
     write_sum(answer_of(file, readings, n));
     io::write_all(1, b"\n");
 }
 
 // A degree as a part of 1.
-fn part_line(name: &[u8], file: &[u8], readings: [Reading; 8], n: usize) {
+fn part_line(name: &[u8], file: &[u8], readings: [Reading; bounds::INPUTS], n: usize) {
     io::write_all(1, name);
     let a = answer_of(file, readings, n);
     let s = a.sum as u64;
@@ -169,7 +176,7 @@ fn part_line(name: &[u8], file: &[u8], readings: [Reading; 8], n: usize) {
 }
 
 // A figure, in thousandths.
-fn figure_line(name: &[u8], file: &[u8], readings: [Reading; 8], n: usize) {
+fn figure_line(name: &[u8], file: &[u8], readings: [Reading; bounds::INPUTS], n: usize) {
     io::write_all(1, name);
     let a = answer_of(file, readings, n);
     let t = a.thousandths;
