@@ -1,4 +1,4 @@
--- What an accepted image says of each rule.
+-- What an accepted image says of each rule's degree and of the terms that it concludes.
 use mathlib.Core.Path.{_≡_, refl, sym, ap, _∙_}
 use mathlib.Core.List.{List, [], _∷_, map}
 use mathlib.Core.Bool.{true}
@@ -16,14 +16,14 @@ use Rattle.model.specs.Block.{Output, inputTerms, outputFirst, singletonsOf}
 use Rattle.model.specs.Degrees.{prodOf, conditionDegree}
 use Rattle.model.specs.Evaluation.{ruleDegree}
 use Rattle.model.specs.Image.{tab, treeOf, pairOf, accuOf, decode, rulePlace, ruleAt, conclusionPlace, conclusionAt}
-use Rattle.model.specs.WellFormed.{unitOk, outputOk, conditionOk, conclusionOk, ruleOk}
-use Rattle.laws.proofs.Lists.{all-at}
+use Rattle.model.specs.WellFormed.{unitOk, outputOk, conditionOk, conclusionOk}
 use Rattle.laws.proofs.Tests.{both, and-i, passed}
-use Rattle.laws.proofs.Places.{length-tab, tab-from}
+use Rattle.laws.proofs.Places.{tab-from}
 use Rattle.stored_conditions.specs.Stored.{isCondition, conditionStored}
-use Rattle.layout.specs.Tables.{inputTermsIn, conditionRows, conditionExact}
-use Rattle.layout.specs.Groups.{Sound, variablesOk, rulesOk}
+use Rattle.layout.specs.Tables.{inputTermsIn, conditionExact}
+use Rattle.layout.specs.Groups.{Sound, variablesOk}
 use Rattle.layout.proofs.Sound.{input-terms}
+use Rattle.layout.proofs.Rules.{condition-exact, rule-parts, conclusion-good}
 
 -- by the number that the code matches
 pub pair-last : (x : ℕ) → (x ≡ 0 → ⊥) → (x ≡ 1 → ⊥) → BdifBsum ≡ pairOf x
@@ -50,13 +50,6 @@ terms-few (v ∷ vs) (suc o) e =
     omega (arith, own-few v (b .0), terms-few vs o (b .1))
 
 module _ (w : ℕ → ℕ) (ok : Sound w) where
-  pub rules-few : w 6 ≤ 64
-  unfolding rulesOk decode
-  rules-few =
-      let q = passed _ (ok .rules) .1 .1 .1 .1 .0 in
-      let n = length (tab (ruleAt w) (w 6) 0) in
-      omega (arith, leb-true n 64 (both (leb 1 n) (leb n 64) q .1), length-tab (ruleAt w) (w 6) 0)
-
   outputs-few : (length (decode w .outputs) ≤ 6) × (all outputOk (decode w .outputs) ≡ true)
   unfolding variablesOk
   outputs-few =
@@ -65,34 +58,17 @@ module _ (w : ℕ → ℕ) (ok : Sound w) where
       (leb-true n 6 (both (leb 1 n) (leb n 6) (q .0) .1), q .1 .1 .0)
 
   module _ (i : ℕ) (h : i < w 6) where
-    rule-good : ruleOk (decode w) (ruleAt w i) ≡ true
-    unfolding rulesOk decode
-    rule-good =
-        let e : 0 + i ≡ i = omega arith in
-        rw (sym e) (all-at (ruleOk (decode w)) (ruleAt w) (w 6) 0 i h (passed _ (ok .rules) .1 .1 .1 .1 .1 .0))
-
-    condition-exact : conditionExact w i ≡ true
-    unfolding rulesOk conditionRows
-    condition-exact =
-        let e : 0 + i ≡ i = omega arith in
-        rw (sym e) (all-at (conditionExact w) (λ j. j) (w 6) 0 i h (passed _ (ok .rules) .1 .0))
-
     abbrev row : ℕ
     row = rulePlace w i
-
-    rule-parts : let r = ruleAt w i in
-        (conditionOk (decode w) (r .condition) ≡ true) × (all (conclusionOk (decode w)) (r .conclusions) ≡ true) × (unitOk (r .weight) ≡ true)
-    unfolding ruleOk
-    rule-parts = let q = passed _ rule-good in (q .1 .0, q .1 .1 .1 .0, q .1 .1 .1 .1 .0)
 
     condition-stored : conditionStored w (w 14 + w (row + 1)) (w (row + 2)) (length (inputTerms (decode w))) ≡ true
     unfolding conditionStored conditionExact conditionOk ruleAt
     condition-stored =
-        ap (isCondition (length (inputTerms (decode w)))) (sym (tab-from w (w 14) (w (row + 2)) (w (row + 1)))) ∙ and-i _ _ condition-exact (rule-parts .0)
+        ap (isCondition (length (inputTerms (decode w)))) (sym (tab-from w (w 14) (w (row + 2)) (w (row + 1)))) ∙ and-i _ _ (condition-exact w ok i h) (rule-parts w ok i h .0)
 
     pub weight-small : w (row + 5) ≤ M
     unfolding unitOk ruleAt
-    weight-small = leb-true _ _ (both (leb (w (row + 5)) M) (eqb (w (row + 5) % 1000) 0) (rule-parts .2) .0)
+    weight-small = leb-true _ _ (both (leb (w (row + 5)) M) (eqb (w (row + 5) % 1000) 0) (rule-parts w ok i h .2) .0)
 
     -- by the words that the code reads
     pub rule-degree-is : (ds : List ℕ) (p : Pair) (d n x y : ℕ) → p ≡ pairOf (w 16) → d ≡ w 14 + w (row + 1) → n ≡ w (row + 2) → y ≡ w (row + 5)
@@ -109,7 +85,7 @@ module _ (w : ℕ → ℕ) (ok : Sound w) where
     unfolding conclusionOk outputFirst singletonsOf ruleAt
     conclusion-term j l =
         let k = conclusionAt w (w (row + 3) + j) in
-        let q = passed _ (all-at (conclusionOk (decode w)) (conclusionAt w) (w (row + 4)) (w (row + 3)) j l (rule-parts .1)) in
+        let q = passed _ (conclusion-good w ok i h j l) in
         let lo : outputFirst (k .output) (decode w) ≤ k .term = leb-true _ _ (q .1 .0) in
         let hi : k .term < outputFirst (k .output) (decode w) + length (singletonsOf (k .output) (decode w)) = ltb-true _ _ (q .1 .1 .0) in
         omega (arith, lo, hi, input-terms w (ok .frame), outputs-few .0, terms-few (decode w .outputs) (k .output) (outputs-few .1))

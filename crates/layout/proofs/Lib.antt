@@ -7,3 +7,4 @@ pub mod Whole
 pub mod Bytes
 pub mod Groups
 pub mod Sound
+pub mod Rules

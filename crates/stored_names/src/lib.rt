@@ -1,12 +1,9 @@
 // Names in a stored image: whether one stands at a place, whether two are the same, whether those of tables differ.
 ghost use mathlib.Core.Path.{_≡_};
-ghost use mathlib.Core.Bool.{not};
-ghost use Prim.Native.Nat.{_+_, _*_, _-_, _≤_};
-ghost use lib.Dec.{eqb};
-ghost use lib.ListN.{length};
-ghost use Rattle.model.specs.Basic.{run, distinct, same};
+ghost use Prim.Native.Nat.{_-_, _≤_};
+ghost use Rattle.model.specs.Basic.{distinct, same};
 ghost use Rattle.model.specs.Tokens.{isName};
-ghost use Rattle.model.specs.Image.{wordAt, bytesOf, tab, nameAt};
+ghost use Rattle.model.specs.Image.{wordAt, tab, nameAt};
 ghost use Rattle.stored_names.specs.Stored.{wordsIn, absent, apart};
 use words::word;
 
@@ -31,42 +28,13 @@ fn is_name(w: &[u8]) -> bool
     keywords::keyword_at(w) == keywords::COUNT
 }
 
-// The bytes of the four words from place o on.
-fn bytes_at(img: &[u8], o: usize) -> [u8; bounds::NAME]
-    requires { ⌜ o ≤ 900000000000 ⌝ }
-    ensures { λ r. ⌜ r ≡ bytesOf (tab (wordAt (now (img .entry))) 4 o) ⌝ }
-{
-    let mut s = [0u8; bounds::NAME];
-    let mut k: usize = 0;
-    while k < bounds::NAME {
-        s[k] = words::byte(img, o * 4 + k);
-        k += 1;
-    }
-    s
-}
-
-// Where the first zero stands.
-fn first_zero(s: &[u8]) -> usize
-    ensures { λ r. ⌜ r ≡ run (λ c. not (eqb c 0)) (now (s .entry)) ⌝ }
-    ensures within { λ r. ⌜ r ≤ length (now (s .entry)) ⌝ }
-{
-    let mut i = 0;
-    while i < s.len() {
-        if s[i] == 0 {
-            return i;
-        }
-        i += 1;
-    }
-    i
-}
-
 // The four words from place o on hold a name.
 pub fn name_ok(img: &[u8], o: usize) -> bool
     requires { ⌜ o ≤ 900000000000 ⌝ }
     ensures { λ r. ⌜ r ≡ isName (nameAt (wordAt (now (img .entry))) o) ⌝ }
 {
-    let s = bytes_at(img, o);
-    let n = first_zero(&s);
+    let s = name_field::bytes_at(img, o);
+    let n = name_field::first_zero(&s);
     is_name(&s[..n])
 }
 

@@ -9,7 +9,8 @@ use Rattle.aggregation.proofs.Degrees.{number-at}
 use Rattle.degrees.specs.Tables.{numbers, Low}
 use Rattle.accumulation.specs.Heights.{afterConclusions}
 use Rattle.accumulation.proofs.Steps.{conclusion-turn, conclusions-start, conclusions-end, low-turn}
-use Rattle.accumulation.proofs.Rules.{rules-few, rule-conclusions, term-read}
+use Rattle.accumulation.proofs.Rules.{rule-conclusions, term-read}
+use Rattle.layout.proofs.Rules.{rules-few}
 use Rattle.accumulation.proofs.conclude.Statement.{statement}
 use Rattle.accumulation.proofs.conclude.Tie as tie
 

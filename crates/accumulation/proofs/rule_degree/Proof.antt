@@ -4,7 +4,8 @@ use native.Mathlib.Omega.{arith}
 use Rattle.model.specs.Image.{wordAt, rulePlace}
 use Rattle.laws.proofs.Places.{field}
 use Rattle.degrees.specs.Tables.{numbers}
-use Rattle.accumulation.proofs.Rules.{rules-few, weight-small, rule-degree-is}
+use Rattle.accumulation.proofs.Rules.{weight-small, rule-degree-is}
+use Rattle.layout.proofs.Rules.{rules-few}
 use borrow.Author.Needs.{needs}
 use Rattle.accumulation.proofs.rule_degree.Statement.{statement}
 use Rattle.accumulation.proofs.rule_degree.Tie as tie

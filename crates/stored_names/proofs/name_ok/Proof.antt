@@ -1,8 +1,9 @@
-use mathlib.Core.Path.{sym, _∙_}
+use mathlib.Core.Path.{sym, ap, _∙_}
 use lib.Seq.{length-take-le}
 use borrow.Author.Needs.{needs}
+use Rattle.model.specs.Tokens.{isName}
 use Rattle.model.specs.Image.{wordAt}
-use Rattle.stored_names.proofs.Names.{name-front}
+use Rattle.name_field.proofs.Names.{name-front}
 use Rattle.stored_names.proofs.name_ok.Statement.{statement}
 use Rattle.stored_names.proofs.name_ok.Tie as tie
 
@@ -29,7 +30,7 @@ returns c =
     let zero = c .before .before in
     let bytes = zero .before .before in
     let a = bytes .before .before .args in
-    c .is-name .ensures ∙ name-front (wordAt (a .img .now)) (a .o) _ _ (bytes .bytes-at .ensures) (zero .first-zero .ensures .0)
+    c .is-name .ensures ∙ ap isName (name-front (wordAt (a .img .now)) (a .o) _ _ (bytes .bytes-at .ensures) (zero .first-zero .ensures .0))
 
 pub name-ok-spec : {M : Type 1} → statement M
 name-ok-spec =

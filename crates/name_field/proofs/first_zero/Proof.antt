@@ -8,8 +8,8 @@ use borrow.Author.Needs.{needs}
 use borrow.Author.Tests.{eq-eqb, ne-eqb}
 use Rattle.model.specs.Basic.{run}
 use Rattle.characters.proofs.Laws.{run-more, run-stop, run-end}
-use Rattle.stored_names.proofs.first_zero.Statement.{statement}
-use Rattle.stored_names.proofs.first_zero.Tie as tie
+use Rattle.name_field.proofs.first_zero.Statement.{statement}
+use Rattle.name_field.proofs.first_zero.Tie as tie
 
 abbrev Inv-loop : tie.InvT-loop
 Inv-loop s i₀ i = (i ≤ length s) × (i + run (λ x. not (eqb x 0)) (drop i s) ≡ run (λ x. not (eqb x 0)) s)

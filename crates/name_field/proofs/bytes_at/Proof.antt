@@ -6,9 +6,9 @@ use lib.ListN.{length, set, replicate, length-set}
 use borrow.Author.Needs.{needs}
 use Rattle.model.specs.Image.{tab}
 use Rattle.laws.proofs.Places.{fill-front}
-use Rattle.stored_names.proofs.Names.{byteOf, four-words}
-use Rattle.stored_names.proofs.bytes_at.Statement.{statement}
-use Rattle.stored_names.proofs.bytes_at.Tie as tie
+use Rattle.name_field.proofs.Names.{byteOf, four-words}
+use Rattle.name_field.proofs.bytes_at.Statement.{statement}
+use Rattle.name_field.proofs.bytes_at.Tie as tie
 
 abbrev Inv-loop : tie.InvT-loop
 Inv-loop img o s₀ k₀ s k = (k ≤ 16) × ((length s ≡ 16) × (s ≡ tab (byteOf img o) k 0 ++ replicate (16 - k) 0))

@@ -1,0 +1,106 @@
+use Prim.Native.Nat.{_-_, _≤_, _<_}
+use native.Mathlib.Omega.{arith}
+use borrow.Author.Needs.{needs}
+use Rattle.model.specs.Image.{wordAt}
+use Rattle.laws.proofs.Places.{field}
+use Rattle.condition_listing.proofs.Names.{Among, among-all, among-next, among-found, among-none}
+use Rattle.condition_listing.proofs.owner.Statement.{statement}
+use Rattle.condition_listing.proofs.owner.Tie as tie
+
+abbrev Inv-loop : tie.InvT-loop
+Inv-loop img h t n i₀ i = (i ≤ n) × Among (wordAt img) t i
+
+abbrev μ-loop : tie.MeasureT-loop
+μ-loop img h t n i₀ i = n - i
+
+loop-holds : tie.Need-loop-holds Inv-loop μ-loop
+loop-holds c =
+    let s = c .before in
+    (search needs, among-all (wordAt (s .args .img .now)) (s .args .t) (s .pre .0))
+
+input-row-requires : tie.Need-input-row-requires Inv-loop μ-loop
+input-row-requires c κs =
+    let h = c .before .before .before .pre .1 in
+    omega (arith, h .input-table, h .fits 9, h .inputs, h .fits 2)
+
+add-word : tie.Need-add-word Inv-loop μ-loop
+add-word c = search needs
+
+word-requires : tie.Need-word-requires Inv-loop μ-loop
+word-requires c κs = search needs
+
+add-word-2 : tie.Need-add-word-2 Inv-loop μ-loop
+add-word-2 c = search needs
+
+word-requires-2 : tie.Need-word-requires-2 Inv-loop μ-loop
+word-requires-2 c κs = search needs
+
+add-if1 : tie.Need-add-if1 Inv-loop μ-loop
+add-if1 c = search needs
+
+returns : tie.Need-returns Inv-loop μ-loop
+returns c =
+    let second = c .before in
+    let first = second .before in
+    let row = first .before in
+    let l = row .before .before .loop in
+    let s = row .before .before .before .before in
+    let hd = s .pre .1 in
+    let w = wordAt (s .args .img .now) in
+    let o = row .input-row .ensures .0 w hd in
+    let below : l .i < w 2 = omega (arith, hd .inputs) in (
+      λ h. among-found w (s .args .t) (l .i) _ _ below (field w _ _ 5 _ (first .word .ensures .0) o) (field w _ _ 6 _ (second .word2 .ensures .0) o)
+          (c .if1 .taken) (l .inv .1),
+      λ h. absurd (omega (arith, hd .inputs)),
+    )
+
+add-i : tie.Need-add-i Inv-loop μ-loop
+add-i c = search needs
+
+loop-less : tie.Need-loop-less Inv-loop μ-loop
+loop-less c = search needs
+
+loop-again : tie.Need-loop-again Inv-loop μ-loop
+loop-again c =
+    let second = c .before in
+    let first = second .before in
+    let row = first .before in
+    let l = row .before .before .loop in
+    let s = row .before .before .before .before in
+    let hd = s .pre .1 in
+    let w = wordAt (s .args .img .now) in
+    let o = row .input-row .ensures .0 w hd in
+    let below : l .i < w 2 = omega (arith, hd .inputs) in (
+      search needs,
+      among-next w (s .args .t) (l .i) _ _ below (field w _ _ 5 _ (first .word .ensures .0) o) (field w _ _ 6 _ (second .word2 .ensures .0) o)
+          (c .if1 .left) (l .inv .1),
+    )
+
+returns-2 : tie.Need-returns-2 Inv-loop μ-loop
+returns-2 c =
+    let l = c .before .loop in
+    let s = c .before .before .before in
+    let hd = s .pre .1 in
+    let w = wordAt (s .args .img .now) in (
+      λ h. absurd (omega arith),
+      λ h. among-none w (s .args .t) (l .i) (omega (arith, hd .inputs)) (l .inv .1),
+    )
+
+pub owner-spec : {M : Type 1} → statement M
+owner-spec =
+    tie.close
+    (tie.spec
+    Inv-loop
+    μ-loop
+    loop-holds
+    input-row-requires
+    add-word
+    word-requires
+    add-word-2
+    word-requires-2
+    add-if1
+    returns
+    add-i
+    loop-less
+    loop-again
+    returns-2)

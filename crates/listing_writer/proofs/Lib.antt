@@ -1,0 +1,2 @@
+pub mod Prepends
+pub mod Lists
