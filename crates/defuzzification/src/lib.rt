@@ -73,11 +73,11 @@ fn without_rule(img: &[u8], h: Header, i: usize, held: Crisp) -> Answer
             value: value,
         };
     }
-    let x = crisp_at(img, row + header::OUTPUT_DEFAULT);
-    let value = crisp::to_float(x);
+    let declared = crisp_at(img, row + header::OUTPUT_DEFAULT);
+    let value = crisp::to_float(declared);
     Answer {
         mark: Mark::Default,
-        thousandths: x,
+        thousandths: declared,
         sum: 0,
         value: value,
     }

@@ -3,20 +3,27 @@ use mathlib.Core.Bool.{Bool, true, false}
 use mathlib.Core.List.{List, [], _∷_, _++_, map}
 use mathlib.Core.Option.{Option, none, some}
 use mathlib.Core.Path.{_≡_, refl}
-use Prim.Native.Nat.{ℕ}
+use Prim.Native.Nat.{ℕ, _-_}
 use lib.Ieee.{Float, nan, inf, fin, binary32, binary64, ofInt, ofBits, toBits}
 use lib.IntN.{ℤ, pos, negsuc}
+use lib.ListN.{length, replicate}
 use Rattle.model.specs.Basic.{bytes}
-use Rattle.model.specs.Block.{Block, Range, real, int, by-min, by-prod, withAct}
+use Rattle.model.specs.Bounds.{inputLimit}
+use Rattle.model.specs.Block.{Block, Range, real, int, by-min, by-prod, emptyBlock, withAct}
 use Rattle.model.specs.Outcome.{Outcome, accepted, refused}
 use Rattle.model.specs.Reader.{reads}
 use Rattle.model.specs.Image.{image}
 use Rattle.model.specs.Readings.{realOf, taken, valueIn, floatOf}
-use Rattle.model.specs.Evaluation.{outputAnswer, startOf, heldOf, noAnswer, padded, CallResult, callResult, evaluateBlock, evaluate, answersAfter, heldAfter, fresh, recordIn, heldAfterAll, fromFresh, Call}
+use Rattle.model.specs.Evaluation.{outputAnswer, startOf, heldOf, noAnswer, padded, CallResult, callResult, evaluateBlock, evaluate, answersAfter, heldAfter, leaving, fresh, starting, recordIn}
+use Rattle.model.specs.Calls.{Call, rightCall, inputDegrees, defined, degreesOf, degreesIn, Made, evaluated, daily, callOf, resultOf, Trace, recordAfter, Seen, seen, markOf, figureOf, raisedIn}
 use Rattle.model.specs.declared.Answer.{Answer}
 use Rattle.model.specs.declared.Mark.{Mark}
 use Rattle.model.specs.declared.Mark.the-variants.{None, Fired, Default, Held as HeldMark}
 use Rattle.model.specs.declared.Held.{Held}
+use Rattle.model.specs.declared.Refusal.{Refusal}
+use Rattle.model.specs.declared.Refusal.the-variants.{WrongCount, WrongReading}
+use Rattle.model.specs.declared.Reply.{Reply}
+use Rattle.model.specs.declared.Verdict.the-variants.{Accepted, Refused}
 use Rattle.model.specs.declared.Taken.{Taken}
 use Rattle.model.specs.declared.Taken.the-variants.{Value, Absent as Missing, NotFinite, WrongKind}
 use Rattle.model.specs.declared.Reading.{Reading}
@@ -140,42 +147,115 @@ unfolding opened
 fresh-taken = refl
 
 abbrev calling : List Reading → ℕ → Call
-calling rs n = record { readings = rs; count = n }
+calling rs n = record { readings = rs ++ replicate (inputLimit - length rs) Absent; count = n }
 
 abbrev whole : ℤ → Reading
 whole z = Real (ofInt binary32 z)
 
-abbrev answered : Answer → Answer → ℤ → ℤ → Outcome CallResult
-answered a c x y = accepted (record { answers = padded noAnswer (a ∷ c ∷ []); held = heldOf (x ∷ y ∷ []) })
+-- A LIST OF CALLS of both kinds, and what came of each
+abbrev given : Answer → Answer → Reply
+given a c = record { verdict = Accepted; answers = padded noAnswer (a ∷ c ∷ []) }
 
-abbrev list : List Call
-list =
-    calling (whole (pos 0) ∷ Int (negsuc 4) ∷ []) 2
-    ∷ calling (whole (pos 1) ∷ Int (pos 2) ∷ Absent ∷ []) 2
-    ∷ calling (whole (pos 1) ∷ Int (pos 2) ∷ []) 1
-    ∷ calling (Int (pos 1) ∷ Int (pos 2) ∷ []) 2
-    ∷ calling (whole (pos 1) ∷ Absent ∷ []) 2
-    ∷ calling (Real (inf false) ∷ Int (pos 2) ∷ []) 2
-    ∷ calling (whole (negsuc 6) ∷ Int (pos 3) ∷ []) 2
-    ∷ calling (whole (pos 0) ∷ Int (pos 1) ∷ []) 2
-    ∷ []
+abbrev notGiven : Refusal → Reply
+notGiven r = record { verdict = Refused r; answers = padded noAnswer [] }
+
+-- of the evaluator, and for daily use, each with the record that it returned or left
+abbrev valued : List Reading → ℕ → Reply → ℤ → ℤ → Made
+valued rs n r x y = evaluated (calling rs n) (leaving r (heldOf (x ∷ y ∷ [])))
+
+abbrev lent : List Reading → ℕ → Reply → ℤ → ℤ → Made
+lent rs n r x y = daily (calling rs n) r (heldOf (x ∷ y ∷ []))
 
 -- nothing fires: y holds its fresh figure, z answers its default; then y has heights 1 at 10 and 0.5 at 20, z 0.5 at -4.5;
 -- then a wrong count, a wrong kind, an absent and an infinite reading; then nothing fires again;
 -- then y has 0.5 at 10 twice
-called-list : fromFresh stored list
-    ≡ accepted (
-    answered (answer HeldMark (pos 10000) 0 0x4024000000000000) (answer Default (negsuc 2999) 0 0xc008000000000000) (pos 10000) (negsuc 2999)
-    ∷ answered (answer Fired (pos 13333) 1500000 0x402aaa7ef9db22d1) (answer Fired (negsuc 4499) 500000 0xc012000000000000) (pos 13333) (negsuc 4499)
-    ∷ refused 12 none ∷ refused 14 (some 0) ∷ refused 14 (some 1) ∷ refused 14 (some 0)
-    ∷ answered (answer HeldMark (pos 13333) 0 0x402aaa7ef9db22d1) (answer Default (negsuc 2999) 0 0xc008000000000000) (pos 13333) (negsuc 2999)
-    ∷ answered (answer Fired (pos 10000) 1000000 0x4024000000000000) (answer Default (negsuc 2999) 0 0xc008000000000000) (pos 10000) (negsuc 2999)
-    ∷ [])
-unfolding opened
-called-list = refl
+abbrev list : List Made
+list =
+    lent (whole (pos 0) ∷ Int (negsuc 4) ∷ []) 2
+    (given (answer HeldMark (pos 10000) 0 0x4024000000000000) (answer Default (negsuc 2999) 0 0xc008000000000000)) (pos 10000) (negsuc 2999)
+    ∷ valued (whole (pos 1) ∷ Int (pos 2) ∷ Absent ∷ []) 2
+    (given (answer Fired (pos 13333) 1500000 0x402aaa7ef9db22d1) (answer Fired (negsuc 4499) 500000 0xc012000000000000)) (pos 13333) (negsuc 4499)
+    ∷ lent (whole (pos 1) ∷ Int (pos 2) ∷ []) 1 (notGiven WrongCount) (pos 13333) (negsuc 4499)
+    ∷ valued (Int (pos 1) ∷ Int (pos 2) ∷ []) 2 (notGiven (WrongReading 0)) (pos 13333) (negsuc 4499)
+    ∷ lent (whole (pos 1) ∷ Absent ∷ []) 2 (notGiven (WrongReading 1)) (pos 13333) (negsuc 4499)
+    ∷ valued (Real (inf false) ∷ Int (pos 2) ∷ []) 3 (notGiven WrongCount) (pos 13333) (negsuc 4499)
+    ∷ valued (Real (inf false) ∷ Int (pos 2) ∷ []) 2 (notGiven (WrongReading 0)) (pos 13333) (negsuc 4499)
+    ∷ valued (whole (negsuc 6) ∷ Int (pos 3) ∷ []) 2
+    (given (answer HeldMark (pos 13333) 0 0x402aaa7ef9db22d1) (answer Default (negsuc 2999) 0 0xc008000000000000)) (pos 13333) (negsuc 2999)
+    ∷ lent (whole (pos 0) ∷ Int (pos 1) ∷ []) 2
+    (given (answer Fired (pos 10000) 1000000 0x4024000000000000) (answer Default (negsuc 2999) 0 0xc008000000000000)) (pos 10000) (negsuc 2999)
+    ∷ []
 
-record-after : heldAfterAll stored (heldOf (pos 10000 ∷ negsuc 1999 ∷ [])) list ≡ heldOf (pos 10000 ∷ negsuc 2999 ∷ [])
+-- each call is as the contracts say, so the list is one that `Demand3` speaks of
+pub traced : Trace stored (recordIn (fresh stored)) list
 unfolding opened
+traced = (
+  record { verdict = refl; answers = refl; held = refl },
+  (
+    record { verdict = refl; answers = refl; held = refl },
+    (
+      record { verdict = refl; answers = refl; held = refl },
+      (
+        record { verdict = refl; answers = refl; held = refl },
+        (
+          record { verdict = refl; answers = refl; held = refl },
+          (
+            record { verdict = refl; answers = refl; held = refl },
+            (
+              record { verdict = refl; answers = refl; held = refl },
+              (
+                record { verdict = refl; answers = refl; held = refl },
+                (record { verdict = refl; answers = refl; held = refl }, tt),
+              ),
+            ),
+          ),
+        ),
+      ),
+    ),
+  ),
+)
+
+abbrev blockRead : Outcome Block → Block
+blockRead (accepted b) = b
+blockRead (refused n p) = emptyBlock
+
+abbrev read : Block
+read = blockRead (reads block)
+
+-- by the block and the readings alone
+right-calls : map (λ m. rightCall read (callOf m)) list ≡ true ∷ true ∷ false ∷ false ∷ false ∷ false ∷ false ∷ true ∷ true ∷ []
+unfolding opened
+right-calls = refl
+
+defined-answers : defined read (starting read) (map callOf list) ≡ map (λ m. resultOf m .answers) list
+unfolding opened
+defined-answers = refl
+
+-- each output of each accepted call: its mark, the singletons with a height above zero, the figure before, its own
+abbrev Shown : Type 0
+Shown = Mark × List ℤ × ℤ × ℤ
+
+abbrev show : Seen → Shown
+show o = (markOf o, raisedIn o, o .before, figureOf o)
+
+shown : _≡_ {A = List Shown} (map show (seen read (starting read) list)) (
+    (HeldMark, [], pos 10000, pos 10000) ∷ (Default, [], negsuc 1999, negsuc 2999)
+    ∷ (Fired, pos 10000 ∷ pos 20000 ∷ [], pos 10000, pos 13333) ∷ (Fired, negsuc 4499 ∷ [], negsuc 2999, negsuc 4499)
+    ∷ (HeldMark, [], pos 13333, pos 13333) ∷ (Default, [], negsuc 4499, negsuc 2999)
+    ∷ (Fired, pos 10000 ∷ [], pos 13333, pos 10000) ∷ (Default, [], negsuc 2999, negsuc 2999) ∷ [])
+unfolding opened
+shown = refl
+
+-- the degrees of points and weights; of the second call's input terms, conditions and their parts, rules, subconclusions, heights
+degrees-shown : degreesOf read ∷ degreesIn read (inputDegrees read (calling (whole (pos 1) ∷ Int (pos 2) ∷ []) 2)) ∷ []
+    ≡ (0 ∷ 1000000 ∷ 0 ∷ 500000 ∷ 1000000 ∷ 0 ∷ 1000000 ∷ 1000000 ∷ 1000000 ∷ 500000 ∷ 1000000 ∷ [])
+    ∷ (1000000 ∷ 1000000 ∷ 1000000 ∷ 1000000 ∷ 1000000 ∷ 1000000 ∷ 500000 ∷ 1000000
+    ∷ 1000000 ∷ 1000000 ∷ 500000 ∷ 500000 ∷ 1000000 ∷ 500000 ∷ 500000 ∷ [])
+    ∷ []
+unfolding opened
+degrees-shown = refl
+
+record-after : recordAfter (recordIn (fresh stored)) list ≡ heldOf (pos 10000 ∷ negsuc 2999 ∷ [])
 record-after = refl
 
 -- THE ORDER OF CHECKS, and what is wrong with a held record: below its RANGE, above it, an unused place

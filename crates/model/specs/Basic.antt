@@ -37,6 +37,11 @@ unfoldable pub all : {A : Type 0} → (A → Bool) → List A → Bool
 all f [] = true
 all f (x ∷ xs) = f x && all f xs
 
+-- a fact of each element
+abbrev pub Each : {A : Type 0} → (A → Type 0) → List A → Type 0
+Each P [] = Unit {0}
+Each P (x ∷ xs) = P x × Each P xs
+
 -- the sum of f over a list
 unfoldable pub total : {A : Type 0} → (A → ℕ) → List A → ℕ
 total f [] = 0

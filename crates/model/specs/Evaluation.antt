@@ -1,6 +1,6 @@
--- Evaluation: rules, heights, the answer of each output; the held record; one call with its checks; a list of calls.
+-- Evaluation: rules, heights, the answer of each output; the held record; one call with its checks.
 use mathlib.Core.Bool.{Bool, false, _&&_, not}
-use mathlib.Core.List.{List, [], _∷_, _++_, map, foldl}
+use mathlib.Core.List.{List, [], _∷_, _++_, map}
 use mathlib.Core.Option.{Option, none, some}
 use mathlib.Core.Path.{_≡_}
 use Prim.Native.Nat.{ℕ, suc, _-_, max}
@@ -24,6 +24,7 @@ use Rattle.model.specs.declared.Mark.the-variants.{None, Fired, Default,
 use Rattle.model.specs.declared.Answer.{Answer}
 use Rattle.model.specs.declared.Held.{Held}
 use Rattle.model.specs.declared.Evaluation.{Evaluation}
+use Rattle.model.specs.declared.Reply.{Reply}
 
 -- THE RULES
 -- the degree of every input term, by the inputs' values
@@ -100,8 +101,11 @@ abbrev pub startOf : Option Range → ℤ
 startOf none = pos 0
 startOf (some g) = if ltZ (pos 0) (g .least) then g .least else if ltZ (g .most) (pos 0) then g .most else pos 0
 
+abbrev pub starting : Block → List ℤ
+starting b = map (λ v. startOf (v .range)) (b .outputs)
+
 unfoldable pub freshOf : Block → Held
-freshOf b = heldOf (map (λ v. startOf (v .range)) (b .outputs))
+freshOf b = heldOf (starting b)
 
 -- a value for each output, in the crisp bounds and in its RANGE, and 0 in the places past the last
 unfoldable pub heldOk : List Output → List ℤ → Bool
@@ -128,9 +132,13 @@ pub record CallResult : Type 0 where
 unfoldable pub blockAnswers : Block → List ℤ → List ℤ → List Answer
 blockAnswers b xs held = outputAnswers b (height b (termDegrees (b .inputs) xs)) 0 (b .outputs) held
 
+-- the outputs' thousandths
+abbrev pub figures : List Answer → List ℤ
+figures given = map (λ a. a .thousandths .0) given
+
 -- an accepted call stores every output's thousandths
 abbrev pub callResult : List Answer → CallResult
-callResult given = record { answers = padded noAnswer given; held = heldOf (map (λ a. a .thousandths .0) given) }
+callResult given = record { answers = padded noAnswer given; held = heldOf (figures given) }
 
 unfoldable pub evaluateBlock : Block → List Reading → ℕ → Held → Outcome CallResult
 evaluateBlock b rs n h =
@@ -157,6 +165,10 @@ pub record Tells (r : Evaluation) (h : Held) (o : Outcome CallResult) : Type 0 w
   pub answers : r .answers ≡ answersAfter o
   pub held : r .held ≡ heldAfter h o
 
+-- a call for daily use as an evaluation: its reply, with the record that it leaves
+abbrev pub leaving : Reply → Held → Evaluation
+leaving r after = record { verdict = r .verdict; answers = r .answers; held = after }
+
 unfoldable pub fresh : List ℕ → Outcome Held
 fresh img = andThen (loads img) (λ b. accepted (freshOf b))
 
@@ -164,23 +176,3 @@ fresh img = andThen (loads img) (λ b. accepted (freshOf b))
 abbrev pub recordIn : Outcome Held → Held
 recordIn (accepted h) = h
 recordIn (refused n p) = heldOf []
-
--- A LIST OF CALLS
-pub record Call : Type 0 where
-  pub readings : List Reading
-  pub count : ℕ
-
--- each call gets the record that the one before returned or left
-unfoldable pub evaluateList : List ℕ → Held → List Call → List (Outcome CallResult)
-evaluateList img h [] = []
-evaluateList img h (c ∷ cs) =
-    let e : Outcome CallResult = evaluate img (c .readings) (c .count) h in
-    e ∷ evaluateList img (heldAfter h e) cs
-
--- the record after the list
-unfoldable pub heldAfterAll : List ℕ → Held → List Call → Held
-heldAfterAll img h cs = foldl heldAfter h (evaluateList img h cs)
-
--- the calls on an image from its fresh record on
-unfoldable pub fromFresh : List ℕ → List Call → Outcome (List (Outcome CallResult))
-fromFresh img cs = andThen (fresh img) (λ h. accepted (evaluateList img h cs))

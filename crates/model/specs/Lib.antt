@@ -18,3 +18,4 @@ pub mod Printed
 pub mod Degrees
 pub mod Readings
 pub mod Evaluation
+pub mod Calls

@@ -109,3 +109,9 @@ pub struct Evaluation {
     pub answers: [Answer; 6],
     pub held: Held,
 }
+
+// One call for daily use: the answers of all outputs; the held record is brought up to date where it stands.
+pub struct Reply {
+    pub verdict: Verdict,
+    pub answers: [Answer; 6],
+}

@@ -69,7 +69,7 @@ pub fn write_verdict(v: Verdict) {
 }
 
 // Any 32-bit number in decimal: a held record that is refused may hold each of them.
-fn write_signed(x: Crisp) {
+pub fn write_signed(x: Crisp) {
     let n = x.0;
     if n < -2147483647 {
         io::write_all(1, b"-2147483648");
@@ -99,19 +99,19 @@ fn write_held(held: Held) {
     io::write_all(1, b"\n");
 }
 
-fn write_mark(m: Mark) {
+pub fn write_mark(m: Mark) {
     match m {
         Mark::None => {
-            io::write_all(1, b", none");
+            io::write_all(1, b"none");
         }
         Mark::Fired => {
-            io::write_all(1, b", fired");
+            io::write_all(1, b"fired");
         }
         Mark::Default => {
-            io::write_all(1, b", default");
+            io::write_all(1, b"default");
         }
         Mark::Held => {
-            io::write_all(1, b", held");
+            io::write_all(1, b"held");
         }
     }
 }
@@ -126,6 +126,7 @@ fn write_bits(x: f64) {
 }
 
 fn write_answer(a: Answer) {
+    io::write_all(1, b", ");
     let m = a.mark;
     write_mark(m);
     let t = a.thousandths;
