@@ -90,10 +90,6 @@ module _ (w : ℕ → ℕ) (ok : Sound w) where
         let hi : k .term < outputFirst (k .output) (decode w) + length (singletonsOf (k .output) (decode w)) = ltb-true _ _ (q .1 .1 .0) in
         omega (arith, lo, hi, input-terms w (ok .frame), outputs-few .0, terms-few (decode w .outputs) (k .output) (outputs-few .1))
 
-    pub rule-conclusions : (first n : ℕ) → first ≡ w (row + 3) → n ≡ w (row + 4) → tab (conclusionAt w) n first ≡ ruleAt w i .conclusions
-    unfolding ruleAt
-    rule-conclusions first n ef en = rw (ef, en) refl
-
     pub term-read : (first n j t : ℕ) → first ≡ w (row + 3) → n ≡ w (row + 4) → j < n → t ≡ w (conclusionPlace w (first + j) + 1)
         → (t ≡ conclusionAt w (first + j) .term) × (inputTermsIn w ≤ t) × (t < inputTermsIn w + 42)
     unfolding conclusionAt

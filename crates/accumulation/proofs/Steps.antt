@@ -2,7 +2,7 @@
 use mathlib.Core.Path.{_≡_, refl, sym, ap, _∙_}
 use mathlib.Core.List.{List, [], _∷_, _++_}
 use mathlib.Core.Bool.{Bool, true, false}
-use Prim.Native.Nat.{ℕ, zero, suc, _+_, _-_, _≤_, _<_}
+use Prim.Native.Nat.{ℕ, suc, _+_, _-_, _≤_, _<_}
 use native.Mathlib.Omega.{arith}
 use borrow.Author.Tests.{eqb-true, eqb-false}
 use lib.Dec.{eqb}
@@ -15,6 +15,7 @@ use Rattle.model.specs.Evaluation.{ruleDegree, accumulated, accumulateAll, subc
 use Rattle.model.specs.Image.{tab, decode, ruleAt}
 use Rattle.model.specs.declared.Degree.{Degree}
 use Rattle.model.specs.Bounds.{M}
+use Rattle.laws.proofs.Arrays.{replicate-at}
 use Rattle.degrees.specs.Tables.{numbers, Low}
 use Rattle.aggregation.proofs.Degrees.{low-set, numbers-set, numbers-zeros, number-at}
 use Rattle.accumulation.specs.Heights.{afterConclusions}
@@ -119,12 +120,7 @@ pub low-turn : (r : List Degree) (n : ℕ) (v : Degree) → Low (numbers r) → 
 low-turn r n v low h = rw (numbers-set r n v) (low-set (numbers r) n (v .0) low h)
 
 pub zeros : (n p : ℕ) → let z : Degree = record { 0 = 0 } in getD (numbers (replicate n z)) p 0 ≡ 0
-zeros n p = rw (numbers-zeros n) (go n p)
-  where
-    go : (n p : ℕ) → _≡_ {A = ℕ} (getD (replicate n 0) p 0) 0
-    go zero p = refl
-    go (suc n) zero = refl
-    go (suc n) (suc p) = go n p
+zeros n p = rw (numbers-zeros n) (replicate-at n p 0)
 
 pub rules-start : (w : ℕ → ℕ) (ds : List ℕ) (n t h : ℕ) → n ≡ w 6 → h ≡ 0 → afterRules (decode w) ds t (tab (ruleAt w) (n - 0) 0) h ≡ height (decode w) ds t
 unfolding decode

@@ -13,6 +13,7 @@ use Rattle.model.specs.Block as block
 use Rattle.model.specs.Block.{Block, inputFirst, outputFirst}
 use Rattle.model.specs.Image.{tab}
 use Rattle.laws.proofs.Places.{take-tab, length-tab}
+use Rattle.laws.proofs.Lists.{length-gather}
 use Rattle.block_tables.specs.declared.Tables.{Tables}
 use Rattle.block_tables.specs.View.{inputRow, outputRow, inputView, outputView, termView, singletonView, inputsView, outputsView, Holds}
 use Rattle.block_updates.proofs.Lookups as lookups
@@ -144,7 +145,7 @@ module _ (t : Tables) (r : List ℕ) (l : length r ≡ 17) (f : Firsts (termsAt 
       unfolding outputFirst outputView
       output-firsts o h =
           (λ j. (ap (λ (vs : List block.Input). length (gather (λ v. v .terms) vs)) bi
-          ∙ sum.length-gather (λ (v : block.Input). v .terms) (inputsView s t) ∙ counted (t .«input_count») (omega arith) ∙ sym to-eight) j
+          ∙ length-gather (λ (v : block.Input). v .terms) _ (λ v. refl) (inputsView s t) ∙ counted (t .«input_count») (omega arith) ∙ sym to-eight) j
           + (ap (λ (vs : List block.Output). total (λ v. length (v .terms)) (take o vs)) bo
           ∙ ap (total (λ v. length (v .terms))) (take-tab (outputView s t) (t .«output_count») o 0 (omega arith))
           ∙ sum.total-tab (λ (v : block.Output). length (v .terms)) (outputView s t) o

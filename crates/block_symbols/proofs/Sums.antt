@@ -8,9 +8,9 @@ use native.Mathlib.Omega.{arith}
 use borrow.Author.Tests.{eqb-true, eqb-false}
 use lib.Dec.{eqb}
 use lib.Arith.{lt-of-le-ne}
-use lib.ListN.{length, getD, set, length-append}
+use lib.ListN.{length, getD, set}
 use lib.Seq.{getD-set-same, getD-set-other}
-use Rattle.model.specs.Basic.{total, gather}
+use Rattle.model.specs.Basic.{total}
 use Rattle.model.specs.Image.{tab}
 use Rattle.laws.proofs.Lists.{total-append}
 use Rattle.laws.proofs.Places.{tab-last}
@@ -67,8 +67,3 @@ total-tab {A} f g (suc n) =
     ∙ ap (λ (k : ℕ). total f (tab g n 0) + (f (g k) + 0)) z
     ∙ ap (λ (k : ℕ). k + (f (g n) + 0)) (total-tab f g n)
     ∙ omega arith
-
-pub length-gather : {A B : Type 0} (f : A → List B) (xs : List A) → length (gather f xs) ≡ total (λ x. length (f x)) xs
-unfolding gather total
-length-gather f [] = refl
-length-gather f (x ∷ xs) = length-append (f x) (gather f xs) ∙ ap (λ (n : ℕ). length (f x) + n) (length-gather f xs)

@@ -4,7 +4,7 @@ ghost use mathlib.Core.List.{List};
 ghost use Prim.Native.Nat.{ℕ, _+_, _≤_, _<_};
 ghost use lib.Dec.{ltb};
 ghost use lib.ListN.{getD};
-ghost use Rattle.model.specs.Bounds.{inputLimit, outputLimit, termLimit};
+ghost use Rattle.model.specs.Bounds.{inputLimit, outputLimit, termLimit, variableLimit, inputTermLimit};
 ghost use Rattle.model.specs.Basic.{if_then_else_};
 ghost use Rattle.model.specs.Block.{Block};
 ghost use Rattle.block_tables.specs.View.{no-input, no-output, inputsView, outputsView, Holds};
@@ -30,8 +30,8 @@ fn with_inputs(symbols: SymbolTable, rows: [Input; bounds::INPUTS], n: usize) ->
     requires { ⌜ (getD symbols 0 0 ≡ 0) × ((i : ℕ) → getD rows i no-input .terms ≤ termLimit) ⌝ }
     ensures { λ r. ⌜ ((c : ℕ → ℕ) → ((i : ℕ) → i < inputLimit
         → c i ≡ (if ltb i n then getD rows i no-input .terms else 0))
-        → Firsts c 8 r) ⌝ }
-    ensures small { λ r. ⌜ getD r 8 0 ≤ 56 ⌝ }
+        → Firsts c inputLimit r) ⌝ }
+    ensures small { λ r. ⌜ getD r inputLimit 0 ≤ inputTermLimit ⌝ }
 {
     let mut r = symbols;
     let mut i = 0;
@@ -45,10 +45,10 @@ fn with_inputs(symbols: SymbolTable, rows: [Input; bounds::INPUTS], n: usize) ->
 }
 
 fn with_outputs(symbols: SymbolTable, rows: [Output; bounds::OUTPUTS], n: usize) -> SymbolTable
-    requires { ⌜ (getD symbols 8 0 ≤ 56) × ((i : ℕ) → getD rows i no-output .terms ≤ termLimit) ⌝ }
-    ensures { λ r. ⌜ ((c : ℕ → ℕ) → Firsts c 8 symbols
-        → ((i : ℕ) → i < outputLimit → c (8 + i) ≡ (if ltb i n then getD rows i no-output .terms else 0))
-        → Firsts c 14 r) ⌝ }
+    requires { ⌜ (getD symbols inputLimit 0 ≤ inputTermLimit) × ((i : ℕ) → getD rows i no-output .terms ≤ termLimit) ⌝ }
+    ensures { λ r. ⌜ ((c : ℕ → ℕ) → Firsts c inputLimit symbols
+        → ((i : ℕ) → i < outputLimit → c (inputLimit + i) ≡ (if ltb i n then getD rows i no-output .terms else 0))
+        → Firsts c variableLimit r) ⌝ }
 {
     let mut r = symbols;
     let mut i = 0;

@@ -5,6 +5,7 @@ use mathlib.Core.List.{List, [], _∷_}
 use Prim.Native.Nat.{ℕ, _*_, _≤_}
 use lib.ListN.{length, take}
 use Rattle.model.specs.Basic.{gather}
+use Rattle.model.specs.Bounds.{ruleLimit, wordLimit, conclusionLimit}
 use Rattle.model.specs.Block.{Rule, size}
 use Rattle.model.specs.Image.{postfix, conclusionWords}
 
@@ -22,6 +23,6 @@ pub record Stored (rs : List Rule) (rules ws ks : List ℕ) (m n k : ℕ) : Type
   pub rows : take (m * 4) rules ≡ gather ruleRow rs
   pub words : take n ws ≡ conditionWords rs
   pub conclusions : take (k * 2) ks ≡ conclusionPairs rs
-  pub few-rules : m ≤ 64
-  pub few-words : n ≤ 640
-  pub few-conclusions : k ≤ 128
+  pub few-rules : m ≤ ruleLimit
+  pub few-words : n ≤ wordLimit
+  pub few-conclusions : k ≤ conclusionLimit

@@ -9,6 +9,7 @@ use lib.IntN.{ℤ, pos}
 use lib.ListN.{length, getD}
 use lib.Seq.{slice}
 use Rattle.model.specs.Basic.{if_then_else_}
+use Rattle.model.specs.Bounds.{inputLimit, outputLimit, termLimit, pointLimit, variableLimit, inputTermLimit, outputTermLimit, symbolLimit, inputPointLimit}
 use Rattle.model.specs.Block as block
 use Rattle.model.specs.Block.{Block, Range, Rule}
 use Rattle.model.specs.declared.InputType.the-variants.{Real as real, Int as int}
@@ -57,8 +58,8 @@ pointView t k = record { at = getD (t .points) k no-point .at .0; degree = getD 
 
 unfoldable pub termView : List ℕ → Tables → ℕ → ℕ → block.Term
 termView s t i j = record {
-  name = nameOf s (t .names) (14 + i * 7 + j);
-  points = tab (pointView t) (getD (t .counts) (i * 7 + j) 0) ((i * 7 + j) * 4);
+  name = nameOf s (t .names) (variableLimit + i * termLimit + j);
+  points = tab (pointView t) (getD (t .counts) (i * termLimit + j) 0) ((i * termLimit + j) * pointLimit);
 }
 
 unfoldable pub inputView : List ℕ → Tables → ℕ → block.Input
@@ -71,8 +72,8 @@ inputView s t i = record {
 -- the singleton j of output o
 unfoldable pub singletonView : List ℕ → Tables → ℕ → ℕ → block.Singleton
 singletonView s t o j = record {
-  name = nameOf s (t .names) (14 + (8 + o) * 7 + j);
-  at = getD (t .singletons) (o * 7 + j) zero-crisp .0;
+  name = nameOf s (t .names) (variableLimit + (inputLimit + o) * termLimit + j);
+  at = getD (t .singletons) (o * termLimit + j) zero-crisp .0;
 }
 
 abbrev pub rangeView : Output → Option Range
@@ -83,7 +84,7 @@ defaultView v = if v .numbered then some (v .default .0) else none
 
 unfoldable pub outputView : List ℕ → Tables → ℕ → block.Output
 outputView s t o = record {
-  name = nameOf s (t .names) (8 + o);
+  name = nameOf s (t .names) (inputLimit + o);
   terms = tab (singletonView s t o) (outputRow t o .terms) 0;
   range = rangeView (outputRow t o);
   default = defaultView (outputRow t o);
@@ -129,17 +130,17 @@ pub record Holds (s : List ℕ) (t : Tables) : Type 0 where
   pub order : t .start ≤ t .end
   pub inside : t .end ≤ length s
   pub placed : Placed s (t .names)
-  pub inputCount : t .«input_count» ≤ 8
-  pub outputCount : t .«output_count» ≤ 6
-  pub inputTerms : (i : ℕ) → inputRow t i .terms ≤ 7
-  pub outputTerms : (o : ℕ) → outputRow t o .terms ≤ 7
-  pub pointCounts : (k : ℕ) → getD (t .counts) k 0 ≤ 4
-  pub names-size : length (t .names) ≡ 224
-  pub inputs-size : length (t .inputs) ≡ 8
-  pub outputs-size : length (t .outputs) ≡ 6
-  pub counts-size : length (t .counts) ≡ 56
-  pub points-size : length (t .points) ≡ 224
-  pub singletons-size : length (t .singletons) ≡ 42
+  pub inputCount : t .«input_count» ≤ inputLimit
+  pub outputCount : t .«output_count» ≤ outputLimit
+  pub inputTerms : (i : ℕ) → inputRow t i .terms ≤ termLimit
+  pub outputTerms : (o : ℕ) → outputRow t o .terms ≤ termLimit
+  pub pointCounts : (k : ℕ) → getD (t .counts) k 0 ≤ pointLimit
+  pub names-size : length (t .names) ≡ symbolLimit * 2
+  pub inputs-size : length (t .inputs) ≡ inputLimit
+  pub outputs-size : length (t .outputs) ≡ outputLimit
+  pub counts-size : length (t .counts) ≡ inputTermLimit
+  pub points-size : length (t .points) ≡ inputPointLimit
+  pub singletons-size : length (t .singletons) ≡ outputTermLimit
 
 -- a name in the text, and words of algorithms
 pub record Headed (s : List ℕ) (h : Heading) : Type 0 where

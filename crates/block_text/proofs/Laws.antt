@@ -16,9 +16,9 @@ use Rattle.model.specs.Parse.{Parse, Checks, is, refuse, advance, judged, expec
 use Rattle.model.specs.Tokens.{tokens}
 use Rattle.model.specs.Reader.{start, partsThere, endOfBlock}
 use Rattle.laws.proofs.Places.{all-start}
+use Rattle.laws.proofs.Arrays.{replicate-at}
 use Rattle.block_tables.specs.declared.Tables.{Tables}
 use Rattle.block_tables.specs.View.{zero-crisp, no-input, no-output, no-point, blockView, Holds}
-use Rattle.block_tables.proofs.Lists.{alike}
 use Rattle.cursor.specs.declared.Cursor.{Cursor}
 use Rattle.cursor.specs.View.{seen, Step, fault}
 use Rattle.cursor.proofs.Laws.{kind-seen, block-seen, lost-kind, judged-bad}
@@ -50,15 +50,15 @@ empty-holds s = record {
   order = omega arith;
   inside = omega arith;
   placed = record {
-    order = λ k h. rw (alike {A = ℕ} 0 224 k, alike {A = ℕ} 0 224 (112 + k)) (omega arith);
+    order = λ k h. rw (replicate-at {A = ℕ} 224 k 0, replicate-at {A = ℕ} 224 (112 + k) 0) (omega arith);
     inside =
-        λ k. rw (alike {A = ℕ} 0 224 k) (omega arith);
+        λ k. rw (replicate-at {A = ℕ} 224 k 0) (omega arith);
   };
   inputCount = omega arith;
   outputCount = omega arith;
-  inputTerms = λ i. rw (alike no-input 8 i) (omega arith);
-  outputTerms = λ o. rw (alike no-output 6 o) (omega arith);
-  pointCounts = λ k. rw (alike {A = ℕ} 0 56 k) (omega arith);
+  inputTerms = λ i. rw (replicate-at 8 i no-input) (omega arith);
+  outputTerms = λ o. rw (replicate-at 6 o no-output) (omega arith);
+  pointCounts = λ k. rw (replicate-at {A = ℕ} 56 k 0) (omega arith);
   names-size = refl;
   inputs-size = refl;
   outputs-size = refl;

@@ -2,7 +2,7 @@
 ghost use mathlib.Core.Path.{_≡_};
 ghost use mathlib.Core.List.{List};
 ghost use Prim.Native.Nat.{ℕ, _+_, _≤_};
-ghost use Rattle.model.specs.Bounds.{inputLimit, outputLimit};
+ghost use Rattle.model.specs.Bounds.{inputLimit, outputLimit, variableLimit};
 ghost use Rattle.model.specs.Block.{Block, emptyBlock};
 ghost use Rattle.model.specs.Reader.{start, partsThere};
 ghost use Rattle.block_tables.specs.View.{blockView, Holds};
@@ -97,7 +97,7 @@ pub fn front(s: &[u8]) -> ParseState
 
 // Whether each of n variables from v on has a term.
 fn have_terms(symbols: &SymbolTable, v: usize, n: usize) -> bool
-    requires { ⌜ v + n ≤ 14 ⌝ }
+    requires { ⌜ v + n ≤ variableLimit ⌝ }
     ensures { λ r. ⌜ r ≡ haveTerms (now (symbols .entry)) v n ⌝ }
 {
     let e = v + n;

@@ -8,6 +8,7 @@ use Rattle.model.specs.Basic.{update, updateLast}
 use Rattle.model.specs.Image.{tab}
 use Rattle.laws.proofs.Lists.{updateLast-snoc}
 use Rattle.laws.proofs.Places.{tab-last, tab-ext}
+use Rattle.laws.proofs.Arrays.{each-set}
 
 pub tab-same : {A : Type 0} (f g : ℕ → A) (n : ℕ) → ((k : ℕ) → k < n → g k ≡ f k) → tab g n 0 ≡ tab f n 0
 tab-same f g n e = tab-ext g f n 0 0 (λ k h. ap g (omega arith) ∙ e k h ∙ ap f (omega arith))
@@ -64,8 +65,4 @@ tab-from {A} h f g (suc m) (suc n) p a b =
 
 -- every element of an array is bounded
 pub kept : {A : Type 0} (f : A → ℕ) (m : ℕ) (l : List A) (i : ℕ) (x d : A) → f x ≤ m → ((k : ℕ) → f (getD l k d) ≤ m) → (k : ℕ) → f (getD (set l i x) k d) ≤ m
-kept f m [] i x d p q k = q k
-kept f m (y ∷ l) zero x d p q zero = p
-kept f m (y ∷ l) zero x d p q (suc k) = q (suc k)
-kept f m (y ∷ l) (suc i) x d p q zero = q 0
-kept f m (y ∷ l) (suc i) x d p q (suc k) = kept f m l i x d p (λ j. q (suc j)) k
+kept f m l i x d p q = each-set (λ y. f y ≤ m) d l i x q p

@@ -5,6 +5,7 @@ use mathlib.Core.Bool.{true}
 use mathlib.Core.List.{List}
 use Prim.Native.Nat.{ℕ, _+_, _*_, _≤_, _<_}
 use lib.ListN.{length, getD}
+use Rattle.model.specs.Bounds.{inputLimit, termLimit}
 use Rattle.model.specs.Block.{Block}
 use Rattle.block_tables.specs.declared.Input.{Input}
 use Rattle.block_tables.specs.declared.Tables.{Tables}
@@ -18,7 +19,7 @@ pub record Changes (s : List ℕ) (t r : Tables) (f : Block → Block) : Type 0 
 pub record LastTerm (t : Tables) (i k : ℕ) : Type 0 where
   pub input : i < t .«input_count»
   pub some : 0 < inputRow t i .terms
-  pub last : k + 1 ≡ i * 7 + inputRow t i .terms
+  pub last : k + 1 ≡ i * termLimit + inputRow t i .terms
 
 -- the rows from one on up to another are INT, the others as before
 pub record Typed (old : List Input) (from to : ℕ) (new : List Input) : Type 0 where
@@ -26,4 +27,4 @@ pub record Typed (old : List Input) (from to : ℕ) (new : List Input) : Type 0 
   pub within : (i : ℕ) → from ≤ i → i < to → getD new i no-input
       ≡ record { int = true; terms = getD old i no-input .terms }
   pub behind : (i : ℕ) → from ≤ i → to ≤ i → getD new i no-input ≡ getD old i no-input
-  pub size : length new ≡ 8
+  pub size : length new ≡ inputLimit

@@ -4,7 +4,7 @@ ghost use mathlib.Core.List.{List};
 ghost use Prim.Native.Nat.{ℕ, _+_, _*_, _≤_, _<_};
 ghost use lib.ListN.{length, getD};
 ghost use lib.Seq.{slice};
-ghost use Rattle.model.specs.Bounds.{inputLimit, outputLimit, termLimit, pointLimit};
+ghost use Rattle.model.specs.Bounds.{inputLimit, outputLimit, termLimit, pointLimit, inputTermLimit};
 ghost use Rattle.model.specs.Block.{withName, withRange, withDefault, withSingleton};
 ghost use Rattle.model.specs.Declarations.{addInput, addOutput, intFrom, addTerm, addPoint, changeOutput};
 ghost use Rattle.block_tables.specs.View.{inputRow, outputRow, Holds};
@@ -46,7 +46,7 @@ pub fn add_input(t: Tables, start: usize, end: usize) -> Tables
 // These rows, INT from one on up to another.
 fn typed(rows: [Input; bounds::INPUTS], from: usize, to: usize) -> [Input; bounds::INPUTS]
     requires { ⌜ to ≤ inputLimit ⌝ }
-    ensures { λ r. ⌜ (length rows ≡ 8 → Typed rows from to r) ⌝ }
+    ensures { λ r. ⌜ (length rows ≡ inputLimit → Typed rows from to r) ⌝ }
 {
     let mut r = rows;
     let mut i = from;
@@ -100,7 +100,7 @@ pub fn add_term(t: Tables, i: usize, start: usize, end: usize) -> Tables
     ensures { λ r. ⌜ ((s : List ℕ) → Holds s t → i < t .«input_count» → start ≤ end → end ≤ length s
         → Changes s t r (addTerm i (slice start end s))) ⌝ }
     ensures more { λ r. ⌜ ((s : List ℕ) → Holds s t → i < t .«input_count»
-        → LastTerm r i (i * 7 + inputRow t i .terms)) ⌝ }
+        → LastTerm r i (i * termLimit + inputRow t i .terms)) ⌝ }
 {
     let mut v = t.inputs[i];
     let j = v.terms;
@@ -116,7 +116,7 @@ pub fn add_term(t: Tables, i: usize, start: usize, end: usize) -> Tables
 
 // A point for the term at place k, which is the last one of an input.
 pub fn add_point(t: Tables, k: usize, p: Point) -> Tables
-    requires { ⌜ (k < 56) × (getD (t .counts) k 0 < pointLimit) ⌝ }
+    requires { ⌜ (k < inputTermLimit) × (getD (t .counts) k 0 < pointLimit) ⌝ }
     ensures { λ r. ⌜ ((s : List ℕ) (i : ℕ) → Holds s t → LastTerm t i k
         → Changes s t r (addPoint i (record { at = p .at .0; degree = p .degree .0 }))) ⌝ }
     ensures rows { λ r. ⌜ ((i : ℕ) → LastTerm t i k → LastTerm r i k) ⌝ }

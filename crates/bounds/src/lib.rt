@@ -2,7 +2,7 @@
 ghost use mathlib.Core.Path.{_≡_};
 ghost use mathlib.Core.List.{[], _∷_};
 ghost use Rattle.model.specs.Basic.{between};
-ghost use Rattle.model.specs.Bounds.{M, crispLimit, textLimit, nameLimit, digitLimit, fractionLimit, inputLimit, outputLimit, termLimit, pointLeast, pointLimit, ruleLimit, wordLimit, conclusionLimit, ruleNumberLeast, ruleNumberLimit, depthLimit};
+ghost use Rattle.model.specs.Bounds.{M, crispLimit, textLimit, nameLimit, digitLimit, fractionLimit, inputLimit, outputLimit, termLimit, pointLeast, pointLimit, ruleLimit, wordLimit, conclusionLimit, ruleNumberLeast, ruleNumberLimit, depthLimit, variableLimit, inputTermLimit, outputTermLimit, allTermLimit, symbolLimit, inputPointLimit};
 
 // The degree 1, in millionths.
 pub const M: usize = 1_000_000;
@@ -50,19 +50,20 @@ pub const INPUT_TERMS: usize = INPUTS * TERMS;
 
 pub const OUTPUT_TERMS: usize = OUTPUTS * TERMS;
 
-// Names of variables and of their terms.
-pub const NAMES: usize = VARIABLES + INPUT_TERMS + OUTPUT_TERMS;
-
-pub const INPUT_POINTS: usize = INPUT_TERMS * POINTS;
-
 // Terms of all variables.
 pub const ALL_TERMS: usize = INPUT_TERMS + OUTPUT_TERMS;
 
+// Names of variables and of their terms.
+pub const NAMES: usize = VARIABLES + ALL_TERMS;
+
+pub const INPUT_POINTS: usize = INPUT_TERMS * POINTS;
+
 // All of them, in the order of the definitions.
-pub fn limits() -> [usize; 17]
+pub fn limits() -> [usize; 23]
     ensures { λ r. ⌜ r ≡ crispLimit ∷ M ∷ textLimit ∷ nameLimit ∷ digitLimit ∷ fractionLimit ∷ inputLimit ∷ outputLimit
         ∷ termLimit ∷ pointLeast ∷ pointLimit ∷ ruleLimit ∷ wordLimit ∷ conclusionLimit ∷ ruleNumberLeast
-        ∷ ruleNumberLimit ∷ depthLimit ∷ [] ⌝ }
+        ∷ ruleNumberLimit ∷ depthLimit ∷ variableLimit ∷ inputTermLimit ∷ outputTermLimit ∷ allTermLimit ∷ symbolLimit
+        ∷ inputPointLimit ∷ [] ⌝ }
 {
     [
         CRISP,
@@ -82,6 +83,12 @@ pub fn limits() -> [usize; 17]
         LEAST_RULE_NUMBER,
         RULE_NUMBER,
         DEPTH,
+        VARIABLES,
+        INPUT_TERMS,
+        OUTPUT_TERMS,
+        ALL_TERMS,
+        NAMES,
+        INPUT_POINTS,
     ]
 }
 

@@ -3,7 +3,7 @@ use model::Crisp;
 use model::Degree;
 ghost use mathlib.Core.Path.{_≡_};
 ghost use Prim.Native.Nat.{ℕ, _≤_, _<_};
-ghost use Rattle.model.specs.Bounds.{M};
+ghost use Rattle.model.specs.Bounds.{M, termLimit};
 ghost use Rattle.model.specs.Evaluation.{sumOf};
 ghost use Rattle.crisp.specs.Crisp.{InCrisp};
 ghost use Rattle.centre.specs.Centre.{positionAt, heightAt, positions, heights, figureOf};
@@ -16,7 +16,8 @@ pub struct Centre {
 
 // Of the first n singletons.
 pub fn centre_of(ps: [Crisp; bounds::TERMS], hs: [Degree; bounds::TERMS], n: usize) -> Centre
-    requires { ⌜ (n ≤ 7) × ((k : ℕ) → k < n → InCrisp (positionAt ps k)) × ((k : ℕ) → k < n → heightAt hs k ≤ M) ⌝ }
+    requires { ⌜ (n ≤ termLimit) × ((k : ℕ) → k < n → InCrisp (positionAt ps k))
+        × ((k : ℕ) → k < n → heightAt hs k ≤ M) ⌝ }
     ensures { λ r. ⌜ (r .sum ≡ sumOf (heights hs n)) × (r .sum ≤ 7000000) ⌝ }
     ensures { λ r. ⌜ (r .figure .0 ≡ figureOf (positions ps n) (heights hs n)) × InCrisp (r .figure .0) ⌝ }
 {

@@ -143,9 +143,9 @@ fn negation(out: &mut [u8], k: usize, img: &[u8], h: Header, e: usize) -> Writte
     if e < 1 {
         return Written { first: 0, k: k };
     }
-    let w = word(img, e - 1);
-    if TERM_WORD <= w {
-        let n = term(out, k, img, h, w - TERM_WORD, b" IS NOT ");
+    let last = word(img, e - 1);
+    if TERM_WORD <= last {
+        let n = term(out, k, img, h, last - TERM_WORD, b" IS NOT ");
         return Written { first: e - 1, k: n };
     }
     let m = operand(out, k, img, h, e, NOT_TERM_FORM);

@@ -5,6 +5,7 @@ use mathlib.Core.List.{List, [], _∷_}
 use Prim.Native.Nat.{ℕ, _+_, _≤_, _<_}
 use lib.ListN.{length, take}
 use lib.Seq.{sets}
+use Rattle.model.specs.Bounds.{wordLimit}
 use Rattle.model.specs.Block.{Block}
 use Rattle.model.specs.Rules.{ConditionRead}
 use Rattle.model.specs.Image.{postfix}
@@ -15,7 +16,7 @@ use Rattle.condition_text.specs.declared.Pending.{Pending}
 pub record Room (s : List ℕ) (p : Pending) : Type 0 where
   pub fits : Fits s (p .cursor)
   pub put : p .put ≤ p .words
-  pub words : p .words ≤ 640
+  pub words : p .words ≤ wordLimit
 
 -- the words ws are stored from place m on, and then there are n
 pub record Adds (m n : ℕ) (ws old new : List ℕ) : Type 0 where

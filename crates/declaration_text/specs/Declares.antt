@@ -6,6 +6,7 @@ use mathlib.Core.List.{List, [], _∷_}
 use Prim.Native.Nat.{ℕ}
 use lib.ListN.{length}
 use Rattle.model.specs.Basic.{indexOf}
+use Rattle.model.specs.Bounds.{inputLimit}
 use Rattle.model.specs.Block.{Block}
 use Rattle.model.specs.Tokens.{sameName}
 use Rattle.model.specs.Parse.{Parse, Checks, text, aName}
@@ -18,7 +19,7 @@ pub record Declares (s names : List ℕ) (m n : ℕ) (b : Block) : Type 0 where
   pub inputs : length (b .inputs) ≡ m
   pub outputs : length (b .outputs) ≡ n
   pub input : (w : List ℕ) → inputOf w b ≡ indexOf (sameName w) (tab (nameOf s names) m 0)
-  pub output : (w : List ℕ) → outputOf w b ≡ indexOf (sameName w) (tab (nameOf s names) n 8)
+  pub output : (w : List ℕ) → outputOf w b ≡ indexOf (sameName w) (tab (nameOf s names) n inputLimit)
 
 -- what a new variable is checked for, where there is room or not
 abbrev pub newChecks : Parse → Bool → Checks

@@ -2,6 +2,7 @@
 ghost use mathlib.Core.Path.{_≡_};
 ghost use mathlib.Core.List.{map};
 ghost use Prim.Native.Nat.{_+_, _≤_, _<_};
+ghost use Rattle.model.specs.Bounds.{termLimit, outputTermLimit};
 ghost use Rattle.model.specs.Image.{wordAt, tab, singletonAt, outputAt};
 ghost use Rattle.model.specs.Evaluation.{unfired, outputAnswer, noAnswer, padded, heldOf};
 ghost use Rattle.header.specs.Header.{Heads};
@@ -29,7 +30,7 @@ fn position(img: &[u8], h: Header, t: usize) -> Crisp
 
 // The positions of the n terms from the first on.
 fn positions_of(img: &[u8], h: Header, first: usize, n: usize) -> [Crisp; bounds::TERMS]
-    requires { ⌜ Heads (wordAt (now img)) h × (first ≤ 4294967295) × (n ≤ 7) ⌝ }
+    requires { ⌜ Heads (wordAt (now img)) h × (first ≤ 4294967295) × (n ≤ termLimit) ⌝ }
     ensures { λ r. ⌜ positions r n ≡ map (λ s. s .at) (tab (singletonAt (wordAt (now (img .entry)))) n first) ⌝ }
 {
     let mut ps = [Crisp(0); bounds::TERMS];
@@ -44,7 +45,7 @@ fn positions_of(img: &[u8], h: Header, first: usize, n: usize) -> [Crisp; bounds
 
 // The heights of the n terms from the one at place `from` on.
 fn heights_of(hs: [Degree; bounds::OUTPUT_TERMS], from: usize, n: usize) -> [Degree; bounds::TERMS]
-    requires { ⌜ (from + n ≤ 42) × (n ≤ 7) ⌝ }
+    requires { ⌜ (from + n ≤ outputTermLimit) × (n ≤ termLimit) ⌝ }
     ensures { λ r. ⌜ heights r n ≡ tab (heightOf hs 0) n from ⌝ }
 {
     let mut r = [Degree(0); bounds::TERMS];

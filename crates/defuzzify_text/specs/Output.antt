@@ -7,6 +7,7 @@ use mathlib.Core.Option.{Option}
 use Prim.Native.Nat.{ℕ, _+_, _*_}
 use lib.ListN.{length}
 use Rattle.model.specs.Basic.{_▸_, indexOf}
+use Rattle.model.specs.Bounds.{inputLimit, termLimit, variableLimit}
 use Rattle.model.specs.Block.{Block, Range, inRange, singletonsOf}
 use Rattle.model.specs.Keywords.{ASSIGN, COLON, SEMICOLON, CoGS, DEFAULT, END-DEFUZZIFY, METHOD, TERM}
 use Rattle.model.specs.Tokens.{sameName}
@@ -33,7 +34,8 @@ termChecks o r = aName r ((not (isSingleton o (text r) (r .block)), 4) ∷ [])
 -- output o of block b has n terms of these names
 pub record HasSingletons (s names : List ℕ) (o n : ℕ) (b : Block) : Type 0 where
   pub count : length (singletonsOf o b) ≡ n
-  pub singleton : (w : List ℕ) → singletonOf o w b ≡ indexOf (sameName w) (tab (nameOf s names) n (14 + (8 + o) * 7))
+  pub singleton : (w : List ℕ) → singletonOf o w b
+      ≡ indexOf (sameName w) (tab (nameOf s names) n (variableLimit + (inputLimit + o) * termLimit))
 
 unfoldable pub methodText : Part
 methodText r = r ▸ expect METHOD ▸ expect COLON ▸ expect CoGS ▸ expect SEMICOLON ▸ expect DEFAULT ▸ expect ASSIGN

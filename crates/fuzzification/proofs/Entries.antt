@@ -19,12 +19,12 @@ use Rattle.laws.proofs.Tests.{both, passed}
 use Rattle.terms.specs.declared.Point.{Point}
 use Rattle.terms.specs.Points.{PointOk, pointView, noPoint, pointViews, pointAt as point}
 use Rattle.laws.proofs.Places.{length-tab}
+use Rattle.laws.proofs.Arrays.{map-take}
 use Rattle.layout.specs.Tables.{sums, inputCount, termCount}
 use Rattle.layout.specs.Groups.{Sound, tablesOk, variablesOk}
 use Rattle.layout.proofs.Sound.{runs-at}
 use Rattle.layout.proofs.Parts.{inputFirst, inputFirsts-run}
 use Rattle.fuzzification.specs.Filled.{filled}
-use Rattle.fuzzification.proofs.Fill.{map-take}
 
 pub sums-last : (c : ℕ → ℕ) (k s : ℕ) → sums c (k + 1) s ≡ sums c k s + c (s + k)
 unfolding sums

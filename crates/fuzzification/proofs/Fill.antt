@@ -3,10 +3,11 @@ use mathlib.Core.Path.{_≡_, refl, sym, ap, _∙_}
 use mathlib.Core.List.{List, [], _∷_, _++_, map}
 use Prim.Native.Nat.{ℕ, zero, suc, _+_, _-_, _≤_}
 use native.Mathlib.Omega.{arith}
-use lib.ListN.{length, take, drop, getD, set, replicate, length-replicate}
+use lib.ListN.{length, drop, getD, set, replicate, length-replicate}
 use lib.Seq.{sets, sets-eq}
 use Rattle.model.specs.Image.{tab}
 use Rattle.laws.proofs.Lists.{tab-append, sets-append}
+use Rattle.laws.proofs.Arrays.{replicate-at, map-set}
 use Rattle.fuzzification.specs.Filled.{filled}
 
 pub tab-more : {A : Type 0} (f : ℕ → A) (n s : ℕ) → tab f (n + 1) s ≡ tab f n s ++ (f (s + n) ∷ [])
@@ -33,11 +34,6 @@ module _ {A : Type 0} where
       ∙ ap (λ (k : ℕ). xs ++ drop k (replicate n a)) e
       ∙ ap (λ (l : List A). xs ++ l) (drop-replicate n (length xs) a)
 
-  replicate-at : (n k : ℕ) (a : A) → getD (replicate n a) k a ≡ a
-  replicate-at zero k a = refl
-  replicate-at (suc n) zero a = refl
-  replicate-at (suc n) (suc k) a = replicate-at n k a
-
   -- a place past xs reads as the default
   pub filled-at : (n : ℕ) (a : A) (xs : List A) (k : ℕ) → getD (filled n a xs) k a ≡ getD xs k a
   filled-at n a xs k = go (n - length xs) xs k
@@ -47,30 +43,8 @@ module _ {A : Type 0} where
       go m (x ∷ l) zero = refl
       go m (x ∷ l) (suc i) = go m l i
 
-  -- what holds of every place
-  module _ (P : A → Type 0) (a : A) where
-    pub each-start : (n : ℕ) → P a → (k : ℕ) → P (getD (replicate n a) k a)
-    each-start n p k = rw (replicate-at n k a) p
-
-    pub each-set : (l : List A) (i : ℕ) (v : A) → ((k : ℕ) → P (getD l k a)) → P v → (k : ℕ) → P (getD (set l i v) k a)
-    each-set [] i v h p k = h k
-    each-set (x ∷ l) zero v h p zero = p
-    each-set (x ∷ l) zero v h p (suc k) = h (suc k)
-    each-set (x ∷ l) (suc i) v h p zero = h 0
-    each-set (x ∷ l) (suc i) v h p (suc k) = each-set l i v (λ j. h (suc j)) p k
-
 module _ {A B : Type 0} (f : A → B) where
-  pub map-set : (l : List A) (i : ℕ) (v : A) → map f (set l i v) ≡ set (map f l) i (f v)
-  map-set [] i v = refl
-  map-set (x ∷ l) zero v = refl
-  map-set (x ∷ l) (suc i) v = ap (λ (r : List B). f x ∷ r) (map-set l i v)
-
-  pub map-take : (n : ℕ) (xs : List A) → map f (take n xs) ≡ take n (map f xs)
-  map-take zero xs = refl
-  map-take (suc n) [] = refl
-  map-take (suc n) (x ∷ xs) = ap (λ (r : List B). f x ∷ r) (map-take n xs)
-
   -- one more place of an array, as its values under f
   pub one-more : (l : List A) (l₀ : List B) (p q : ℕ) (xs : List B) (v : A) (y : B)
       → map f l ≡ sets l₀ p xs → q ≡ p + length xs → f v ≡ y → map f (set l q v) ≡ sets l₀ p (xs ++ (y ∷ []))
-  one-more l l₀ p q xs v y h e g = map-set l q v ∙ (λ j. set (h j) (e j) (g j)) ∙ sym (sets-append l₀ p xs (y ∷ []))
+  one-more l l₀ p q xs v y h e g = map-set f l q v ∙ (λ j. set (h j) (e j) (g j)) ∙ sym (sets-append l₀ p xs (y ∷ []))

@@ -16,7 +16,7 @@ ghost use lib.IntN.{pos};
 ghost use lib.ListN.{length};
 ghost use lib.Seq.{sets};
 ghost use Rattle.model.specs.Basic.{all};
-ghost use Rattle.model.specs.Bounds.{M};
+ghost use Rattle.model.specs.Bounds.{M, inputLimit, pointLimit, inputTermLimit};
 ghost use Rattle.model.specs.Degrees.{termDegree};
 ghost use Rattle.model.specs.Evaluation.{termDegrees};
 ghost use Rattle.model.specs.Image.{wordAt, tab, pointAt, termAt, inputAt, decode};
@@ -42,9 +42,9 @@ fn point_at(img: &[u8], h: Header, i: usize) -> Point
 
 // The n points from the first on.
 fn term_points(img: &[u8], h: Header, first: usize, n: usize) -> [Point; bounds::POINTS]
-    requires { ⌜ Heads (wordAt (now img)) h × (first ≤ 4294967295) × (n ≤ 4) ⌝ }
+    requires { ⌜ Heads (wordAt (now img)) h × (first ≤ 4294967295) × (n ≤ pointLimit) ⌝ }
     ensures { λ r. ⌜ map pointView r
-        ≡ filled 4 (pointView noPoint) (tab (pointAt (wordAt (now (img .entry)))) n first) ⌝ }
+        ≡ filled pointLimit (pointView noPoint) (tab (pointAt (wordAt (now (img .entry)))) n first) ⌝ }
 {
     let mut ps = [Point {
         at: Crisp(0),
@@ -79,7 +79,7 @@ fn with_terms(
     n: usize,
     x: Crisp,
 ) -> [Degree; bounds::INPUT_TERMS]
-    requires { ⌜ Heads (wordAt (now img)) h × (first + n ≤ 56) × InCrisp (x .0) × Low (numbers ds) ⌝ }
+    requires { ⌜ Heads (wordAt (now img)) h × (first + n ≤ inputTermLimit) × InCrisp (x .0) × Low (numbers ds) ⌝ }
     requires { ⌜ all termOk (tab (termAt (wordAt (now img))) n first) ≡ true ⌝ }
     ensures { λ r. ⌜ numbers r ≡ sets (numbers ds) first
         (map (λ t. termDegree (t .points) (x .0)) (tab (termAt (wordAt (now (img .entry)))) n first)) ⌝ }
@@ -102,7 +102,7 @@ pub fn term_degrees(
 ) -> [Degree; bounds::INPUT_TERMS]
     requires { ⌜ Sound (wordAt (now img)) × Heads (wordAt (now img)) h × AllCrisp (figures xs) ⌝ }
     ensures { λ r. ⌜ numbers r
-        ≡ filled 56 0 (termDegrees (decode (wordAt (now (img .entry))) .inputs) (figures xs)) ⌝ }
+        ≡ filled inputTermLimit 0 (termDegrees (decode (wordAt (now (img .entry))) .inputs) (figures xs)) ⌝ }
     ensures low { λ r. ⌜ Low (numbers r) ⌝ }
 {
     let n = h.inputs;
@@ -128,7 +128,7 @@ pub struct Values {
 }
 
 fn input_type(img: &[u8], h: Header, i: usize) -> InputType
-    requires { ⌜ Heads (wordAt (now img)) h × (i ≤ 8) ⌝ }
+    requires { ⌜ Heads (wordAt (now img)) h × (i ≤ inputLimit) ⌝ }
     ensures { λ r. ⌜ r ≡ inputAt (wordAt (now (img .entry))) i .type ⌝ }
 {
     if word(img, header::input_row(h, i) + header::INPUT_TYPE) == 0 {
@@ -142,7 +142,7 @@ pub fn input_values(img: &[u8], h: Header, rs: [Reading; bounds::INPUTS]) -> Val
     requires { ⌜ Sound (wordAt (now img)) × Heads (wordAt (now img)) h ⌝ }
     ensures { λ r. ⌜ r .wrong ≡ length (valuesRead (decode (wordAt (now (img .entry))) .inputs) rs) ⌝ }
     ensures at { λ r. ⌜ figures (r .at)
-        ≡ filled 8 (pos 0) (valuesRead (decode (wordAt (now (img .entry))) .inputs) rs) ⌝ }
+        ≡ filled inputLimit (pos 0) (valuesRead (decode (wordAt (now (img .entry))) .inputs) rs) ⌝ }
     ensures crisp { λ r. ⌜ AllCrisp (figures (r .at)) ⌝ }
 {
     let n = h.inputs;

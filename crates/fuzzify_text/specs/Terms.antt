@@ -9,7 +9,7 @@ use lib.IntN.{ℤ}
 use lib.Signed.{ltZ}
 use Rattle.model.specs.Basic.{if_then_else_}
 use Rattle.model.specs.Block.{Block, mayFollow}
-use Rattle.model.specs.Bounds.{pointLeast}
+use Rattle.model.specs.Bounds.{termLimit, pointLeast}
 use Rattle.model.specs.Keywords.{SEMICOLON}
 use Rattle.model.specs.Parse.{Part, is, advance, judged, aCrisp, valueHere}
 use Rattle.model.specs.Declarations.{pointsOf}
@@ -23,7 +23,7 @@ pub record Open (t : Tables) (i : ℕ) : Type 0 where
 
 -- the place of the last one
 abbrev pub lastPlace : Tables → ℕ → ℕ
-lastPlace t i = i * 7 + inputRow t i .terms - 1
+lastPlace t i = i * termLimit + inputRow t i .terms - 1
 
 -- x may stand after n positions that end at this one
 unfoldable pub rises : ℕ → ℤ → ℤ → Bool

@@ -16,7 +16,8 @@ use Rattle.model.specs.Basic.{all}
 use Rattle.model.specs.Block.{Range}
 use Rattle.model.specs.Image.{crispOf, outputPlace, outputAt, tab}
 use Rattle.model.specs.Evaluation.{heldOf, heldOk}
-use Rattle.laws.proofs.Places.{length-tab, map-replicate}
+use Rattle.laws.proofs.Places.{length-tab}
+use Rattle.laws.proofs.Arrays.{map-replicate}
 use Rattle.model.specs.declared.Crisp.{Crisp}
 use Rattle.model.specs.declared.Held.{Held}
 use Rattle.laws.proofs.Tests.{and-assoc}

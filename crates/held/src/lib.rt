@@ -4,6 +4,7 @@ ghost use Prim.Native.Nat.{_-_, _≤_};
 ghost use lib.Dec.{eqb};
 ghost use lib.IntN.{natAbs};
 ghost use Rattle.model.specs.Basic.{all};
+ghost use Rattle.model.specs.Bounds.{outputLimit};
 ghost use Rattle.model.specs.Block.{inRange};
 ghost use Rattle.model.specs.Image.{wordAt, outputAt, tab, decode};
 ghost use Rattle.model.specs.Evaluation.{startOf, figuresOf, heldOk, freshOf};
@@ -51,7 +52,7 @@ fn start_of(img: &[u8], h: Header, i: usize) -> Crisp
 
 // The figures of the outputs are in the crisp bounds and in their RANGEs.
 fn figures_ok(img: &[u8], h: Header, held: Held) -> bool
-    requires { ⌜ Heads (wordAt (now img)) h × (h .outputs ≤ 6) ⌝ }
+    requires { ⌜ Heads (wordAt (now img)) h × (h .outputs ≤ outputLimit) ⌝ }
     ensures { λ r. ⌜ r ≡ all (fits (wordAt (now (img .entry))) held) (tab (λ j. j) (h .outputs) 0) ⌝ }
 {
     let figures = held.figures;
@@ -72,8 +73,8 @@ fn figures_ok(img: &[u8], h: Header, held: Held) -> bool
 
 // The figures from the n-th on are 0.
 fn zero_from(held: Held, n: usize) -> bool
-    requires { ⌜ n ≤ 6 ⌝ }
-    ensures { λ r. ⌜ r ≡ all (isZero held) (tab (λ j. j) (6 - n) n) ⌝ }
+    requires { ⌜ n ≤ outputLimit ⌝ }
+    ensures { λ r. ⌜ r ≡ all (isZero held) (tab (λ j. j) (outputLimit - n) n) ⌝ }
 {
     let figures = held.figures;
     let mut i = n;

@@ -3,20 +3,16 @@ use mathlib.Core.Path.{_≡_, refl, sym, ap, _∙_}
 use mathlib.Core.List.{List, [], _∷_}
 use Prim.Native.Nat.{ℕ, zero, suc, _+_, _*_, _%_, _^_, _≤_}
 use native.Mathlib.Omega.{arith}
-use lib.ListN.{length, getD, take, drop, length-append}
+use lib.ListN.{length, getD, take, drop}
 use lib.Seq.{drop-cons, length-take-le}
 use Rattle.layout.proofs.Whole.{length-conditions}
 use Rattle.model.specs.Basic.{gather, total}
 use Rattle.model.specs.Block.{Rule, size}
 use Rattle.model.specs.Image.{ruleTable}
 use Rattle.laws.proofs.Conditions.{length-pairs}
+use Rattle.laws.proofs.Lists.{length-gather}
 use Rattle.block_tables.specs.Stored.{Stored, ruleRow}
 use Rattle.image.specs.Rows.{rows, ruleWords, ruleNext}
-
-length-joined : (rs : List Rule) → length (gather (λ r. r .conclusions) rs) ≡ total (λ r. length (r .conclusions)) rs
-unfolding gather total
-length-joined [] = refl
-length-joined (r ∷ rs) = length-append (r .conclusions) _ ∙ ap (λ (n : ℕ). length (r .conclusions) + n) (length-joined rs)
 
 -- ROWS of four words
 four : (l : List ℕ) (m i : ℕ) → i * 4 + 4 ≤ length l
@@ -78,4 +74,4 @@ module _ (rs : List Rule) (rules ws ks : List ℕ) (m n k : ℕ) (h : Stored rs 
   pub all-kept : Kept rules rs m 0 0 0
   all-kept =
       kept rules rs m 0 0 0 (omega (arith, h .few-rules)) (h .rows) (omega (arith, words-count, h .few-words))
-      (omega (arith, length-joined rs, conclusions-count, h .few-conclusions))
+      (omega (arith, length-gather (λ r. r .conclusions) (λ r. length (r .conclusions)) (λ r. refl) rs, conclusions-count, h .few-conclusions))

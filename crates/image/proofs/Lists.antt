@@ -11,7 +11,7 @@ use borrow.Author.Tests.{eqb-true, eqb-false}
 use mathlib.Core.Bool.{Bool, true, false}
 use Rattle.model.specs.Image.{tab}
 use Rattle.laws.proofs.Places.{step, gone, tab-last}
-use Rattle.block_tables.proofs.Lists.{alike}
+use Rattle.laws.proofs.Arrays.{replicate-at}
 use Rattle.layout.specs.Tables.{sums}
 use Rattle.image.specs.declared.Slots.{Slots}
 use Rattle.image.specs.Rows.{Listed, listOf, rows, onward, slotRow}
@@ -19,7 +19,7 @@ use Rattle.image.proofs.Turns.{rows-more, rows-end}
 
 -- no slots
 pub listed-none : Listed (record { at = replicate 98 0; count = 0 })
-listed-none = record { size = refl; below = λ k. omega (arith, alike {A = ℕ} 0 98 k) }
+listed-none = record { size = refl; below = λ k. omega (arith, replicate-at {A = ℕ} 98 k 0) }
 
 -- one slot more
 abbrev pub longer : Slots → ℕ → Slots

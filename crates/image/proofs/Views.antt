@@ -13,14 +13,14 @@ use Rattle.model.specs.Basic.{if_then_else_, gather}
 use Rattle.model.specs.Bounds.{M}
 use Rattle.model.specs.Block as block
 use Rattle.model.specs.declared.InputType.the-variants.{Real as real, Int as int}
-use Rattle.model.specs.Image.{tab, singletonTerm, typeWord, rangeWords, defaultWords, nameWords, inputTable, outputTable, termTable, pointWords}
+use Rattle.model.specs.Image.{tab, singletonTerm, typeWord, rangeWords, defaultWords, nameWords, inputTable, termTable, pointWords}
 use Rattle.laws.proofs.Lists.{map-tab, gather-append}
 use Rattle.laws.proofs.Places.{length-tab, tab-ext}
 use Rattle.lookup.specs.Names.{nameOf}
 use Rattle.layout.specs.Rows.{laid}
 use Rattle.layout.specs.Tables.{inputRow, inputNext, outputRow, outputNext, termRow, termNext, alone, sums}
 use Rattle.layout.specs.Tables as layout
-use Rattle.layout.proofs.TableLaws.{input-table, output-table, term-table, gather-laid}
+use Rattle.layout.proofs.TableLaws.{input-table, term-table, gather-laid}
 use Rattle.block_tables.specs.declared.Output.{Output}
 use Rattle.block_tables.specs.declared.Tables.{Tables}
 use Rattle.block_tables.specs.View.{zero-crisp, no-input, no-output, rangeView, defaultView, pointView, termView, inputView, singletonView, outputView, inputsView, outputsView, Holds}
@@ -103,9 +103,10 @@ module _ (s : List ℕ) (t : Tables) where
   unfolding outputView
   output-next n o = ap (λ (x : ℕ). n + x) (length-tab (singletonView s t o) (outputSize (t .outputs) o) 0)
 
-  pub outputs-laid : (n : ℕ) → outputTable n (tab (outputView s t) (t .«output_count») 0) ≡ outputRows s (t .names) (t .outputs) (t .«output_count») n
+  pub outputs-laid : (n : ℕ) → laid outputRow outputNext n (tab (outputView s t) (t .«output_count») 0)
+      ≡ outputRows s (t .names) (t .outputs) (t .«output_count») n
   unfolding outputRows
-  outputs-laid n = output-table n _ ∙ rows-laid outputRow outputNext (outputView s t) _ _ output-row output-next (t .«output_count») 0 n
+  outputs-laid n = rows-laid outputRow outputNext (outputView s t) _ _ output-row output-next (t .«output_count») 0 n
 
   -- TERMS: the one in slot k
   slotPoints : ℕ → List block.Point

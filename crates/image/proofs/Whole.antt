@@ -10,16 +10,15 @@ use lib.ListN.{length, take, drop, length-append}
 use lib.Seq.{slice}
 use borrow.Author.Tests.{lt-ltb, le-ltb}
 use Rattle.model.specs.Basic.{gather}
-use Rattle.model.specs.Block.{Block, Rule, inputTerms, conclusions}
+use Rattle.model.specs.Block.{Block, Rule, conclusions}
 use Rattle.model.specs.Block as block
 use Rattle.model.specs.Image.{terms, points, pairWord, pairOf, accuWord, accuOf, actWord, actOf, nameWords, inputTable, outputTable, termTable, pointWords, ruleTable, postfix, conclusionWords, counts, widths, offsets, endOf, headerSize, header, words, image}
 use Rattle.model.specs.Outcome.{accepted, refused, into, lengthIn, bufferAfter}
 use Rattle.laws.proofs.Conditions.{length-pairs}
 use Rattle.words.proofs.Bytes.{length-bytes}
-use Rattle.layout.specs.Tables.{inputRow, inputNext, outputRow, outputNext, termRow, termNext, ruleRow, ruleNext}
-use Rattle.layout.proofs.RowLaws.{length-laid}
-use Rattle.layout.proofs.TableLaws.{input-table, output-table, term-table, rule-table}
-use Rattle.layout.proofs.Parts.{wide-input, wide-output, wide-term}
+use Rattle.layout.specs.Rows.{laid}
+use Rattle.layout.specs.Tables.{outputRow, outputNext}
+use Rattle.layout.proofs.TableLaws.{output-table}
 use Rattle.block_tables.specs.declared.Tables.{Tables}
 use Rattle.block_tables.specs.declared.Heading.{Heading}
 use Rattle.block_tables.specs.View.{outputsView, inputView, outputView, wholeView, Holds, Headed}
@@ -29,45 +28,13 @@ use Rattle.image.specs.declared.Counts.{Counts}
 use Rattle.image.specs.declared.Slots.{Slots}
 use Rattle.image.specs.Rows.{heldIn, variableRows, ruleRows, countList, headWords}
 use Rattle.image.proofs.Views.{Ordered, inputs-laid, outputs-laid, terms-laid, points-laid, first-output, terms-count, points-count}
+use Rattle.layout.proofs.Lengths.{header-long, inputs-long, outputs-long, terms-long, points-long, rules-long}
 use Rattle.layout.proofs.Whole.{length-conditions}
 use Rattle.layout.proofs.Codes.{pair-code, accu-code, act-code}
 use Rattle.image.proofs.Kept.{words-count, conclusions-count, all-kept}
 
 -- HOW LONG the words of a block are
-length-points : (ps : List block.Point) → length (gather pointWords ps) ≡ length ps * 2
-unfolding gather
-length-points [] = refl
-length-points (p ∷ ps) = omega (arith, length-points ps)
-
-length-header : (b : Block) → length (header b) ≡ 28
-unfolding header offsets nameWords
-length-header b = refl
-
 module _ (b : Block) where
-  length-inputs : length (inputTable 0 (b .inputs)) ≡ length (b .inputs) * 7
-  length-inputs = ap length (input-table 0 (b .inputs)) ∙ length-laid inputRow inputNext (λ k. no) (λ k. k) 0 7 wide-input 0 (b .inputs)
-    where
-      no : block.Input
-      no = record { name = []; type = Rattle.model.specs.declared.InputType.the-variants.Real; terms = [] }
-
-  length-outputs : (n : ℕ) → length (outputTable n (b .outputs)) ≡ length (b .outputs) * 11
-  length-outputs n = ap length (output-table n (b .outputs)) ∙ length-laid outputRow outputNext (λ k. no) (λ k. k) 0 11 wide-output n (b .outputs)
-    where
-      no : block.Output
-      no = record { name = []; terms = []; range = mathlib.Core.Option.none; default = mathlib.Core.Option.none }
-
-  length-terms : length (termTable 0 (terms b)) ≡ length (terms b) * 6
-  length-terms = ap length (term-table 0 (terms b)) ∙ length-laid termRow termNext (λ k. no) (λ k. k) 0 6 wide-term 0 (terms b)
-    where
-      no : block.Term
-      no = record { name = []; points = [] }
-
-  length-rules : length (ruleTable 0 0 (b .rules)) ≡ length (b .rules) * 6
-  length-rules = ap length (rule-table 0 0 (b .rules)) ∙ length-laid ruleRow ruleNext (λ k. no) (λ k. k) 0 6 (λ σ r. refl) (0, 0) (b .rules)
-    where
-      no : Rule
-      no = record { number = 0; condition = block.term 0; conclusions = []; weight = 0 }
-
   length-words : length (words b) ≡ endOf headerSize (counts b) widths
   unfolding words endOf
   length-words =
@@ -76,23 +43,23 @@ module _ (b : Block) where
       let e = ruleTable 0 0 (b .rules) ++ f in
       let d = gather pointWords (points b) ++ e in
       let c = termTable 0 (terms b) ++ d in
-      let o = outputTable (length (inputTerms b)) (b .outputs) ++ c in
+      let o = outputTable b 0 (b .outputs) ++ c in
       let i = inputTable 0 (b .inputs) ++ o in
       omega (
         arith,
         length-append (header b) i,
         length-append (inputTable 0 (b .inputs)) o,
-        length-append (outputTable (length (inputTerms b)) (b .outputs)) c,
+        length-append (outputTable b 0 (b .outputs)) c,
         length-append (termTable 0 (terms b)) d,
         length-append (gather pointWords (points b)) e,
         length-append (ruleTable 0 0 (b .rules)) f,
         length-append (gather (λ r. postfix (r .condition)) (b .rules)) g,
-        length-header b,
-        length-inputs,
-        length-outputs (length (inputTerms b)),
-        length-terms,
-        length-points (points b),
-        length-rules,
+        header-long b,
+        inputs-long b,
+        outputs-long b,
+        terms-long b,
+        points-long b,
+        rules-long b,
         length-conditions (b .rules),
         length-pairs (conclusions b),
       )
@@ -154,7 +121,8 @@ module _ (s : List ℕ) (t : Tables) (h : Heading) (rs : List Rule) (ok : Holds 
   words-are =
       (λ j. header-is j
       ++ (inputs-laid s t j
-      ++ ((ap (λ (x : ℕ). outputTable x (outputsView s t)) (first-output s t ok own list order) ∙ outputs-laid s t (own .count)) j
+      ++ ((output-table (wholeView s t h rs)
+      ∙ ap (λ (x : ℕ). laid outputRow outputNext x (outputsView s t)) (first-output s t ok own list order) ∙ outputs-laid s t (own .count)) j
       ++ (terms-laid s t ok own list order j
       ++ (points-laid s t ok own list order j
       ++ (all-kept rs rules ws ks m n k kept wide long full .table j

@@ -8,7 +8,7 @@ use lib.Dec.{ltb}
 use lib.IntN.{ℤ}
 use lib.ListN.{length, getD, take}
 use Rattle.model.specs.Basic.{if_then_else_}
-use Rattle.model.specs.Bounds.{M}
+use Rattle.model.specs.Bounds.{M, inputLimit, outputLimit, termLimit, pointLimit, ruleLimit, wordLimit, conclusionLimit, variableLimit, inputTermLimit, allTermLimit}
 use Rattle.model.specs.Image.{crispWord, nameWords, endOf, offsets, headerSize, widths, tab}
 use Rattle.model.specs.declared.Crisp.{Crisp}
 use Rattle.lookup.specs.Names.{nameOf}
@@ -50,7 +50,7 @@ inputWords s names v n i = nameWords (nameOf s names i) ++ (bit (v .int) ∷ n �
 
 unfoldable pub outputWords : List ℕ → List ℕ → Output → ℕ → ℕ → List ℕ
 outputWords s names v n o =
-    nameWords (nameOf s names (8 + o))
+    nameWords (nameOf s names (inputLimit + o))
     ++ (n ∷ v .terms ∷ bit (v .ranged) ∷ given (v .ranged) (v .least .0) ∷ given (v .ranged)
     (v .most .0) ∷ bit (v .numbered) ∷ given (v .numbered)
     (v .default .0) ∷ [])
@@ -63,25 +63,25 @@ unfoldable pub outputRows : List ℕ → List ℕ → List Output → ℕ → �
 outputRows s names outputs k n = rows (λ m o. outputWords s names (getD outputs o no-output) m o)
     (λ m o. m + outputSize outputs o) k 0 n
 
--- SLOTS: term j of variable v is in slot 7v + j, outputs from variable 8 on. Those of k variables from v on, c giving
--- how many terms each has
+-- SLOTS: term j of variable v is in slot v * termLimit + j, outputs behind inputs. Those of k variables from v on, c
+-- giving how many terms each has
 abbrev pub slotRow : (ℕ → ℕ) → ℕ → Unit {0} → ℕ → List ℕ
-slotRow c v σ i = tab (λ j. (v + i) * 7 + j) (c i) 0
+slotRow c v σ i = tab (λ j. (v + i) * termLimit + j) (c i) 0
 
 unfoldable pub slotsOf : (ℕ → ℕ) → ℕ → ℕ → List ℕ
 slotsOf c v k = rows (slotRow c v) onward k 0 tt
 
--- the slots that a list of them holds, all of them below 98
+-- the slots that a list of them holds
 abbrev pub listOf : Slots → List ℕ
 listOf l = take (l .count) (l .at)
 
 pub record Listed (l : Slots) : Type 0 where
-  pub size : length (l .at) ≡ 98
-  pub below : (k : ℕ) → getD (l .at) k 0 < 98
+  pub size : length (l .at) ≡ allTermLimit
+  pub below : (k : ℕ) → getD (l .at) k 0 < allTermLimit
 
 -- how many points the term in slot k has
 unfoldable pub held : List ℕ → ℕ → ℕ
-held counts k = if ltb k 56 then getD counts k 0 else 1
+held counts k = if ltb k inputTermLimit then getD counts k 0 else 1
 
 -- and the terms in the first n of a list of slots together
 unfoldable pub heldIn : List ℕ → List ℕ → ℕ → ℕ
@@ -89,7 +89,7 @@ heldIn counts slots n = sums (λ i. held counts (getD slots i 0)) n 0
 
 -- TERMS in slots, n being the first point of the next one
 unfoldable pub termWords : List ℕ → List ℕ → List ℕ → ℕ → ℕ → List ℕ
-termWords s names counts n k = nameWords (nameOf s names (14 + k)) ++ (n ∷ held counts k ∷ [])
+termWords s names counts n k = nameWords (nameOf s names (variableLimit + k)) ++ (n ∷ held counts k ∷ [])
 
 unfoldable pub termRows : List ℕ → List ℕ → List ℕ → List ℕ → ℕ → List ℕ
 termRows s names counts slots k = rows (λ n i. termWords s names counts n (getD slots i 0))
@@ -101,8 +101,8 @@ pointRow points p σ j = crispWord (getD points (p + j) no-point .at .0) ∷ get
 
 unfoldable pub pointsIn : List Point → List Crisp → List ℕ → ℕ → List ℕ
 pointsIn points singletons counts k =
-    if ltb k 56 then rows (pointRow points (k * 4)) onward (getD counts k 0) 0 tt
-    else crispWord (getD singletons (k - 56) zero-crisp .0) ∷ M ∷ []
+    if ltb k inputTermLimit then rows (pointRow points (k * pointLimit)) onward (getD counts k 0) 0 tt
+    else crispWord (getD singletons (k - inputTermLimit) zero-crisp .0) ∷ M ∷ []
 
 unfoldable pub pointRows : List Point → List Crisp → List ℕ → List ℕ → ℕ → List ℕ
 pointRows points singletons counts slots k = rows (λ σ i. pointsIn points singletons counts (getD slots i 0))
@@ -149,13 +149,13 @@ entriesOf inputs outputs counts l n = record {
 
 -- within the limits
 pub record Few (c : Counts) : Type 0 where
-  pub inputs : c .inputs ≤ 8
-  pub outputs : c .outputs ≤ 6
-  pub terms : c .terms ≤ 98
-  pub points : c .points ≤ 392
-  pub rules : c .rules ≤ 64
-  pub words : c .words ≤ 640
-  pub conclusions : c .conclusions ≤ 128
+  pub inputs : c .inputs ≤ inputLimit
+  pub outputs : c .outputs ≤ outputLimit
+  pub terms : c .terms ≤ allTermLimit
+  pub points : c .points ≤ allTermLimit * pointLimit
+  pub rules : c .rules ≤ ruleLimit
+  pub words : c .words ≤ wordLimit
+  pub conclusions : c .conclusions ≤ conclusionLimit
 
 unfoldable pub headWords : Counts → Heading → List ℕ
 headWords c h =

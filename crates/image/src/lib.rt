@@ -4,9 +4,9 @@ ghost use mathlib.Core.List.{List, _++_};
 ghost use Prim.Native.Nat.{ℕ, _+_, _*_, _≤_, _<_};
 ghost use lib.ListN.{length, getD};
 ghost use lib.Seq.{slice};
-ghost use Rattle.model.specs.Bounds.{inputLimit, outputLimit, termLimit, pointLimit, ruleLimit, wordLimit, conclusionLimit};
+ghost use Rattle.model.specs.Bounds.{inputLimit, outputLimit, termLimit, pointLimit, ruleLimit, wordLimit, conclusionLimit, variableLimit, inputTermLimit, allTermLimit, symbolLimit, inputPointLimit};
 ghost use Rattle.model.specs.Block.{Rule};
-ghost use Rattle.model.specs.Image.{crispWord, nameWords, image, tab};
+ghost use Rattle.model.specs.Image.{crispWord, nameWords, headerSize, image, tab};
 ghost use Rattle.model.specs.Outcome.{into, lengthIn, bufferAfter};
 ghost use Rattle.model.specs.Refusals.{writtenOf};
 ghost use Rattle.lookup.specs.Names.{nameOf, Placed};
@@ -116,7 +116,7 @@ fn spelt(w: &[u8]) -> [u32; header::NAME_WIDTH]
 
 // The words of name k.
 fn name_words(s: &[u8], names: &Names, k: usize) -> [u32; header::NAME_WIDTH]
-    requires { ⌜ (k < 112) × Placed (now s) (now names) ⌝ }
+    requires { ⌜ (k < symbolLimit) × Placed (now s) (now names) ⌝ }
     ensures { λ r. ⌜ r ≡ nameWords (nameOf (now (s .entry)) (now (names .entry)) k) ⌝ }
 {
     let a = names[k];
@@ -132,7 +132,7 @@ fn input_row(
     first: usize,
     i: usize,
 ) -> [u32; header::INPUT_WIDTH]
-    requires { ⌜ (i < inputLimit) × (first ≤ 56) × (v .terms ≤ termLimit) × Placed (now s) (now names) ⌝ }
+    requires { ⌜ (i < inputLimit) × (first ≤ inputTermLimit) × (v .terms ≤ termLimit) × Placed (now s) (now names) ⌝ }
     ensures { λ r. ⌜ r ≡ inputWords (now (s .entry)) (now (names .entry)) v first i ⌝ }
 {
     let n = name_words(s, names, i);
@@ -174,7 +174,7 @@ fn output_row(
     first: usize,
     o: usize,
 ) -> [u32; header::OUTPUT_WIDTH]
-    requires { ⌜ (o < outputLimit) × (first ≤ 98) × (v .terms ≤ termLimit) × Placed (now s) (now names) ⌝ }
+    requires { ⌜ (o < outputLimit) × (first ≤ allTermLimit) × (v .terms ≤ termLimit) × Placed (now s) (now names) ⌝ }
     ensures { λ r. ⌜ r ≡ outputWords (now (s .entry)) (now (names .entry)) v first o ⌝ }
 {
     let n = name_words(s, names, lookup::FIRST_OUTPUT + o);
@@ -214,7 +214,7 @@ fn output_table(
     out: &mut [u8],
     at: usize,
 ) -> usize
-    requires { ⌜ (count ≤ outputLimit) × (first ≤ 56) × Placed (now s) (now names) × ((o : ℕ)
+    requires { ⌜ (count ≤ outputLimit) × (first ≤ inputTermLimit) × Placed (now s) (now names) × ((o : ℕ)
         → outputSize outputs o ≤ termLimit)
         × ((at + count * 11) * 4 ≤ length (now out)) ⌝ }
     ensures { λ r. ⌜ Wrote at r (outputRows (now (s .entry)) (now (names .entry)) outputs count first)
@@ -237,8 +237,9 @@ fn output_table(
 // TERMS AND POINTS
 // The slots of the n terms of variable v, behind the others.
 fn with_slots(list: Slots, v: usize, n: usize) -> Slots
-    requires { ⌜ (v < 14) × (n ≤ termLimit) × (list .count + n ≤ 98) × Listed list ⌝ }
-    ensures { λ r. ⌜ Listed r × (r .count ≡ list .count + n) × (listOf r ≡ listOf list ++ tab (λ j. v * 7 + j) n 0) ⌝ }
+    requires { ⌜ (v < variableLimit) × (n ≤ termLimit) × (list .count + n ≤ allTermLimit) × Listed list ⌝ }
+    ensures { λ r. ⌜ Listed r × (r .count ≡ list .count + n)
+        × (listOf r ≡ listOf list ++ tab (λ j. v * termLimit + j) n 0) ⌝ }
 {
     let mut r = list;
     let mut j: usize = 0;
@@ -253,7 +254,7 @@ fn with_slots(list: Slots, v: usize, n: usize) -> Slots
 
 fn input_slots(inputs: [Input; bounds::INPUTS], count: usize) -> Slots
     requires { ⌜ (count ≤ inputLimit) × ((i : ℕ) → inputSize inputs i ≤ termLimit) ⌝ }
-    ensures { λ r. ⌜ Listed r × (r .count ≤ count * 7) × (listOf r ≡ slotsOf (inputSize inputs) 0 count) ⌝ }
+    ensures { λ r. ⌜ Listed r × (r .count ≤ count * termLimit) × (listOf r ≡ slotsOf (inputSize inputs) 0 count) ⌝ }
 {
     let mut r = Slots {
         at: [0; bounds::ALL_TERMS],
@@ -269,10 +270,10 @@ fn input_slots(inputs: [Input; bounds::INPUTS], count: usize) -> Slots
 }
 
 fn output_slots(list: Slots, outputs: [Output; bounds::OUTPUTS], count: usize) -> Slots
-    requires { ⌜ (count ≤ outputLimit) × (list .count ≤ 56) × ((o : ℕ) → outputSize outputs o ≤ termLimit)
+    requires { ⌜ (count ≤ outputLimit) × (list .count ≤ inputTermLimit) × ((o : ℕ) → outputSize outputs o ≤ termLimit)
         × Listed list ⌝ }
-    ensures { λ r. ⌜ Listed r × (r .count ≤ list .count + count * 7)
-        × (listOf r ≡ listOf list ++ slotsOf (outputSize outputs) 8 count) ⌝ }
+    ensures { λ r. ⌜ Listed r × (r .count ≤ list .count + count * termLimit)
+        × (listOf r ≡ listOf list ++ slotsOf (outputSize outputs) inputLimit count) ⌝ }
 {
     let mut r = list;
     let mut o: usize = 0;
@@ -296,8 +297,8 @@ fn points_in(counts: &PointCounts, k: usize) -> usize
 }
 
 fn point_count(counts: &PointCounts, slots: &[usize; bounds::ALL_TERMS], n: usize) -> usize
-    requires { ⌜ (n ≤ 98) × ((i : ℕ) → getD (now counts) i 0 ≤ pointLimit) ⌝ }
-    ensures { λ r. ⌜ (r ≡ heldIn (now (counts .entry)) (now (slots .entry)) n) × (r ≤ n * 4) ⌝ }
+    requires { ⌜ (n ≤ allTermLimit) × ((i : ℕ) → getD (now counts) i 0 ≤ pointLimit) ⌝ }
+    ensures { λ r. ⌜ (r ≡ heldIn (now (counts .entry)) (now (slots .entry)) n) × (r ≤ n * pointLimit) ⌝ }
 {
     let mut r: usize = 0;
     let mut i: usize = 0;
@@ -315,8 +316,8 @@ fn term_row(
     first: usize,
     k: usize,
 ) -> [u32; header::TERM_WIDTH]
-    requires { ⌜ (k < 98) × (first ≤ 392) × ((i : ℕ) → getD (now counts) i 0 ≤ pointLimit)
-        × Placed (now s) (now names) ⌝ }
+    requires { ⌜ (k < allTermLimit) × (first ≤ allTermLimit * pointLimit)
+        × ((i : ℕ) → getD (now counts) i 0 ≤ pointLimit) × Placed (now s) (now names) ⌝ }
     ensures { λ r. ⌜ r ≡ termWords (now (s .entry)) (now (names .entry)) (now (counts .entry)) first k ⌝ }
 {
     let w = name_words(s, names, lookup::FIRST_TERM + k);
@@ -333,8 +334,9 @@ fn term_table(
     out: &mut [u8],
     at: usize,
 ) -> usize
-    requires { ⌜ (n ≤ 98) × ((i : ℕ) → getD (now slots) i 0 < 98) × ((i : ℕ) → getD (now counts) i 0 ≤ pointLimit)
-        × Placed (now s) (now names) × ((at + n * 6) * 4 ≤ length (now out)) ⌝ }
+    requires { ⌜ (n ≤ allTermLimit) × ((i : ℕ) → getD (now slots) i 0 < allTermLimit)
+        × ((i : ℕ) → getD (now counts) i 0 ≤ pointLimit) × Placed (now s) (now names)
+        × ((at + n * 6) * 4 ≤ length (now out)) ⌝ }
     ensures { λ r. ⌜ Wrote at r
         (termRows (now (s .entry)) (now (names .entry)) (now (counts .entry)) (now (slots .entry)) n)
         (now (out .entry)) (now (out .exit)) ⌝ }
@@ -361,7 +363,7 @@ fn some_points(
     out: &mut [u8],
     at: usize,
 ) -> usize
-    requires { ⌜ (k + n ≤ 224) × ((at + n * 2) * 4 ≤ length (now out)) ⌝ }
+    requires { ⌜ (k + n ≤ inputPointLimit) × ((at + n * 2) * 4 ≤ length (now out)) ⌝ }
     ensures { λ r. ⌜ Wrote at r (rows (pointRow points k) onward n 0 tt) (now (out .entry)) (now (out .exit)) ⌝ }
     ensures next { λ r. ⌜ r ≡ at + n * 2 ⌝ }
 {
@@ -387,7 +389,7 @@ fn slot_points(
     out: &mut [u8],
     at: usize,
 ) -> usize
-    requires { ⌜ (k < 98) × ((i : ℕ) → getD (now counts) i 0 ≤ pointLimit)
+    requires { ⌜ (k < allTermLimit) × ((i : ℕ) → getD (now counts) i 0 ≤ pointLimit)
         × ((at + held (now counts) k * 2) * 4 ≤ length (now out)) ⌝ }
     ensures { λ r. ⌜ Wrote at r (pointsIn points singletons (now (counts .entry)) k)
         (now (out .entry)) (now (out .exit)) ⌝ }
@@ -411,7 +413,8 @@ fn point_table(
     out: &mut [u8],
     at: usize,
 ) -> usize
-    requires { ⌜ (n ≤ 98) × ((i : ℕ) → getD (now slots) i 0 < 98) × ((i : ℕ) → getD (now counts) i 0 ≤ pointLimit)
+    requires { ⌜ (n ≤ allTermLimit) × ((i : ℕ) → getD (now slots) i 0 < allTermLimit)
+        × ((i : ℕ) → getD (now counts) i 0 ≤ pointLimit)
         × ((at + heldIn (now counts) (now slots) n * 2) * 4 ≤ length (now out)) ⌝ }
     ensures { λ r. ⌜ Wrote at r (pointRows points singletons (now (counts .entry)) (now (slots .entry)) n)
         (now (out .entry)) (now (out .exit)) ⌝ }
@@ -454,7 +457,7 @@ fn rule_table(rules: &[u32], n: usize, out: &mut [u8], at: usize) -> usize
 // THE WHOLE
 // The seven counts of the header.
 fn entries(inputs: usize, outputs: usize, counts: &PointCounts, list: Slots, n: Totals) -> Counts
-    requires { ⌜ (inputs ≤ inputLimit) × (outputs ≤ outputLimit) × (list .count ≤ 98) × ((i : ℕ)
+    requires { ⌜ (inputs ≤ inputLimit) × (outputs ≤ outputLimit) × (list .count ≤ allTermLimit) × ((i : ℕ)
         → getD (now counts) i 0 ≤ pointLimit)
         × (n .rules ≤ ruleLimit) × (n .words ≤ wordLimit) × (n .conclusions ≤ conclusionLimit) ⌝ }
     ensures { λ r. ⌜ r ≡ entriesOf inputs outputs (now (counts .entry)) list n ⌝ }
@@ -519,11 +522,11 @@ fn header(
     h: Heading,
     out: &mut [u8],
 ) -> usize
-    requires { ⌜ (start ≤ end) × (end ≤ length (now s)) × Headed (now s) h × (112 ≤ length (now out)) ⌝ }
+    requires { ⌜ (start ≤ end) × (end ≤ length (now s)) × Headed (now s) h × (headerSize * 4 ≤ length (now out)) ⌝ }
     ensures { λ r. ⌜ Wrote 0 r (head ++ (nameWords (slice start end (now (s .entry)))
         ++ nameWords (slice (h .start) (h .end) (now (s .entry)))))
         (now (out .entry)) (now (out .exit)) ⌝ }
-    ensures next { λ r. ⌜ r ≡ 28 ⌝ }
+    ensures next { λ r. ⌜ r ≡ headerSize ⌝ }
 {
     let p = word_writer::copy(&head, out, 0);
     let n = spelt(&s[start..end]);
@@ -536,7 +539,7 @@ fn header(
 
 // The tables of variables, terms and points. first: how many of the terms in the list are of inputs.
 fn variables(s: &[u8], t: Tables, first: usize, list: Slots, out: &mut [u8], at: usize) -> usize
-    requires { ⌜ Holds (now s) t × Listed list × (first ≤ 56) × (list .count ≤ 98)
+    requires { ⌜ Holds (now s) t × Listed list × (first ≤ inputTermLimit) × (list .count ≤ allTermLimit)
         × ((at + variableWords t list) * 4 ≤ length (now out)) ⌝ }
     ensures { λ r. ⌜ Wrote at r (variableRows (now (s .entry)) t first list) (now (out .entry)) (now (out .exit)) ⌝ }
     ensures next { λ r. ⌜ r ≡ at + variableWords t list ⌝ }

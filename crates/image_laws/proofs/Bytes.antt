@@ -116,13 +116,13 @@ inputs-fit n vs s l =
     (named-fit (λ v. v .name) (λ v. v .terms) (λ m v. typeWord (v .type) ∷ m ∷ length (v .terms) ∷ []) (λ v. Spelt (v .name)) (λ v g. g)
     (λ m v g f c. (type-fits (v .type), (f, (c, tt)))) n vs s l)
 
-outputs-fit : (n : ℕ) (vs : List Output) → Each FineOutput vs → Fits (n + length (gather (λ v. v .terms) vs)) → Each Fits (outputTable n vs)
-outputs-fit n vs s l =
-    subst (Each Fits) (sym (output-table n vs))
+outputs-fit : (b : Block) → Each FineOutput (b .outputs) → Fits (length (inputTerms b) + length (outputTerms b)) → Each Fits (outputTable b 0 (b .outputs))
+outputs-fit b s l =
+    subst (Each Fits) (sym (output-table b))
     (named-fit (λ v. v .name) (λ v. v .terms) (λ m v. m ∷ length (v .terms) ∷ (rangeWords (v .range) ++ defaultWords (v .default))) FineOutput (λ v g. g .name)
     (λ m v g f c.
     let d = default-fits (v .default) (g .default) in
-    (f, (c, each-append Fits (rangeWords (v .range)) (defaultWords (v .default)) (range-fits (v .range) (g .range)) d))) n vs s l)
+    (f, (c, each-append Fits (rangeWords (v .range)) (defaultWords (v .default)) (range-fits (v .range) (g .range)) d))) _ (b .outputs) s l)
 
 terms-fit : (n : ℕ) (ts : List Term) → Each (λ t. Spelt (t .name)) ts → Fits (n + length (gather (λ t. t .points) ts)) → Each Fits (termTable n ts)
 terms-fit n ts s l =
@@ -255,7 +255,8 @@ module _ (b : Block) (h : wellFormed b ≡ true) where
       let r = c .rules in
       let w = c .words′ in
       let k = c .conclusions′ in
-      let names = each-append Fits (nameWords (b .name)) (nameWords (b .ruleBlock)) (name-fits (b .name) (f .name)) (name-fits (b .ruleBlock) (f .ruleBlock)) in (
+      let names = each-append Fits (nameWords (b .name)) (nameWords (b .ruleBlock))
+      (name-fits (b .name) (f .name)) (name-fits (b .ruleBlock) (f .ruleBlock)) in (
         omega arith,
         (
           omega arith,
@@ -359,7 +360,7 @@ module _ (b : Block) (h : wellFormed b ≡ true) where
       let k : Fits (0 + length (conclusions b)) = omega (arith, c .conclusions′) in
       each-append Fits (header b) _ header-fits
       (each-append Fits (inputTable 0 (b .inputs)) _ (inputs-fit 0 (b .inputs) (f .inputs) i)
-      (each-append Fits (outputTable (length (inputTerms b)) (b .outputs)) _ (outputs-fit (length (inputTerms b)) (b .outputs) (f .outputs) o)
+      (each-append Fits (outputTable b 0 (b .outputs)) _ (outputs-fit b (f .outputs) o)
       (each-append Fits (termTable 0 (terms b)) _ (terms-fit 0 (terms b) (f .terms′) p)
       (each-append Fits (gather pointWords (points b)) _ points-fit
       (each-append Fits (ruleTable 0 0 (b .rules)) _ (rules-fit 0 0 (b .rules) (each-so rule-small (b .rules) rules-ok) n k)

@@ -1,17 +1,14 @@
 -- Where the words of a block stand that are laid out from 0 on: its header, and each table at the offset that the header has.
-use mathlib.Core.Path.{_≡_, refl, sym, ap, _∙_}
+use mathlib.Core.Path.{_≡_, sym, _∙_}
 use mathlib.Core.List.{List, _∷_, _++_}
-use Prim.Native.Nat.{ℕ, _+_, _*_}
+use Prim.Native.Nat.{ℕ, _+_}
 use native.Mathlib.Omega.{arith}
 use lib.ListN.{length}
 use Rattle.model.specs.Basic.{gather, total}
-use Rattle.model.specs.Block.{Block, inputTerms, conclusions, size}
-use Rattle.model.specs.Image.{pairWord, accuWord, actWord, nameWords, terms, points, postfix, inputTable, outputTable, termTable, pointWords, ruleTable, conclusionWords, offsets, endOf, header, words, pointAt, termAt, inputAt, outputAt, ruleAt}
+use Rattle.model.specs.Block.{Block, conclusions, size}
+use Rattle.model.specs.Image.{pairWord, accuWord, actWord, nameWords, terms, points, postfix, inputTable, outputTable, termTable, pointWords, ruleTable, conclusionWords, offsets, endOf, header, words}
 use Rattle.laws.proofs.Places.{At, at-shift, at-cut}
-use Rattle.layout.specs.Tables.{inputRow, inputNext, outputRow, outputNext, termRow, termNext, ruleRow, ruleNext, alone, onward}
-use Rattle.layout.proofs.RowLaws.{length-laid}
-use Rattle.layout.proofs.TableLaws.{input-table, output-table, term-table, rule-table, gather-laid}
-use Rattle.layout.proofs.Parts.{wide-input, wide-output, wide-term}
+use Rattle.layout.proofs.Lengths.{header-long, inputs-long, outputs-long, terms-long, points-long, rules-long}
 use Rattle.layout.proofs.Whole.{length-conditions}
 
 -- pair, ACCU, ACT, the spare word, the two names
@@ -24,7 +21,7 @@ pub record Placed (w : ℕ → ℕ) (b : Block) : Type 0 where
   pub rules : w 6 ≡ length (b .rules)
   pub codes : At w 16 (codeWords b)
   pub inputsAt : At w (w 9) (inputTable 0 (b .inputs))
-  pub outputsAt : At w (w 10) (outputTable (length (inputTerms b)) (b .outputs))
+  pub outputsAt : At w (w 10) (outputTable b 0 (b .outputs))
   pub termsAt : At w (w 11) (termTable 0 (terms b))
   pub pointsAt : At w (w 12) (gather pointWords (points b))
   pub rulesAt : At w (w 13) (ruleTable 0 0 (b .rules))
@@ -36,7 +33,7 @@ module _ (w : ℕ → ℕ) (b : Block) where
   I = inputTable 0 (b .inputs)
 
   abbrev O : List ℕ
-  O = outputTable (length (inputTerms b)) (b .outputs)
+  O = outputTable b 0 (b .outputs)
 
   abbrev T : List ℕ
   T = termTable 0 (terms b)
@@ -60,28 +57,6 @@ module _ (w : ℕ → ℕ) (b : Block) where
   behind : (o o′ : ℕ) (xs ys : List ℕ) → o′ ≡ o + length xs → At w o (xs ++ ys) → At w o xs × At w o′ ys
   behind o o′ xs ys e a = let c = at-cut w o xs ys a in (c .0, at-shift w (o + length xs) o′ ys (sym e) (c .1))
 
-  -- how long the tables are
-  inputs-long : length I ≡ length (b .inputs) * 7
-  inputs-long = ap length (input-table 0 (b .inputs)) ∙ length-laid inputRow inputNext (inputAt w) w 0 7 wide-input 0 (b .inputs)
-
-  outputs-long : length O ≡ length (b .outputs) * 11
-  outputs-long =
-      let n = length (inputTerms b) in
-      ap length (output-table n (b .outputs)) ∙ length-laid outputRow outputNext (outputAt w) w 0 11 wide-output n (b .outputs)
-
-  terms-long : length T ≡ length (terms b) * 6
-  terms-long = ap length (term-table 0 (terms b)) ∙ length-laid termRow termNext (termAt w) w 0 6 wide-term 0 (terms b)
-
-  points-long : length P ≡ length (points b) * 2
-  points-long = ap length (gather-laid pointWords (points b)) ∙ length-laid (alone pointWords) onward (pointAt w) w 0 2 (λ σ p. refl) tt (points b)
-
-  rules-long : length R ≡ length (b .rules) * 6
-  rules-long = ap length (rule-table 0 0 (b .rules)) ∙ length-laid ruleRow ruleNext (ruleAt w) w 0 6 (λ σ r. refl) (0, 0) (b .rules)
-
-  header-long : length (header b) ≡ 28
-  unfolding header offsets nameWords
-  header-long = refl
-
   pub placed : At w 0 (words b) → Placed w b
   unfolding words header offsets endOf
   placed a =
@@ -90,13 +65,13 @@ module _ (w : ℕ → ℕ) (b : Block) where
       let o = c .1 .1 .1 .1 .1 .1 .1 in
       let nc : length C ≡ total (λ r. size (r .condition)) (b .rules) = length-conditions (b .rules) in
       let e9 : w 9 ≡ 28 = o .0 in
-      let e10 : w 10 ≡ w 9 + length I = o .1 .0 ∙ omega (arith, inputs-long) in
-      let e11 : w 11 ≡ w 10 + length O = o .1 .1 .0 ∙ omega (arith, inputs-long, outputs-long) in
-      let e12 : w 12 ≡ w 11 + length T = o .1 .1 .1 .0 ∙ omega (arith, inputs-long, outputs-long, terms-long) in
-      let e13 : w 13 ≡ w 12 + length P = o .1 .1 .1 .1 .0 ∙ omega (arith, inputs-long, outputs-long, terms-long, points-long) in
-      let e14 : w 14 ≡ w 13 + length R = o .1 .1 .1 .1 .1 .0 ∙ omega (arith, inputs-long, outputs-long, terms-long, points-long, rules-long) in
-      let e15 : w 15 ≡ w 14 + length C = o .1 .1 .1 .1 .1 .1 .0 ∙ omega (arith, inputs-long, outputs-long, terms-long, points-long, rules-long) in
-      let c1 = behind (w 9) (w 10) I (O ++ TK) e10 (at-shift w (0 + length (header b)) (w 9) (I ++ (O ++ TK)) (omega (arith, header-long)) (h .1)) in
+      let e10 : w 10 ≡ w 9 + length I = o .1 .0 ∙ omega (arith, inputs-long b) in
+      let e11 : w 11 ≡ w 10 + length O = o .1 .1 .0 ∙ omega (arith, inputs-long b, outputs-long b) in
+      let e12 : w 12 ≡ w 11 + length T = o .1 .1 .1 .0 ∙ omega (arith, inputs-long b, outputs-long b, terms-long b) in
+      let e13 : w 13 ≡ w 12 + length P = o .1 .1 .1 .1 .0 ∙ omega (arith, inputs-long b, outputs-long b, terms-long b, points-long b) in
+      let e14 : w 14 ≡ w 13 + length R = o .1 .1 .1 .1 .1 .0 ∙ omega (arith, inputs-long b, outputs-long b, terms-long b, points-long b, rules-long b) in
+      let e15 : w 15 ≡ w 14 + length C = o .1 .1 .1 .1 .1 .1 .0 ∙ omega (arith, inputs-long b, outputs-long b, terms-long b, points-long b, rules-long b) in
+      let c1 = behind (w 9) (w 10) I (O ++ TK) e10 (at-shift w (0 + length (header b)) (w 9) (I ++ (O ++ TK)) (omega (arith, header-long b)) (h .1)) in
       let c2 = behind (w 10) (w 11) O TK e11 (c1 .1) in
       let c3 = behind (w 11) (w 12) T (P ++ (R ++ (C ++ K))) e12 (c2 .1) in
       let c4 = behind (w 12) (w 13) P (R ++ (C ++ K)) e13 (c3 .1) in

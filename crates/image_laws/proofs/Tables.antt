@@ -152,7 +152,7 @@ module _ (w : ℕ → ℕ) (b : Block) (f : Fine b) (p : Placed w b) where
       let t = at-cut (termAt w) 0 (inputTerms b) (map singletonTerm (outputTerms b)) terms-back in
       let n = length (inputTerms b) in
       rows-back outputRow outputNext (outputAt w) w (w 10) 11 wide-output X row
-      n (b .outputs) _ (output-table n (b .outputs)) (p .outputsAt)
+      n (b .outputs) _ (output-table b) (p .outputsAt)
       (f .outputs, singletons-from n (outputTerms b) (at-shift (termAt w) (0 + n) n (map singletonTerm (outputTerms b)) (omega arith) (t .1)))
     where
       X : ℕ → List Output → Type 0

@@ -7,6 +7,7 @@ use lib.ListN.{length, length-append}
 use Rattle.model.specs.Basic.{gather}
 use Rattle.model.specs.Block.{Conclusion, Condition, term, neg, two, size}
 use Rattle.model.specs.Image.{conclusionWords, opWord, postfix}
+use Rattle.laws.proofs.Lists.{length-rows}
 
 pub length-postfix : (c : Condition) → length (postfix c) ≡ size c
 unfolding postfix size
@@ -16,6 +17,4 @@ length-postfix (two o a b) =
     length-append (postfix a) (postfix b ++ (opWord o ∷ [])) ∙ omega (arith, length-append (postfix b) (opWord o ∷ []), length-postfix a, length-postfix b)
 
 pub length-pairs : (ks : List Conclusion) → length (gather conclusionWords ks) ≡ length ks * 2
-unfolding gather
-length-pairs [] = refl
-length-pairs (k ∷ ks) = omega (arith, length-pairs ks)
+length-pairs = length-rows conclusionWords 2 (λ k. refl)

@@ -2,6 +2,7 @@ pub mod Tests
 pub mod Each
 pub mod Places
 pub mod Lists
+pub mod Arrays
 pub mod Conditions
 pub mod Pieces
 pub mod Walk
@@ -12,3 +13,4 @@ pub mod Search
 pub mod Slices
 pub mod Again
 pub mod Signed
+pub mod Finding

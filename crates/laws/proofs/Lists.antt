@@ -2,11 +2,14 @@
 use mathlib.Core.Path.{_≡_, refl, sym, ap, _∙_}
 use mathlib.Core.List.{List, [], _∷_, _++_, map, append-assoc, append-nil}
 use mathlib.Core.Bool.{Bool, true, _&&_}
-use Prim.Native.Nat.{ℕ, zero, suc, _+_, _<_}
+use Prim.Native.Nat.{ℕ, zero, suc, _+_, _*_, _<_}
+use native.Mathlib.Nat.{suc-mul, zero-mul}
 use native.Mathlib.Omega.{arith}
-use lib.ListN.{length, set}
+use lib.ListN.{length, set, length-append}
 use lib.Seq.{sets}
 use Rattle.model.specs.Basic.{updateLast, all, total, gather}
+use Rattle.model.specs.Block.{Term}
+use Rattle.model.specs.Declarations.{lastPoints}
 use Rattle.model.specs.Image.{tab}
 use Rattle.laws.proofs.Tests.{both, and-assoc}
 
@@ -29,6 +32,18 @@ pub total-last : {A : Type 0} (f : A → ℕ) (xs : List A) (x : A) → total f 
 unfolding total
 total-last f [] x = omega arith
 total-last f (y ∷ xs) x = let e = total-last f xs x in omega arith
+
+pub length-gather : {A B : Type 0} (h : A → List B) (count : A → ℕ) → ((x : A) → length (h x) ≡ count x)
+    → (xs : List A) → length (gather h xs) ≡ total count xs
+unfolding gather total
+length-gather h count e [] = refl
+length-gather h count e (x ∷ xs) = omega (arith, length-append (h x) (gather h xs), e x, length-gather h count e xs)
+
+-- rows of n each
+pub length-rows : {A B : Type 0} (h : A → List B) (n : ℕ) → ((x : A) → length (h x) ≡ n) → (xs : List A) → length (gather h xs) ≡ length xs * n
+unfolding gather
+length-rows h n e [] = sym (zero-mul n)
+length-rows h n e (x ∷ xs) = omega (arith, length-append (h x) (gather h xs), e x, length-rows h n e xs, suc-mul (length xs) n)
 
 pub tab-append : {A : Type 0} (g : ℕ → A) (m n p : ℕ) → tab g (m + n) p ≡ tab g m p ++ tab g n (p + m)
 unfolding tab
@@ -67,7 +82,11 @@ updateLast-snoc h [] x = refl
 updateLast-snoc h (y ∷ []) x = refl
 updateLast-snoc {A} h (y ∷ z ∷ xs) x = ap (λ (l : List A). y ∷ l) (updateLast-snoc h (z ∷ xs) x)
 
--- LISTS
+pub last-points : (ts : List Term) (t : Term) → lastPoints (ts ++ (t ∷ [])) ≡ t .points
+last-points [] t = refl
+last-points (u ∷ []) t = refl
+last-points (u ∷ v ∷ ts) t = last-points (v ∷ ts) t
+
 pub total-append : {A : Type 0} (f : A → ℕ) (xs ys : List A) → total f (xs ++ ys) ≡ total f xs + total f ys
 unfolding total
 total-append f [] ys = omega arith

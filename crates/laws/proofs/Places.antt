@@ -1,7 +1,7 @@
 -- A list that stands in a function from a place on; n values of a function from a place on; tests that walk over them.
 use mathlib.Core.Path.{_≡_, refl, sym, ap, _∙_, subst}
 use mathlib.Core.List.{List, [], _∷_, _++_, map, map-append}
-use mathlib.Core.Bool.{Bool, true, false}
+use mathlib.Core.Bool.{Bool, true, false, not}
 use Prim.Native.Nat.{ℕ, zero, suc, _+_, _-_, _≤_, _<_}
 use native.Mathlib.Omega.{arith}
 use native.Mathlib.Numerals.{add-one}
@@ -9,7 +9,7 @@ use lib.Dec.{eqb}
 use lib.ListN.{length, getD, take, set, replicate, List·getD-map}
 use lib.Seq.{take-suc-set, getD-take, set-at, append-snoc}
 use borrow.Author.Tests.{eq-eqb, eqb-true}
-use Rattle.model.specs.Basic.{all, same}
+use Rattle.model.specs.Basic.{all, distinct, same}
 use Rattle.model.specs.Image.{tab}
 use Rattle.laws.proofs.Tests.{both, and-i}
 
@@ -91,6 +91,20 @@ module _ {A : Type 0} (g : A → Bool) (f : ℕ → A) (e i : ℕ) where
   unfolding all tab
   all-end h = rw (gone e i h)
 
+module _ {A : Type 0} (eq : A → A → Bool) (f : ℕ → A) (e i : ℕ) where
+  pub distinct-more : i < e → all (λ y. not (eq (f i) y)) (tab f (e - (i + 1)) (i + 1)) ≡ true
+      → distinct eq (tab f (e - i) i) ≡ distinct eq (tab f (e - (i + 1)) (i + 1))
+  unfolding distinct tab
+  distinct-more h q = rw (step e i h) (simp (rw add-one at q, add-one))
+
+  pub distinct-stop : i < e → all (λ y. not (eq (f i) y)) (tab f (e - (i + 1)) (i + 1)) ≡ false → distinct eq (tab f (e - i) i) ≡ false
+  unfolding distinct tab
+  distinct-stop h q = rw (step e i h) (simp (rw add-one at q, add-one))
+
+  pub distinct-end : e ≤ i → distinct eq (tab f (e - i) i) ≡ true
+  unfolding distinct tab
+  distinct-end h = rw (gone e i h)
+
 pub all-start : {A : Type 0} (g : A → Bool) (f : ℕ → A) (s k : ℕ) → all g (tab f (s + k - s) s) ≡ all g (tab f k s)
 all-start g f s k = let q : s + k - s ≡ k = omega arith in rw q
 
@@ -124,10 +138,6 @@ fill-front {A} f d y n i h e =
     ∙ ap (λ (x : A). tab f i 0 ++ x ∷ rest) (e ∙ ap f (omega arith))
     ∙ sym (append-snoc (tab f i 0) (f (0 + i)) rest)
     ∙ ap (λ (l : List A). l ++ rest) (sym (tab-last f i 0) ∙ ap (λ (k : ℕ). tab f k 0) (omega arith))
-
-pub map-replicate : {A B : Type 0} (g : A → B) (n : ℕ) (a : A) → map g (replicate n a) ≡ replicate n (g a)
-map-replicate g zero a = refl
-map-replicate {B = B} g (suc n) a = ap (λ (l : List B). g a ∷ l) (map-replicate g n a)
 
 -- ELEMENTS
 pub tab-nth : {A : Type 0} (f : ℕ → A) (n p k : ℕ) (d : A) → k < n → getD (tab f n p) k d ≡ f (p + k)

@@ -37,6 +37,21 @@ pub record Steps (K : Parse → Type 0) : Type 0 where
   pub changed : (f : Block → Block) (r : Parse) → K r → K (change f r)
   pub worded : (r : Parse) → K r → K (word r)
 
+-- a repetition keeps what its part keeps
+module _ (K : Parse → Type 0) (part : Part) (f : (r : Parse) → K r → K (part r)) (t : ℕ) where
+  repeatOn-keeps : (n : ℕ) (r : Parse) → K r → K (repeatOn n t part r)
+  unfolding repeatOn
+  repeatOn-keeps zero r k = k
+  repeatOn-keeps (suc n) r k = go (is t r) (repeatOn-keeps n (part r) (f r k))
+    where
+      go : (b : Bool) → K (repeatOn n t part (part r)) → K (elim b [ true ↦ repeatOn n t part (part r) | false ↦ r ])
+      go true l = l
+      go false l = k
+
+  pub repeated-keeps : (r : Parse) → K r → K (repeated t part r)
+  unfolding repeated
+  repeated-keeps r k = repeatOn-keeps (suc (length (r .rest))) r k
+
 module _ (K : Parse → Type 0) (s : Steps K) where
   abbrev pub Keeps : Part → Type 0
   Keeps part = (r : Parse) → K r → K (part r)
@@ -79,18 +94,8 @@ module _ (K : Parse → Type 0) (s : Steps K) where
   unfolding expect
   keeps-expect t r k = either (is t r) (keeps-advance r k) (keeps-refuse 2 (omega arith) (omega arith) r k)
 
-  pub keeps-repeatOn : {part : Part} → Keeps part → (n t : ℕ) → Keeps (repeatOn n t part)
-  unfolding repeatOn
-  keeps-repeatOn {part} f zero t r k = k
-  keeps-repeatOn {part} f (suc n) t r k = go (is t r) (keeps-repeatOn f n t (part r) (f r k))
-    where
-      go : (b : Bool) → K (repeatOn n t part (part r)) → K (elim b [ true ↦ repeatOn n t part (part r) | false ↦ r ])
-      go true l = l
-      go false l = k
-
   pub keeps-repeated : {part : Part} (t : ℕ) → Keeps part → Keeps (repeated t part)
-  unfolding repeated
-  keeps-repeated t f r k = keeps-repeatOn f (suc (length (r .rest))) t r k
+  keeps-repeated {part} t f = repeated-keeps K part f t
 
   pub keeps-listed : {part : Part} → Keeps part → Keeps (listed part)
   unfolding listed

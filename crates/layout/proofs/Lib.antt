@@ -3,6 +3,7 @@ pub mod TableLaws
 pub mod Parts
 pub mod Codes
 pub mod Shape
+pub mod Lengths
 pub mod Whole
 pub mod Bytes
 pub mod Groups

@@ -1,5 +1,5 @@
 -- What an accepted image says of each rule.
-use mathlib.Core.Path.{_≡_, sym}
+use mathlib.Core.Path.{_≡_, refl, sym}
 use mathlib.Core.Bool.{true}
 use Prim.Native.Nat.{ℕ, _+_, _≤_, _<_}
 use native.Mathlib.Omega.{arith}
@@ -47,3 +47,12 @@ module _ (w : ℕ → ℕ) (ok : Sound w) where
     conclusion-good j l =
         let o = rulePlace w i in
         all-at (conclusionOk (decode w)) (conclusionAt w) (w (o + 4)) (w (o + 3)) j l (rule-parts .1)
+
+    -- by the words that the code reads
+    module _ (o first n : ℕ) (eo : o ≡ rulePlace w i) (ef : first ≡ w (o + 3)) (en : n ≡ w (o + 4)) where
+      pub rule-conclusions : tab (conclusionAt w) n first ≡ ruleAt w i .conclusions
+      unfolding ruleAt
+      rule-conclusions = rw (ef, en, eo) refl
+
+      pub conclusion-here : (j : ℕ) → j < n → conclusionOk (decode w) (conclusionAt w (first + j)) ≡ true
+      conclusion-here j l = rw (ef, eo) (conclusion-good j (rw (en, eo) at l))

@@ -4,11 +4,13 @@ use mathlib.Core.List.{List, [], _∷_, _++_, append-assoc}
 use mathlib.Core.Bool.{true}
 use Prim.Native.Nat.{ℕ, zero, suc, _+_, _*_}
 use native.Mathlib.Omega.{arith}
-use lib.ListN.{length, length-append}
+use lib.ListN.{length, take, length-append}
+use lib.Seq.{take-at}
 use Rattle.model.specs.Basic.{same, gather, total}
-use Rattle.model.specs.Block.{Input, Output, Term, Rule, size}
+use Rattle.model.specs.Block.{Input, Output, Term, Rule, Block, inputTerms, outputFirst, size}
 use Rattle.model.specs.Image.{nameWords, rangeWords, defaultWords, inputTable, outputTable, termTable, ruleTable, tab}
-use Rattle.laws.proofs.Lists.{tab-append}
+use Rattle.laws.proofs.Lists as lists
+use Rattle.laws.proofs.Lists.{tab-append, total-last}
 use Rattle.laws.proofs.Tests.{both}
 use Rattle.layout.specs.Rows.{laid, rowsOk}
 use Rattle.layout.specs.Tables.{inputRow, inputNext, outputRow, outputNext, termRow, termNext, ruleRow, ruleNext, alone, onward, sums}
@@ -18,14 +20,32 @@ unfolding inputTable laid nameWords
 input-table n [] = refl
 input-table n (v ∷ vs) = ap (λ (l : List ℕ). inputRow n v ++ l) (input-table (inputNext n v) vs)
 
-pub output-table : (n : ℕ) (vs : List Output) → outputTable n vs ≡ laid outputRow outputNext n vs
-unfolding outputTable laid nameWords
-output-table n [] = refl
-output-table n (v ∷ vs) =
-    ap (λ (l : List ℕ). nameWords (v .name) ++ (n ∷ length (v .terms) ∷ (rangeWords (v .range) ++ (defaultWords (v .default) ++ l))))
-    (output-table (outputNext n v) vs)
-    ∙ ap (λ (l : List ℕ). nameWords (v .name) ++ (n ∷ length (v .terms) ∷ l))
-    (sym (append-assoc (rangeWords (v .range)) (defaultWords (v .default)) (laid outputRow outputNext (outputNext n v) vs)))
+-- the first of an output's terms is the running one, us being the outputs before it
+pub output-table : (b : Block) → outputTable b 0 (b .outputs) ≡ laid outputRow outputNext (length (inputTerms b)) (b .outputs)
+unfolding outputFirst outputTable laid nameWords total
+output-table b = go [] (b .outputs) refl ∙ ap (λ (n : ℕ). laid outputRow outputNext n (b .outputs)) (omega arith)
+  where
+    terms-in : List Output → ℕ
+    terms-in us = total (λ v. length (v .terms)) us
+
+    first : (us vs : List Output) → b .outputs ≡ us ++ vs → outputFirst (length us) b ≡ length (inputTerms b) + terms-in us
+    first us vs e =
+        ap (λ (l : List Output). length (inputTerms b) + terms-in (take (length us) l)) e
+        ∙ ap (λ (l : List Output). length (inputTerms b) + terms-in l) (take-at us vs (length us) refl)
+
+    go : (us vs : List Output) → b .outputs ≡ us ++ vs
+        → outputTable b (length us) vs ≡ laid outputRow outputNext (length (inputTerms b) + terms-in us) vs
+    go us [] e = refl
+    go us (v ∷ vs) e =
+        let n = length (inputTerms b) + terms-in us in
+        let one : length (us ++ (v ∷ [])) ≡ suc (length us) = length-append us (v ∷ []) ∙ omega arith in
+        let more : length (inputTerms b) + terms-in (us ++ (v ∷ [])) ≡ outputNext n v = omega (arith, total-last (λ (u : Output). length (u .terms)) us v) in
+        let rest = go (us ++ (v ∷ [])) vs (e ∙ sym (append-assoc us (v ∷ []) vs)) in
+        let here : outputTable b (suc (length us)) vs ≡ laid outputRow outputNext (outputNext n v) vs =
+        ap (λ (k : ℕ). outputTable b k vs) (sym one) ∙ rest ∙ ap (λ (k : ℕ). laid outputRow outputNext k vs) more in
+        (λ j. nameWords (v .name) ++ (first us (v ∷ vs) e j ∷ length (v .terms) ∷ (rangeWords (v .range) ++ (defaultWords (v .default) ++ here j))))
+        ∙ ap (λ (l : List ℕ). nameWords (v .name) ++ (n ∷ length (v .terms) ∷ l))
+        (sym (append-assoc (rangeWords (v .range)) (defaultWords (v .default)) (laid outputRow outputNext (outputNext n v) vs)))
 
 pub term-table : (n : ℕ) (ts : List Term) → termTable n ts ≡ laid termRow termNext n ts
 unfolding termTable laid nameWords
@@ -87,14 +107,12 @@ pub sums-more : (c : ℕ → ℕ) (k i : ℕ) → sums c (suc k) i ≡ c i + sum
 unfolding sums
 sums-more c k i = refl
 
-pub length-gather : {R A : Type 0} (items : R → List A) (dec : ℕ → R) (c : ℕ → ℕ) → ((j : ℕ) → length (items (dec j)) ≡ c j)
-    → (k i : ℕ) → length (gather items (tab dec k i)) ≡ sums c k i
-unfolding gather tab sums
-length-gather items dec c e zero i = refl
-length-gather items dec c e (suc k) i =
-    length-append (items (dec i)) (gather items (tab dec k (suc i))) ∙ (λ j. e i j + length-gather items dec c e k (suc i) j)
-
 pub total-sums : {R : Type 0} (size : R → ℕ) (dec : ℕ → R) (c : ℕ → ℕ) → ((j : ℕ) → size (dec j) ≡ c j) → (k i : ℕ) → total size (tab dec k i) ≡ sums c k i
 unfolding total tab sums
 total-sums size dec c e zero i = refl
 total-sums size dec c e (suc k) i = λ j. e i j + total-sums size dec c e k (suc i) j
+
+pub length-gather : {R A : Type 0} (items : R → List A) (dec : ℕ → R) (c : ℕ → ℕ) → ((j : ℕ) → length (items (dec j)) ≡ c j)
+    → (k i : ℕ) → length (gather items (tab dec k i)) ≡ sums c k i
+length-gather items dec c e k i =
+    lists.length-gather items _ (λ r. refl) (tab dec k i) ∙ total-sums (λ r. length (items r)) dec c e k i

@@ -8,10 +8,10 @@ use lib.Dec.{eqb, leb, ltb}
 use lib.ListN.{length, length-append}
 use borrow.Author.Tests.{eq-eqb, eqb-true, le-leb, leb-true}
 use Rattle.model.specs.Basic.{all, gather, total, same}
-use Rattle.model.specs.Block.{Point, Term, Rule, inputTerms, conclusions, size}
+use Rattle.model.specs.Block.{Rule, inputTerms, conclusions, size}
 use Rattle.model.specs.Image.{crispWord, crispOf, nameWords, nameAt, pairWord, accuWord, actWord, terms, points, postfix, inputTable, outputTable, termTable, pointWords, ruleTable, conclusionWords, offsets, endOf, header, words, tab, pointAt, termAt, inputAt, outputAt, conclusionAt, ruleAt, decode}
 use Rattle.laws.proofs.Conditions.{length-pairs, length-postfix}
-use Rattle.laws.proofs.Lists.{gather-append}
+use Rattle.laws.proofs.Lists.{gather-append, length-gather}
 use Rattle.laws.proofs.Tests.{both, and-i, Every, passed, pass}
 use Rattle.laws.proofs.Places.{At, at-shift, at-cut, at-join, length-tab}
 use Rattle.layout.specs.Rows.{laid, rowsOk}
@@ -20,6 +20,7 @@ use Rattle.layout.proofs.Codes.{pair-code, pair-small, accu-code, accu-
 use Rattle.layout.proofs.RowLaws.{stands, stood, rows-out, rows-in, length-laid, laid-append, after-sums}
 use Rattle.layout.proofs.TableLaws.{input-table, output-table, term-table, rule-table, gather-laid}
 use Rattle.layout.proofs.Parts.{wide-input, wide-output, wide-term, rule-words-row, inputTerms-are, terms-are, points-are, conclusions-are, conditions-are}
+use Rattle.layout.proofs.Lengths.{header-long, inputs-long, outputs-long, terms-long, points-long, rules-long}
 use Rattle.layout.proofs.Shape.{countsOk, shapeOk}
 
 -- a crisp value's word is the one it was read from
@@ -32,10 +33,7 @@ word-crisp x h = go (ltb x 2147483648) refl
     go false e = let q : 4294967295 - (4294967295 - x) ≡ x = omega arith in simp (e, q)
 
 pub length-conditions : (rs : List Rule) → length (gather (λ r. postfix (r .condition)) rs) ≡ total (λ r. size (r .condition)) rs
-unfolding gather total
-length-conditions [] = refl
-length-conditions (r ∷ rs) =
-    length-append (postfix (r .condition)) (gather (λ q. postfix (q .condition)) rs) ∙ (λ j. length-postfix (r .condition) j + length-conditions rs j)
+length-conditions = length-gather (λ r. postfix (r .condition)) (λ r. size (r .condition)) (λ r. length-postfix (r .condition))
 
 module _ (w : ℕ → ℕ) where
   -- rows that are always laid out so
@@ -69,7 +67,7 @@ module _ (w : ℕ → ℕ) where
   words-stand zero i = tt
   words-stand (suc k) i = (refl, at-shift w (w 14 + suc i) (suc (w 14 + i)) (tab (λ m. w (w 14 + m)) k (suc i)) (omega arith) (words-stand k (suc i)))
 
-  term-next : (i n : ℕ) → termNext n (termAt w i) ≡ n + termCount w i
+  pub term-next : (i n : ℕ) → termNext n (termAt w i) ≡ n + termCount w i
   unfolding termAt
   term-next i n = ap (λ (x : ℕ). n + x) (length-tab (pointAt w) (w (w 11 + i * 6 + 5)) (w (w 11 + i * 6 + 4)))
 
@@ -93,31 +91,6 @@ module _ (w : ℕ → ℕ) where
       ∙ gather-append pointWords (tab (pointAt w) (inputPointsIn w) 0) (tab (outputPointAt w) (outputTermsIn w) (inputPointsIn w))
       ∙ (λ j. gather-laid pointWords (tab (pointAt w) (inputPointsIn w) 0) j ++ gather-laid pointWords
       (tab (outputPointAt w) (outputTermsIn w) (inputPointsIn w)) j)
-
-  -- how long the tables are
-  inputs-long : (n : ℕ) → length (inputTable n (decode w .inputs)) ≡ w 2 * 7
-  unfolding decode
-  inputs-long n =
-      ap length (input-table n (tab (inputAt w) (w 2) 0)) ∙ length-laid inputRow inputNext (inputAt w) w 0 7 wide-input n (tab (inputAt w) (w 2) 0)
-      ∙ ap (λ (x : ℕ). x * 7) (length-tab (inputAt w) (w 2) 0)
-
-  outputs-long : (n : ℕ) → length (outputTable n (decode w .outputs)) ≡ w 3 * 11
-  unfolding decode
-  outputs-long n =
-      ap length (output-table n (tab (outputAt w) (w 3) 0)) ∙ length-laid outputRow outputNext (outputAt w) w 0 11 wide-output n (tab (outputAt w) (w 3) 0)
-      ∙ ap (λ (x : ℕ). x * 11) (length-tab (outputAt w) (w 3) 0)
-
-  terms-long : (n : ℕ) (ts : List Term) → length (termTable n ts) ≡ length ts * 6
-  terms-long n ts = ap length (term-table n ts) ∙ length-laid termRow termNext (termAt w) w 0 6 wide-term n ts
-
-  points-long : (ps : List Point) → length (gather pointWords ps) ≡ length ps * 2
-  points-long ps = ap length (gather-laid pointWords ps) ∙ length-laid (alone pointWords) onward (pointAt w) w 0 2 (λ σ p. refl) tt ps
-
-  rules-long : (n m : ℕ) → length (ruleTable n m (decode w .rules)) ≡ w 6 * 6
-  unfolding decode
-  rules-long n m =
-      ap length (rule-table n m (tab (ruleAt w) (w 6) 0)) ∙ length-laid ruleRow ruleNext (ruleAt w) w 0 6 (λ σ r. refl) (n, m) (tab (ruleAt w) (w 6) 0)
-      ∙ ap (λ (x : ℕ). x * 6) (length-tab (ruleAt w) (w 6) 0)
 
   lay : (o o′ : ℕ) (xs ys : List ℕ) → o ≡ o′ → xs ≡ ys → At w o xs → At w o′ ys
   lay o o′ xs ys e f h = subst (λ (k : ℕ). At w k ys) e (subst (λ (l : List ℕ). At w o l) f h)
@@ -287,7 +260,7 @@ module _ (w : ℕ → ℕ) where
   I = inputTable 0 (decode w .inputs)
 
   abbrev O : List ℕ
-  O = outputTable (length (inputTerms (decode w))) (decode w .outputs)
+  O = outputTable (decode w) 0 (decode w .outputs)
 
   abbrev T : List ℕ
   T = termTable 0 (terms (decode w))
@@ -316,9 +289,9 @@ module _ (w : ℕ → ℕ) where
   outputs-stand f g h =
       let e : inputTermsIn w ≡ length (inputTerms (decode w)) = sym (ap length (inputTerms-are w g) ∙ length-tab (termAt w) (inputTermsIn w) 0) in
       lay (w 10 + 0 * 11) (28 + w 2 * 7) (laid outputRow outputNext (inputTermsIn w) (tab (outputAt w) (w 3) 0))
-      (outputTable (length (inputTerms (decode w))) (tab (outputAt w) (w 3) 0))
+      (outputTable (decode w) 0 (tab (outputAt w) (w 3) 0))
       (omega (arith, f .at10))
-      (sym (output-table (inputTermsIn w) (tab (outputAt w) (w 3) 0)) ∙ ap (λ (n : ℕ). outputTable n (tab (outputAt w) (w 3) 0)) e)
+      (ap (λ (n : ℕ). laid outputRow outputNext n (tab (outputAt w) (w 3) 0)) e ∙ sym (output-table (decode w)))
       (rows-out outputRow outputNext (outputAt w) w (w 10) 11 wide-output (w 3) 0 (inputTermsIn w) h)
 
   terms-stand : Offsets → inputRows w ≡ true → outputRows w ≡ true → inputTermRows w ≡ true → outputTermRows w ≡ true → At w (w 11) T
@@ -380,11 +353,11 @@ module _ (w : ℕ → ℕ) where
   lengths-from : length (terms (decode w)) ≡ w 4 → length (points (decode w)) ≡ w 5 → total (λ r. size (r .condition)) (decode w .rules) ≡ w 7
       → length (conclusions (decode w)) ≡ w 8 → Lengths
   lengths-from t p c k = record {
-    inputs = inputs-long 0;
-    outputs = outputs-long (length (inputTerms (decode w)));
-    terms′ = terms-long 0 (terms (decode w)) ∙ ap (λ (x : ℕ). x * 6) t;
-    points′ = points-long (points (decode w)) ∙ ap (λ (x : ℕ). x * 2) p;
-    rules = rules-long 0 0;
+    inputs = inputs-long (decode w) ∙ ap (λ (x : ℕ). x * 7) inputs-count;
+    outputs = outputs-long (decode w) ∙ ap (λ (x : ℕ). x * 11) outputs-count;
+    terms′ = terms-long (decode w) ∙ ap (λ (x : ℕ). x * 6) t;
+    points′ = points-long (decode w) ∙ ap (λ (x : ℕ). x * 2) p;
+    rules = rules-long (decode w) ∙ ap (λ (x : ℕ). x * 6) rules-count;
     words′ = length-conditions (decode w .rules) ∙ c;
     conclusions′ = length-pairs (conclusions (decode w)) ∙ ap (λ (x : ℕ). x * 2) k;
   }
@@ -396,16 +369,12 @@ module _ (w : ℕ → ℕ) where
   unfolding words
   words-are = refl
 
-  header-long : length (header (decode w)) ≡ 28
-  unfolding header offsets nameWords
-  header-long = refl
-
   words-long : Offsets → Lengths → length (words (decode w)) ≡ w 1
   words-long f l =
       ap length words-are ∙ length-append (header (decode w)) tables
       ∙ omega (
         arith,
-        header-long,
+        header-long (decode w),
         f .at1,
         length-append I (O ++ (T ++ (P ++ (R ++ (C ++ K))))),
         length-append O (T ++ (P ++ (R ++ (C ++ K)))),
@@ -446,7 +415,7 @@ module _ (w : ℕ → ℕ) where
       (omega (arith, f .at11, l .outputs)) (at-join w (w 11) T (P ++ (R ++ (C ++ K))) (terms-stand f ir or it ot) P′) in
       let O′ : At w (28 + length I) (O ++ (T ++ (P ++ (R ++ (C ++ K))))) = at-shift w (28 + w 2 * 7) (28 + length I) (O ++ (T ++ (P ++ (R ++ (C ++ K)))))
       (omega (arith, l .inputs)) (at-join w (28 + w 2 * 7) O (T ++ (P ++ (R ++ (C ++ K)))) (outputs-stand f ir or) T′) in
-      let I′ : At w (0 + length (header (decode w))) tables = at-shift w 28 (0 + length (header (decode w))) tables (omega (arith, header-long))
+      let I′ : At w (0 + length (header (decode w))) tables = at-shift w 28 (0 + length (header (decode w))) tables (omega (arith, header-long (decode w)))
       (at-join w 28 I (O ++ (T ++ (P ++ (R ++ (C ++ K))))) (inputs-stand f ir) O′) in (
         lay 0 0 (header (decode w) ++ tables) (words (decode w)) refl (sym words-are)
             (at-join w 0 (header (decode w)) tables (header-stands f (t .0)) I′),
@@ -552,10 +521,10 @@ module _ (w : ℕ → ℕ) where
   outputs-pass f g a =
       let e : length (inputTerms (decode w)) ≡ inputTermsIn w = ap length (inputTerms-are w g) ∙ length-tab (termAt w) (inputTermsIn w) 0 in
       rows-in outputRow outputNext (outputAt w) w (w 10) 11 wide-output (w 3) 0 (inputTermsIn w)
-      (lay (28 + w 2 * 7) (w 10 + 0 * 11) (outputTable (length (inputTerms (decode w))) (tab (outputAt w) (w 3) 0))
+      (lay (28 + w 2 * 7) (w 10 + 0 * 11) (outputTable (decode w) 0 (tab (outputAt w) (w 3) 0))
       (laid outputRow outputNext (inputTermsIn w) (tab (outputAt w) (w 3) 0))
       (omega (arith, f .at10))
-      (ap (λ (n : ℕ). outputTable n (tab (outputAt w) (w 3) 0)) e ∙ output-table (inputTermsIn w) (tab (outputAt w) (w 3) 0)) a)
+      (output-table (decode w) ∙ ap (λ (n : ℕ). laid outputRow outputNext n (tab (outputAt w) (w 3) 0)) e) a)
 
   terms-pass : inputRows w ≡ true → outputRows w ≡ true → At w (w 11) T → (inputTermRows w ≡ true) × (outputTermRows w ≡ true)
   unfolding inputTermRows outputTermRows
@@ -641,7 +610,7 @@ module _ (w : ℕ → ℕ) where
       let f = h .offsets′ in
       let l : Lengths = lengths-from (f .terms′) (f .points′) (f .words′) (f .conclusions′) in
       let c1 = at-cut w 28 I (O ++ (T ++ (P ++ (R ++ (C ++ K)))))
-      (at-shift w (0 + length (header (decode w))) 28 tables (omega (arith, header-long)) (c0 .1)) in
+      (at-shift w (0 + length (header (decode w))) 28 tables (omega (arith, header-long (decode w))) (c0 .1)) in
       let c2 = at-cut w (28 + w 2 * 7) O (T ++ (P ++ (R ++ (C ++ K))))
       (at-shift w (28 + length I) (28 + w 2 * 7) (O ++ (T ++ (P ++ (R ++ (C ++ K))))) (omega (arith, l .inputs)) (c1 .1)) in
       let c3 = at-cut w (w 11) T (P ++ (R ++ (C ++ K)))

@@ -13,8 +13,8 @@ use Rattle.model.specs.Block.{Term, Input, Output, Conclusion, Rule, Block, inp
 use Rattle.model.specs.Parentheses.{depth}
 use Rattle.model.specs.WellFormed
 use Rattle.laws.proofs.Tests.{both, passed}
+use Rattle.laws.proofs.Finding.{all-split, distinct-front, distinct-back, distinct-split, named, none-of}
 use Rattle.listing_laws.proofs.Pieces.{name-facts}
-use Rattle.listing_laws.proofs.Finding.{all-split, distinct-front, distinct-back, distinct-split, named, none-of}
 
 pub name-fits : (w : List ℕ) → isName w ≡ true → leb (length w) nameLimit ≡ true
 name-fits w h = le-leb (length w) nameLimit (name-facts w h .short)

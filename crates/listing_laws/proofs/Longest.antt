@@ -20,7 +20,7 @@ use Rattle.model.specs.Listing.{inputTermName, inputLine, outputLine, fuzzifyTe
 use Rattle.model.specs.WellFormed.{unitOk, inputOk, outputOk, conclusionOk, ruleOk, wellFormed}
 use Rattle.laws.proofs.Tests.{both, passed}
 use Rattle.laws.proofs.Lists.{all-append}
-use Rattle.listing_laws.proofs.Finding.{not-empty}
+use Rattle.laws.proofs.Finding.{not-empty}
 use Rattle.listing_laws.proofs.Facts.{rule-facts, block-facts}
 use Rattle.listing_laws.proofs.Names.{input-named, output-named, conclusion-named}
 use Rattle.listing_laws.proofs.LongConditions.{condition-short}

@@ -13,7 +13,7 @@ use Rattle.model.specs.Listing.{TermNames, inputTermNames, inputTermName}
 use Rattle.model.specs.WellFormed.{termOk, inputOk, singletonOk, figureOk, outputOk, conclusionOk, wellFormed}
 use Rattle.laws.proofs.Tests.{both, and-i, passed}
 use Rattle.laws.proofs.Lists.{all-append}
-use Rattle.listing_laws.proofs.Finding.{all-map, all-imp}
+use Rattle.laws.proofs.Finding.{all-map, all-imp}
 use Rattle.listing_laws.proofs.Facts.{input-facts, output-facts, conclusion-facts, block-facts}
 
 all-getD : {A : Type 0} (p : A → Bool) (xs : List A) (d : A) (i : ℕ) → all p xs ≡ true → i < length xs → p (getD xs i d) ≡ true

@@ -2,7 +2,7 @@
 use mathlib.Core.Path.{_≡_, refl, sym, ap, _∙_}
 use mathlib.Core.Bool.{true, false, not, _||_}
 use mathlib.Core.List.{List, [], _∷_, _++_, map, append-assoc, map-append}
-use Prim.Native.Nat.{ℕ, _+_}
+use Prim.Native.Nat.{ℕ}
 use native.Mathlib.Omega.{arith}
 use borrow.Author.Tests.{lt-ltb}
 use lib.Dec.{leb, ltb, eqb}
@@ -19,8 +19,8 @@ use Rattle.model.specs.Parse.{Parse, kind, text, is, advance, change, expect, r
 use Rattle.model.specs.Declarations.{inputOf, outputOf, isInput, isOutput, addInput, addOutput, intFrom, variable, inputCount, outputCount, inputType, inputDeclaration, outputDeclaration}
 use Rattle.laws.proofs.Tests.{both}
 use Rattle.laws.proofs.Lists.{all-append}
+use Rattle.laws.proofs.Finding.{all-map, distinct-fresh, fresh, fresh-map, named, none-of, not-found, filled}
 use Rattle.listing_laws.proofs.Items.{Item, name, word, colon, semicolon, typeItem, inputItems, outputItems}
-use Rattle.listing_laws.proofs.Finding.{all-map, distinct-fresh, fresh, fresh-map, named, none-of, not-found, filled}
 use Rattle.listing_laws.proofs.Facts.{BlockFacts, input-at, input-new, output-at}
 use Rattle.listing_laws.proofs.Reading.{at, headKind, judged-pass, expects, listed-one, some-read}
 use Rattle.listing_laws.proofs.Stages.{staged, bareInput, bareOutput}

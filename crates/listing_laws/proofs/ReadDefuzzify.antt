@@ -3,7 +3,7 @@ use mathlib.Core.Path.{_≡_, refl, ap, _∙_}
 use mathlib.Core.Bool.{true, false, not, _&&_}
 use mathlib.Core.List.{List, [], _∷_, _++_, append-assoc}
 use mathlib.Core.Option.{Option, none, some}
-use Prim.Native.Nat.{ℕ, _+_}
+use Prim.Native.Nat.{ℕ}
 use native.Mathlib.Omega.{arith}
 use borrow.Author.Tests.{lt-ltb}
 use lib.Dec.{ltb, eqb}
@@ -20,9 +20,9 @@ use Rattle.model.specs.Declarations.{outputOf, isOutput, singletonOf, isSinglet
 use Rattle.model.specs.Listing.{crispText}
 use Rattle.model.specs.WellFormed.{rangeOk, figureOk, defaultOk, singletonOk}
 use Rattle.laws.proofs.Tests.{both}
+use Rattle.laws.proofs.Finding.{getD-cut, update-at, all-split, distinct-split, named, none-of, index-at, found, not-found, name-self, filled}
 use Rattle.listing_laws.proofs.Items.{Item, name, number, word, opening, closing, colon, semicolon, assign, dots, rangeItems, singletonItems, defaultItem, defuzzifyItems}
 use Rattle.listing_laws.proofs.Numbers.{value-crisp, is-crisp}
-use Rattle.listing_laws.proofs.Finding.{getD-cut, update-at, all-split, distinct-split, named, none-of, index-at, found, not-found, name-self, filled}
 use Rattle.listing_laws.proofs.Facts.{name-fits, OutputFacts}
 use Rattle.listing_laws.proofs.Reading.{at, headKind, is-head, judged-pass, expects, some-read}
 use Rattle.listing_laws.proofs.Stages.{staged, focus, bareOutput}

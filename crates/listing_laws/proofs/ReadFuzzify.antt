@@ -2,7 +2,7 @@
 use mathlib.Core.Path.{_≡_, refl, sym, ap, _∙_}
 use mathlib.Core.Bool.{true, false, not}
 use mathlib.Core.List.{List, [], _∷_, _++_, map, append-nil, append-assoc, map-append}
-use Prim.Native.Nat.{ℕ, _+_}
+use Prim.Native.Nat.{ℕ}
 use native.Mathlib.Omega.{arith}
 use borrow.Author.Tests.{lt-ltb, le-leb}
 use lib.Dec.{leb, ltb, eqb}
@@ -20,17 +20,13 @@ use Rattle.model.specs.Listing.{crispText, unitText}
 use Rattle.model.specs.WellFormed.{unitOk, pointOk, rising, termOk}
 use Rattle.laws.proofs.Lists.{updateLast-snoc}
 use Rattle.laws.proofs.Tests.{both}
+use Rattle.laws.proofs.Lists.{last-points}
+use Rattle.laws.proofs.Finding.{getD-cut, update-at, all-split, distinct-split, named, none-of, index-at, found, not-found, name-self, filled}
 use Rattle.listing_laws.proofs.Items.{Item, name, number, word, comma, closing, semicolon, assign, commas, pointItems, termItems, fuzzifyItems}
 use Rattle.listing_laws.proofs.Numbers.{value-crisp, is-crisp, is-unit, unit-back}
-use Rattle.listing_laws.proofs.Finding.{getD-cut, update-at, all-split, distinct-split, named, none-of, index-at, found, not-found, name-self, filled}
 use Rattle.listing_laws.proofs.Facts.{InputFacts, TermFacts, term-facts}
 use Rattle.listing_laws.proofs.Reading.{at, headKind, judged-pass, expects, listed-reads, some-read}
 use Rattle.listing_laws.proofs.Stages.{staged, focus, bareInput}
-
-pub last-points : (ts : List Term) (t : Term) → lastPoints (ts ++ (t ∷ [])) ≡ t .points
-last-points [] t = refl
-last-points (u ∷ []) t = refl
-last-points (u ∷ v ∷ ts) t = last-points (v ∷ ts) t
 
 -- each position may stand after those before it
 rising-at : (before xs : List ℤ) (y : ℤ) (ys : List ℤ) → rising before (xs ++ (y ∷ ys)) ≡ true → mayFollow (before ++ xs) y ≡ true

@@ -15,8 +15,8 @@ use Rattle.model.specs.Rules.{ruleBlock}
 use Rattle.model.specs.Reader.{partsThere, endOfBlock, functionBlock, outcomeOf}
 use Rattle.model.specs.WellFormed.{inputOk, outputOk, wellFormed}
 use Rattle.laws.proofs.Tests.{and-i}
+use Rattle.laws.proofs.Finding.{all-imp, filled, some-there}
 use Rattle.listing_laws.proofs.Items.{Item, item, itemOf, name, word, inputItems, outputItems, fuzzifyItems, defuzzifyItems, ruleBlockItems, listingItems}
-use Rattle.listing_laws.proofs.Finding.{all-imp, filled, some-there}
 use Rattle.listing_laws.proofs.Facts.{BlockFacts, block-facts, input-facts, output-facts, input-at, input-new, output-at, output-new}
 use Rattle.listing_laws.proofs.Reading.{laid, laid-back, placesOf, at, own-name, headKind, judged-pass, expects, some-read}
 use Rattle.listing_laws.proofs.Stages.{staged, bareInput, bareOutput, partly, partly-at, partly-next, partly-all}

@@ -18,7 +18,8 @@ use Rattle.model.specs.Listing.{TermNames, inputTermNames, inputTermName}
 use Rattle.model.specs.WellFormed.{inputOk, outputOk, termOk, singletonOk, figureOk}
 use Rattle.model.specs.Tokens.{isName, sameName}
 use Rattle.laws.proofs.Tests.{both}
-use Rattle.listing_laws.proofs.Finding.{Cut, cut, map-cut, all-cut, getD-cut, take-cut, gather-cut, length-gather, found-at, is-found, named}
+use Rattle.laws.proofs.Lists.{length-gather}
+use Rattle.laws.proofs.Finding.{Cut, cut, map-cut, all-cut, getD-cut, take-cut, gather-cut, found-at, is-found, named}
 use Rattle.listing_laws.proofs.Facts.{name-fits, InputFacts, input-facts, term-facts, OutputFacts, output-facts, ConclusionFacts}
 use Rattle.listing_laws.proofs.ReadConditions.{Named}
 

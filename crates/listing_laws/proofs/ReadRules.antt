@@ -25,9 +25,9 @@ use Rattle.model.specs.Image.{terms}
 use Rattle.model.specs.Listing.{inputTermNames, inputTermName, digits, unitText, andText, orText, actText, accuText}
 use Rattle.model.specs.WellFormed.{unitOk, conclusionOk, ruleOk}
 use Rattle.laws.proofs.Lists.{gather-append, gather-last, total-last, updateLast-snoc, total-append}
+use Rattle.laws.proofs.Finding.{all-split, all-map, distinct-earlier, filled, not-empty}
 use Rattle.listing_laws.proofs.Items.{Item, name, number, word, wordOf, colon, semicolon, commas, conditionItems, conclusionItems, weightItems, ruleItems, ruleBlockItems}
 use Rattle.listing_laws.proofs.Numbers.{decimal-digits, is-rule-number, is-unit, unit-back}
-use Rattle.listing_laws.proofs.Finding.{all-split, all-map, distinct-earlier, filled, not-empty}
 use Rattle.listing_laws.proofs.Facts.{BlockFacts, RuleFacts, rule-facts, conclusion-facts, inputs-apart, outputs-apart}
 use Rattle.listing_laws.proofs.Reading.{at, own-name, headKind, judged-pass, expects, change-at, listed-reads, some-read}
 use Rattle.listing_laws.proofs.Stages.{staged}

@@ -23,7 +23,7 @@ use Rattle.model.specs.Listing.{commaed, digitsOn, digits, trimmed, afterPoint,
 use Rattle.model.specs.WellFormed.{unitOk, pointOk, termOk, inputOk, rangeOk, figureOk, singletonOk, defaultOk, outputOk, termsBelow}
 use Rattle.laws.proofs.Tests.{both, passed, clash}
 use Rattle.laws.proofs.Lists.{all-append}
-use Rattle.listing_laws.proofs.Finding.{all-imp}
+use Rattle.laws.proofs.Finding.{all-imp}
 use Rattle.listing_laws.proofs.Numbers.{tens, digits-all, digits-length, behind, behind-all, behind-length, unit-facts}
 use Rattle.listing_laws.proofs.Pieces.{name-facts}
 use Rattle.listing_laws.proofs.Facts.{term-facts, input-facts, output-facts}

@@ -9,7 +9,7 @@ use Rattle.model.specs.Block.{Input, Output, Block, blockOf}
 use Rattle.model.specs.declared.Pair.the-variants.{MinMax as min-max}
 use Rattle.model.specs.declared.Accumulation.the-variants.{Max as by-max}
 use Rattle.model.specs.declared.Activation.the-variants.{Min as by-min}
-use Rattle.listing_laws.proofs.Finding.{Cut}
+use Rattle.laws.proofs.Finding.{Cut}
 
 -- before the rule block
 abbrev pub staged : List ℕ → List Input → List Output → Block

@@ -55,9 +55,9 @@ commaed-cons s [] h = absurd (omega arith)
 commaed-cons s (t ∷ ss) h = refl
 
 module _ {A : Type 0} (f : A → List ℕ) (g : ℕ → A) (s n : ℕ) {k : ℕ} {old : List ℕ} where
-  pub commaed-none : Prepends k k (commaed (map f (from g s n n))) old old
-  unfolding commaed
-  commaed-none = rw (from-end g s n) (nothing k old)
+  pub commaed-empty : n ≡ 0 → Prepends k k (commaed (map f (tab g n s))) old old
+  unfolding commaed tab
+  commaed-empty e = rw e (nothing k old)
 
   -- the last item
   pub commaed-last : (q i : ℕ) (new : List ℕ) → 0 < i → i ≡ n → Prepends k q (f (g (s + (i - 1)))) old new

@@ -4,6 +4,7 @@ ghost use Prim.Native.Nat.{_+_, _≤_};
 ghost use lib.ListN.{length};
 ghost use lib.Seq.{slice};
 ghost use Rattle.model.specs.Basic.{indexOf};
+ghost use Rattle.model.specs.Bounds.{symbolLimit};
 ghost use Rattle.model.specs.Tokens.{sameName};
 ghost use Rattle.model.specs.Image.{tab};
 ghost use Rattle.lookup.specs.Names.{nameOf, Placed};
@@ -22,7 +23,7 @@ pub const FIRST_OUTPUT_TERM: usize = FIRST_TERM + bounds::INPUT_TERMS;
 
 // Which of `count` names, the first being the name `from`, is the text from `start` to `end`: `count` where none is.
 pub fn find(s: &[u8], names: &Names, from: usize, count: usize, start: usize, end: usize) -> usize
-    requires { ⌜ (start ≤ end) × (end ≤ length (now s)) × (from + count ≤ 112) × Placed (now s) (now names) ⌝ }
+    requires { ⌜ (start ≤ end) × (end ≤ length (now s)) × (from + count ≤ symbolLimit) × Placed (now s) (now names) ⌝ }
     ensures { λ r. ⌜ r ≡ indexOf (sameName (slice start end (now (s .entry))))
         (tab (nameOf (now (s .entry)) (now (names .entry))) count from) ⌝ }
     ensures within { λ r. ⌜ r ≤ count ⌝ }

@@ -10,7 +10,7 @@ use Rattle.model.proofs.Opened.{opened}
 use Rattle.model.proofs.Texts.{ruled, ended, oneRule, times, rulesFrom, Cut, cut, answers, refusedBy, acceptedAll, trueAll}
 
 -- a text of 65,536 bytes and fewer is read token by token
-text-not-too-long : (s : List ℕ) → length s ≤ 65536 → reads s ≡ outcomeOf (functionBlock (start s))
+pub text-not-too-long : (s : List ℕ) → length s ≤ 65536 → reads s ≡ outcomeOf (functionBlock (start s))
 unfolding reads
 text-not-too-long s h = simp (le-ltb 65536 (length s) h)
 

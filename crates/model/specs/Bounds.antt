@@ -1,5 +1,5 @@
--- The bounds of document 01, and its two units.
-use Prim.Native.Nat.{ℕ}
+-- The bounds of document 01, its two units, and the lengths that follow from the bounds.
+use Prim.Native.Nat.{ℕ, _+_, _*_}
 
 -- crisp values lie between minus this and this, in thousandths
 abbrev pub crispLimit : ℕ
@@ -57,3 +57,25 @@ ruleNumberLimit = 65535
 -- parentheses open at once
 abbrev pub depthLimit : ℕ
 depthLimit = 8
+
+-- WHAT FOLLOWS
+abbrev pub variableLimit : ℕ
+variableLimit = inputLimit + outputLimit
+
+-- terms of all inputs, of all outputs, of all variables
+abbrev pub inputTermLimit : ℕ
+inputTermLimit = inputLimit * termLimit
+
+abbrev pub outputTermLimit : ℕ
+outputTermLimit = outputLimit * termLimit
+
+abbrev pub allTermLimit : ℕ
+allTermLimit = inputTermLimit + outputTermLimit
+
+-- names that are declared: those of variables and of their terms
+abbrev pub symbolLimit : ℕ
+symbolLimit = variableLimit + allTermLimit
+
+-- points of all input terms
+abbrev pub inputPointLimit : ℕ
+inputPointLimit = inputTermLimit * pointLimit

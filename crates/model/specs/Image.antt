@@ -8,7 +8,7 @@ use lib.IntN.{ℤ, pos, negsuc}
 use lib.ListN.{length, take, getD}
 use Rattle.model.specs.Basic.{if_then_else_, total, gather, run, same}
 use Rattle.model.specs.Bounds.{M}
-use Rattle.model.specs.Block.{Point, Term, Singleton, InputType, real, int, Input, Range, Output, Op, and, or, Condition, term, neg, two, Conclusion, Rule, Pair, min-max, prod-asum, bdif-bsum, Accumulation, by-max, by-bsum, Activation, by-min, by-prod, Block, inputTerms, outputTerms, conclusions, size}
+use Rattle.model.specs.Block.{Point, Term, Singleton, InputType, real, int, Input, Range, Output, Op, and, or, Condition, term, neg, two, Conclusion, Rule, Pair, min-max, prod-asum, bdif-bsum, Accumulation, by-max, by-bsum, Activation, by-min, by-prod, Block, inputTerms, outputTerms, outputFirst, conclusions, size}
 use Rattle.model.specs.Outcome.{Outcome, accepted, refused}
 use Rattle.model.specs.WellFormed.{wellFormed}
 
@@ -92,12 +92,13 @@ abbrev pub defaultWords : Option ℤ → List ℕ
 defaultWords none = 0 ∷ 0 ∷ []
 defaultWords (some x) = 1 ∷ crispWord x ∷ []
 
-unfoldable pub outputTable : ℕ → List Output → List ℕ
-outputTable n [] = []
-outputTable n (v ∷ vs) =
+-- the rows of b's outputs from the i-th on
+unfoldable pub outputTable : Block → ℕ → List Output → List ℕ
+outputTable b i [] = []
+outputTable b i (v ∷ vs) =
     nameWords (v .name)
-    ++ (n ∷ length (v .terms)
-    ∷ (rangeWords (v .range) ++ (defaultWords (v .default) ++ outputTable (n + length (v .terms)) vs)))
+    ++ (outputFirst i b ∷ length (v .terms)
+    ∷ (rangeWords (v .range) ++ (defaultWords (v .default) ++ outputTable b (suc i) vs)))
 
 -- n is the first point of the next term
 unfoldable pub termTable : ℕ → List Term → List ℕ
@@ -172,7 +173,7 @@ unfoldable pub words : Block → List ℕ
 words b =
     header b
     ++ (inputTable 0 (b .inputs)
-    ++ (outputTable (length (inputTerms b)) (b .outputs)
+    ++ (outputTable b 0 (b .outputs)
     ++ (termTable 0 (terms b)
     ++ (gather pointWords (points b)
     ++ (ruleTable 0 0 (b .rules)

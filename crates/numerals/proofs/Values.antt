@@ -10,7 +10,7 @@ use lib.IntN.{ℤ, pos, negℤ, natAbs, _-ℤ_}
 use lib.Signed.{leZ}
 use lib.ListN.{length}
 use mir.Syntax.{w32}
-use mir.Val.{SFits, toZ, ofZ}
+use mir.Val.{SFits, toZ}
 use mir.ValLaws.{toZ-pos}
 use Rattle.model.specs.Basic.{if_then_else_, all, run, between}
 use Rattle.model.specs.Bounds.{crispLimit, ruleNumberLimit}
@@ -26,9 +26,6 @@ signed b m = if b then negℤ (pos m) else pos m
 -- -m as the code makes it
 pub minus-fits : (m : ℕ) → m ≤ crispLimit → SFits w32 (pos 0 -ℤ toZ w32 m)
 minus-fits m h = rw (taken-from-zero m h) (laws-signed.minus-fits m h)
-
-pub minus-is : (m : ℕ) → m ≤ crispLimit → toZ w32 (ofZ w32 (pos 0 -ℤ toZ w32 m)) ≡ negℤ (pos m)
-minus-is = laws-signed.negated
 
 pub plus-is : (m : ℕ) → m ≤ crispLimit → toZ w32 m ≡ signed false m
 plus-is m h = toZ-pos w32 m (omega arith)

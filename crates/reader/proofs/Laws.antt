@@ -4,7 +4,7 @@ use mathlib.Core.List.{List}
 use mathlib.Core.Option.{some}
 use Prim.Native.Nat.{ℕ, zero, suc, _≤_, _<_}
 use native.Mathlib.Omega.{arith}
-use borrow.Author.Tests.{eq-eqb, ne-eqb, lt-ltb, le-ltb}
+use borrow.Author.Tests.{eq-eqb, ne-eqb, lt-ltb}
 use lib.ListN.{length}
 use Rattle.model.specs.Basic.{gather, total}
 use Rattle.model.specs.Block.{Block, Rule}
@@ -15,6 +15,7 @@ use Rattle.model.specs.Rules.{rule, ruleBlock}
 use Rattle.model.specs.Reader.{functionBlock, start, outcomeOf, reads}
 use Rattle.model.specs.Image.{image}
 use Rattle.model.specs.Buffers.{readsInto}
+use Rattle.model.proofs.Limits.{text-not-too-long}
 use Rattle.cursor.specs.declared.Cursor.{Cursor}
 use Rattle.cursor.specs.View.{seen}
 use Rattle.block_tables.specs.declared.Tables.{Tables}
@@ -48,10 +49,6 @@ at-least : (w : ℕ) → (w ≡ 0 → ⊥) → (w ≡ 1 → ⊥) → 2 ≤ w
 at-least zero a b = absurd (a refl)
 at-least (suc zero) a b = absurd (b refl)
 at-least (suc (suc w)) a b = omega arith
-
-short : (s : List ℕ) → length s ≤ 65536 → reads s ≡ outcomeOf (functionBlock (start s))
-unfolding reads
-short s l = simp (le-ltb _ _ l) refl
 
 pub long : (room : ℕ) (s : List ℕ) → 65536 < length s → readsInto room s ≡ refused 1 (some 0)
 unfolding readsInto reads
@@ -118,10 +115,12 @@ module _ (s : List ℕ) (t : Tables) (h : Heading) where
         unfolding readsInto
         refused-so z =
             let e : outcomeOf end ≡ refused (end .why) (some (end .place)) = simp (ne-eqb _ _ (λ q. z (why-is ∙ q))) refl in
-            ap (λ (o : Outcome Block). andThen o (λ b. into room (image b))) (short s l ∙ e) ∙ (λ j. refused (sym why-is j) (some (sym place-is j)))
+            ap (λ (o : Outcome Block). andThen o (λ b. into room (image b))) (text-not-too-long s l ∙ e)
+            ∙ (λ j. refused (sym why-is j) (some (sym place-is j)))
 
         pub accepted-so : f .why ≡ 0 → readsInto room s ≡ into room (image (wholeView s t h rs))
         unfolding readsInto
         accepted-so z =
             let e : outcomeOf end ≡ accepted (end .block) = simp (eq-eqb _ _ (sym why-is ∙ z)) refl in
-            ap (λ (o : Outcome Block). andThen o (λ b. into room (image b))) (short s l ∙ e) ∙ ap (λ (b : Block). into room (image b)) (sym block-is)
+            ap (λ (o : Outcome Block). andThen o (λ b. into room (image b))) (text-not-too-long s l ∙ e)
+            ∙ ap (λ (b : Block). into room (image b)) (sym block-is)

@@ -20,7 +20,7 @@ use Rattle.model.specs.Declarations.{inputOf, outputOf, isInput, isOutput, addI
 use Rattle.laws.proofs.Tests.{and-i, clash}
 use Rattle.laws.proofs.Each.{Each, each-append}
 use Rattle.laws.proofs.Lists.{all-append}
-use Rattle.listing_laws.proofs.Finding.{fresh}
+use Rattle.laws.proofs.Finding.{fresh}
 use Rattle.reading_laws.proofs.Steps.{Fact, Leads, _▹_, either, good-advance, good-change, good-judged, name-here, good-expect, good-listed}
 use Rattle.reading_laws.proofs.Focus.{absent, names-last, not-named}
 

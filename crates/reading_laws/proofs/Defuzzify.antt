@@ -20,7 +20,7 @@ use Rattle.model.specs.Parse.{Parse, text, is, advance, valueHere}
 use Rattle.model.specs.Declarations.{singletonOf, changeOutput, lowerEnd, upperEnd, rangeBody, rangePart, figure, singletonBody, outputTerm, defaultValue, defuzzifyOf, defuzzifyVariable, defuzzify}
 use Rattle.laws.proofs.Tests.{and-i, clash}
 use Rattle.laws.proofs.Each.{Each}
-use Rattle.listing_laws.proofs.Finding.{none-of, named}
+use Rattle.laws.proofs.Finding.{none-of, named}
 use Rattle.reading_laws.proofs.Steps.{Fact, Good, Leads, _▹_, good-so, either, good-advance, good-change, good-judged, name-here, good-expect, good-repeated}
 use Rattle.reading_laws.proofs.Numbers.{crisp-value}
 use Rattle.reading_laws.proofs.Focus.{Except, focus, unfocus, except-update, except-so, except-at, map-update, all-last, absent, named-last}

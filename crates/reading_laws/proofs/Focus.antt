@@ -11,7 +11,7 @@ use Rattle.model.specs.Basic.{all, total, distinct, indexOf, update, updateLast
 use Rattle.model.specs.Tokens.{sameName}
 use Rattle.laws.proofs.Tests.{both, and-i}
 use Rattle.laws.proofs.Each.{Each}
-use Rattle.listing_laws.proofs.Finding.{all-map, all-imp, none-of, named, fresh, differ}
+use Rattle.laws.proofs.Finding.{all-map, all-imp, none-of, named, fresh, differ}
 
 -- P of every element but the i-th, which has R
 abbrev pub Except : {A : Type 0} → (A → Type 0) → (A → Type 0) → ℕ → List A → Type 0

@@ -19,8 +19,8 @@ use Rattle.model.specs.Declarations.{termOf, addTerm, addPoint, lastPoints, poi
 use Rattle.laws.proofs.Tests.{pass, and-i}
 use Rattle.laws.proofs.Each.{Each}
 use Rattle.laws.proofs.Lists.{updateLast-snoc}
-use Rattle.listing_laws.proofs.Finding.{none-of, named}
-use Rattle.listing_laws.proofs.ReadFuzzify.{last-points}
+use Rattle.laws.proofs.Lists.{last-points}
+use Rattle.laws.proofs.Finding.{none-of, named}
 use Rattle.reading_laws.proofs.Steps.{Fact, Good, Leads, _▹_, good-so, good-advance, good-change, good-judged, name-here, good-expect, good-repeated, good-listed}
 use Rattle.reading_laws.proofs.Numbers.{crisp-value, unit-value, rising-last}
 use Rattle.reading_laws.proofs.Focus.{Except, focus, unfocus, except-update, except-so, except-at, map-update, map-updateLast, all-last, absent, named-last}

@@ -24,7 +24,7 @@ use Rattle.model.specs.Rules.{ConditionRead, condition, addRule, changeRule, an
 use Rattle.laws.proofs.Tests.{pass, and-i}
 use Rattle.laws.proofs.Each.{Each}
 use Rattle.laws.proofs.Lists.{gather-last, total-last, updateLast-snoc}
-use Rattle.listing_laws.proofs.Finding.{all-map, some-there}
+use Rattle.laws.proofs.Finding.{all-map, some-there}
 use Rattle.reading_laws.proofs.Steps.{Fact, Good, Leads, _▹_, good-so, either, good-refuse, good-advance, good-change, good-judged, name-here, good-expect, good-repeated, good-listed}
 use Rattle.reading_laws.proofs.Numbers.{unit-value, rule-number}
 use Rattle.reading_laws.proofs.Focus.{map-updateLast, total-updateLast, all-last, distinct-last}

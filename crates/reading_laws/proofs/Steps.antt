@@ -2,7 +2,7 @@
 use mathlib.Core.Path.{_≡_, refl}
 use mathlib.Core.Bool.{Bool, true, false}
 use mathlib.Core.List.{List, [], _∷_}
-use Prim.Native.Nat.{ℕ, zero, suc, _≤_}
+use Prim.Native.Nat.{ℕ, _≤_}
 use native.Mathlib.Omega.{arith}
 use borrow.Author.Tests.{eqb-true, eqb-false, leb-true}
 use lib.Dec.{leb, eqb}
@@ -12,10 +12,10 @@ use Rattle.model.specs.Bounds.{nameLimit}
 use Rattle.model.specs.Block.{Block}
 use Rattle.model.specs.Keywords.{NAME, COMMA}
 use Rattle.model.specs.Tokens.{isName, Token}
-use Rattle.model.specs.Parse.{Parse, Part, Checks, headOf, restOf, kind, text, is, refuse, advance, change, judged, expect, repeatOn, repeated, listed}
+use Rattle.model.specs.Parse.{Parse, Part, Checks, headOf, restOf, kind, text, is, refuse, advance, change, judged, expect, repeated, listed}
 use Rattle.laws.proofs.Tests.{both}
 use Rattle.laws.proofs.Each.{Each}
-use Rattle.laws.proofs.Walk.{ranged}
+use Rattle.laws.proofs.Walk.{ranged, repeated-keeps}
 use Rattle.reading_laws.proofs.Names.{Named, spelt-name}
 
 -- what holds of the condition words and the block so far
@@ -94,18 +94,8 @@ pub good-expect : {Q : Fact} (t : ℕ) → Leads Q Q (expect t)
 unfolding expect
 good-expect t r k = either (is t r) (λ h. good-advance r k) (good-refuse 2 r (omega arith))
 
-good-repeatOn : {Q : Fact} {part : Part} → Leads Q Q part → (n t : ℕ) → Leads Q Q (repeatOn n t part)
-unfolding repeatOn
-good-repeatOn {Q} {part} f zero t r k = k
-good-repeatOn {Q} {part} f (suc n) t r k = go (is t r) (good-repeatOn f n t (part r) (f r k))
-  where
-    go : (b : Bool) → Good Q (repeatOn n t part (part r)) → Good Q (elim b [ true ↦ repeatOn n t part (part r) | false ↦ r ])
-    go true l = l
-    go false l = k
-
 pub good-repeated : {Q : Fact} {part : Part} (t : ℕ) → Leads Q Q part → Leads Q Q (repeated t part)
-unfolding repeated
-good-repeated t f r k = good-repeatOn f (suc (length (r .rest))) t r k
+good-repeated {Q} {part} t f = repeated-keeps (Good Q) part f t
 
 pub good-listed : {P Q : Fact} {part : Part} → Leads P Q part → Leads Q Q part → Leads P Q (listed part)
 unfolding listed

@@ -18,7 +18,7 @@ use Rattle.model.specs.Parse.{Parse, text, ownName}
 use Rattle.model.specs.Reader.{partsThere, endOfBlock, functionBlock, start, outcomeOf, reads}
 use Rattle.laws.proofs.Tests.{both, and-i, pass}
 use Rattle.laws.proofs.Each.{Each}
-use Rattle.listing_laws.proofs.Finding.{all-imp, not-empty}
+use Rattle.laws.proofs.Finding.{all-imp, not-empty}
 use Rattle.reading_laws.proofs.Names.{tokens-named}
 use Rattle.reading_laws.proofs.Steps.{Fact, Good, Leads, _▹_, good-so, good-advance, good-change, good-judged, name-here, good-expect, good-repeated}
 use Rattle.reading_laws.proofs.Declarations.{InputFine, OutputFine, Inputs, good-inputs, no-outputs, good-outputs}

@@ -5,6 +5,7 @@ use mathlib.Core.List.{List, [], _∷_, _++_}
 use Prim.Native.Nat.{ℕ, _+_, _*_, _≤_}
 use lib.ListN.{length, take}
 use Rattle.model.specs.Basic.{gather, total}
+use Rattle.model.specs.Bounds.{ruleLimit, wordLimit, conclusionLimit}
 use Rattle.model.specs.Block.{Block, Rule, Conclusion, size, withRules, withWeight}
 use Rattle.model.specs.Image.{conclusionWords}
 use Rattle.model.specs.Parse.{Part}
@@ -18,18 +19,18 @@ use Rattle.rule_text.specs.declared.Progress.{Progress}
 -- the rules rs are kept: their words, and how many there are
 pub record Kept (rs : List Rule) (rules ws ks : List ℕ) (n : Totals) : Type 0 where
   pub stored : Stored rs rules ws ks (n .rules) (n .words) (n .conclusions)
-  pub rules-size : length rules ≡ 256
-  pub words-size : length ws ≡ 640
-  pub conclusions-size : length ks ≡ 256
+  pub rules-size : length rules ≡ ruleLimit * 4
+  pub words-size : length ws ≡ wordLimit
+  pub conclusions-size : length ks ≡ conclusionLimit * 2
   pub rules-count : length rs ≡ n .rules
   pub words-count : total (λ r. size (r .condition)) rs ≡ n .words
   pub conclusions-count : length (gather (λ r. r .conclusions) rs) ≡ n .conclusions
 
 -- no more than the limits
 pub record Few (n : Totals) : Type 0 where
-  pub rules : n .rules ≤ 64
-  pub words : n .words ≤ 640
-  pub conclusions : n .conclusions ≤ 128
+  pub rules : n .rules ≤ ruleLimit
+  pub words : n .words ≤ wordLimit
+  pub conclusions : n .conclusions ≤ conclusionLimit
 
 -- b with the rules rs
 abbrev pub holding : List Rule → Block → Block
@@ -67,7 +68,7 @@ pub record Onward (s : List ℕ) (p r : Concluded) : Type 0 where
   pub fewer : left s (r .cursor) ≤ left s (p .cursor)
   pub fits : Fits s (r .cursor)
   pub grows : p .count ≤ r .count
-  pub count : r .count ≤ 128
+  pub count : r .count ≤ conclusionLimit
 
 -- part reads the rest of the rule q, and its conclusions and its row are put
 pub record Ends (part : Part) (s : List ℕ) (b : Block) (rs : List Rule) (q : Rule) (p r : Progress) (n w : ℕ)

@@ -2,14 +2,12 @@
 use mathlib.Core.Path.{_≡_, refl, sym, _∙_}
 use mathlib.Core.List.{List, [], _∷_, _++_}
 use mathlib.Core.Bool.{Bool, true, false, _&&_, not}
-use Prim.Native.Nat.{ℕ, zero, suc, _+_, _*_, _-_, _≤_, _<_}
+use Prim.Native.Nat.{ℕ, zero, suc, _+_, _*_, _≤_, _<_}
 use native.Mathlib.Omega.{arith}
-use native.Mathlib.Numerals.{add-one}
 use native.Mathlib.Nat.{mul-le-mul-left}
 use Rattle.model.specs.Basic.{all, distinct, same}
 use Rattle.model.specs.Tokens.{sameName}
 use Rattle.model.specs.Image.{tab, nameAt}
-use Rattle.laws.proofs.Places.{step}
 use Rattle.laws.proofs.Lists.{all-append}
 use Rattle.layout.specs.Tables.{nameExact}
 use Rattle.stored_names.specs.Stored.{wordsIn, absent, apart}
@@ -18,20 +16,6 @@ use Rattle.stored_names.proofs.Names.{same-names}
 -- an entry's place, for any width up to 11
 pub entry : (i s : ℕ) → i ≤ 4294967295 → s ≤ 11 → i * s ≤ 47244640245
 entry i s h g = omega (arith, mul-le-mul-left i g)
-
--- WALKS: what is left from i up to e, one entry a turn
-module _ {A : Type 0} (eq : A → A → Bool) (f : ℕ → A) (e i : ℕ) where
-  pub distinct-more : i < e → absent eq (f i) (tab f (e - (i + 1)) (i + 1)) ≡ true → distinct eq (tab f (e - i) i) ≡ distinct eq (tab f (e - (i + 1)) (i + 1))
-  unfolding distinct tab
-  distinct-more h q = rw (step e i h) (simp (rw add-one at q, add-one))
-
-  pub distinct-stop : i < e → absent eq (f i) (tab f (e - (i + 1)) (i + 1)) ≡ false → distinct eq (tab f (e - i) i) ≡ false
-  unfolding distinct tab
-  distinct-stop h q = rw (step e i h) (simp (rw add-one at q, add-one))
-
-  pub distinct-end : e ≤ i → distinct eq (tab f (e - i) i) ≡ true
-  unfolding distinct tab
-  distinct-end h = let g : e - i ≡ 0 = omega arith in rw g
 
 crossed : (a b c d e : Bool) → (a && b) && (c && (d && e)) ≡ (a && c) && ((b && d) && e)
 crossed true true true d e = refl

@@ -15,17 +15,13 @@ use Rattle.model.specs.Bounds.{ruleNumberLeast, ruleNumberLimit}
 use Rattle.model.specs.WellFormed.{ruleOk}
 use Rattle.model.specs.Image.{tab, ruleAt}
 use Rattle.laws.proofs.Tests.{both, passed}
+use Rattle.laws.proofs.Places.{distinct-more, distinct-stop}
+use Rattle.laws.proofs.Arrays.{replicate-at}
 use Rattle.stored_rules.specs.Walk.{ruleNumber, ruleStored, rowStored, rulesWalk}
-use Rattle.stored_rules.proofs.Loops.{distinct-more, distinct-stop}
 
 not-back : (a : Bool) (b : Bool) → b ≡ not a → a ≡ not b
 not-back true b e = ap not (sym e)
 not-back false b e = ap not (sym e)
-
-none-marked : (k n : ℕ) → getD (replicate k false) n false ≡ false
-none-marked zero n = refl
-none-marked (suc k) zero = refl
-none-marked (suc k) (suc n) = none-marked k n
 
 module _ (f : ℕ → ℕ) (e : ℕ) where
   -- n is marked when a rule from the i-th on has it
@@ -34,7 +30,7 @@ module _ (f : ℕ → ℕ) (e : ℕ) where
 
   pub marks-none : (k : ℕ) → Marks e (replicate k false)
   unfolding all tab
-  marks-none k n = let s : e - e ≡ 0 = omega arith in rw s (none-marked k n)
+  marks-none k n = let s : e - e ≡ 0 = omega arith in rw s (replicate-at k n false)
 
   pub marks-more : (j : ℕ) (l : List Bool) → j < e → f j < length l → Marks (j + 1) l → Marks j (set l (f j) true)
   unfolding all tab

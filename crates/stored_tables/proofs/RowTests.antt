@@ -16,7 +16,7 @@ use Rattle.model.specs.Image.{crispWord, crispOf, nameWords, nameAt, typeWord, 
 use Rattle.laws.proofs.Lists.{tab-append}
 use Rattle.laws.proofs.Tests.{and-i, and-assoc}
 use Rattle.laws.proofs.Places.{length-tab}
-use Rattle.layout.specs.Tables.{inputRow, inputNext, outputRow, outputNext, termRow, termNext, outputTermAt, outputPointAt, inputCount, outputCount, termCount, nameExact}
+use Rattle.layout.specs.Tables.{inputRow, inputNext, outputRow, outputNext, termRow, outputTermAt, outputPointAt, inputCount, outputCount, nameExact}
 use Rattle.layout.proofs.Whole.{word-crisp}
 use Rattle.layout.proofs.Parts.{range-long}
 use Rattle.stored_tables.specs.Tests.{rangeTest, defaultTest, inputTest, outputTest, termTest, singletonTest}
@@ -160,7 +160,3 @@ module _ (w : ℕ → ℕ) where
   pub output-next : (i p : ℕ) → outputNext p (outputAt w i) ≡ p + outputCount w i
   unfolding outputAt
   output-next i p = ap (λ (x : ℕ). p + x) (length-tab (singletonAt w) (outputCount w i) (w (w 10 + i * 11 + 4)))
-
-  pub term-next : (i p : ℕ) → termNext p (termAt w i) ≡ p + termCount w i
-  unfolding termAt
-  term-next i p = ap (λ (x : ℕ). p + x) (length-tab (pointAt w) (termCount w i) (w (w 11 + i * 6 + 4)))

@@ -1,7 +1,7 @@
 // What the name at the cursor was declared as: an input, an output, or a term of one of them.
 ghost use mathlib.Core.Path.{_≡_};
 ghost use Prim.Native.Nat.{_+_, _*_, _≤_, _<_};
-ghost use Rattle.model.specs.Bounds.{inputLimit, outputLimit, termLimit};
+ghost use Rattle.model.specs.Bounds.{inputLimit, outputLimit, termLimit, variableLimit};
 ghost use Rattle.cursor.specs.View.{Fits, textOf};
 ghost use Rattle.symbol_table.specs.Symbols.{Symbols, termCount, inputCount, outputCount, among};
 use cursor::Cursor;
@@ -29,7 +29,7 @@ pub fn input_of(s: &[u8], names: &Names, symbols: &SymbolTable, c: Cursor) -> us
 pub fn output_of(s: &[u8], names: &Names, symbols: &SymbolTable, c: Cursor) -> usize
     requires { ⌜ Fits (now s) c × Symbols (now s) (now names) (now symbols) ⌝ }
     ensures { λ r. ⌜ r ≡ among (now (s .entry)) (now (names .entry)) (textOf (now (s .entry)) c)
-        (outputCount (now (symbols .entry))) 8 ⌝ }
+        (outputCount (now (symbols .entry))) inputLimit ⌝ }
     ensures within { λ r. ⌜ r ≤ outputLimit ⌝ }
 {
     lookup::find(
@@ -44,9 +44,9 @@ pub fn output_of(s: &[u8], names: &Names, symbols: &SymbolTable, c: Cursor) -> u
 
 // Which term of variable v; their number where it is none.
 pub fn term_of(s: &[u8], names: &Names, symbols: &SymbolTable, v: usize, c: Cursor) -> usize
-    requires { ⌜ Fits (now s) c × Symbols (now s) (now names) (now symbols) × (v < 14) ⌝ }
+    requires { ⌜ Fits (now s) c × Symbols (now s) (now names) (now symbols) × (v < variableLimit) ⌝ }
     ensures { λ r. ⌜ r ≡ among (now (s .entry)) (now (names .entry)) (textOf (now (s .entry)) c)
-        (termCount (now (symbols .entry)) v) (14 + v * 7) ⌝ }
+        (termCount (now (symbols .entry)) v) (variableLimit + v * termLimit) ⌝ }
     ensures within { λ r. ⌜ r ≤ termLimit ⌝ }
 {
     lookup::find(

@@ -4,7 +4,7 @@ use model::Degree;
 ghost use mathlib.Core.Path.{_≡_};
 ghost use Prim.Native.Nat.{ℕ, _≤_, _<_};
 ghost use lib.Signed.{_≤ℤ_, _<ℤ_};
-ghost use Rattle.model.specs.Bounds.{M};
+ghost use Rattle.model.specs.Bounds.{M, pointLimit};
 ghost use Rattle.model.specs.Degrees.{onLine, termDegree};
 ghost use Rattle.crisp.specs.Crisp.{InCrisp};
 ghost use Rattle.terms.specs.Points.{PointOk, pointView, pointAt, pointViews};
@@ -32,7 +32,7 @@ fn on_line(x: Crisp, p: Point, q: Point) -> Degree
 
 // By the first n points.
 pub fn term_degree(ps: [Point; bounds::POINTS], n: usize, x: Crisp) -> Degree
-    requires { ⌜ (1 ≤ n) × (n ≤ 4) × InCrisp (x .0) × ((k : ℕ) → k < n → PointOk (pointAt ps k)) ⌝ }
+    requires { ⌜ (1 ≤ n) × (n ≤ pointLimit) × InCrisp (x .0) × ((k : ℕ) → k < n → PointOk (pointAt ps k)) ⌝ }
     ensures { λ r. ⌜ (r .0 ≡ termDegree (pointViews ps n) (x .0)) × (r .0 ≤ M) ⌝ }
 {
     let first = ps[0];

@@ -1,5 +1,5 @@
 use borrow.Author.Needs.{needs}
-use mathlib.Core.Path.{_≡_, sym, _∙_}
+use mathlib.Core.Path.{_≡_, sym, _∙_, refl}
 use Prim.Native.Nat.{ℕ, _+_, _-_, _≤_, _<_}
 use native.Mathlib.Omega.{arith}
 use lib.ListN.{length, getD}
@@ -9,8 +9,8 @@ use Rattle.aggregation.proofs.Degrees.{number-at}
 use Rattle.degrees.specs.Tables.{numbers, Low}
 use Rattle.accumulation.specs.Heights.{afterConclusions}
 use Rattle.accumulation.proofs.Steps.{conclusion-turn, conclusions-start, conclusions-end, low-turn}
-use Rattle.accumulation.proofs.Rules.{rule-conclusions, term-read}
-use Rattle.layout.proofs.Rules.{rules-few}
+use Rattle.accumulation.proofs.Rules.{term-read}
+use Rattle.layout.proofs.Rules.{rules-few, rule-conclusions}
 use Rattle.accumulation.proofs.conclude.Statement.{statement}
 use Rattle.accumulation.proofs.conclude.Tie as tie
 
@@ -146,7 +146,7 @@ returns c =
     let l = c .before .loop in
     let w = wordAt (a .img .now) in
     let k = read (p .before) in
-    let ks = rule-conclusions w (s .pre .0) (a .i) (inside s) _ _ (k .0) (k .1) in (
+    let ks = rule-conclusions w (s .pre .0) (a .i) (inside s) (rulePlace w (a .i)) _ _ refl (k .0) (k .1) in (
       λ p′. sym (conclusions-end _ (a .d .0) (conclusionAt w) _ _ (l .j) (a .m + p′) _ (c .loop-test .left)) ∙ l .inv .3 p′
           ∙ (λ j. afterConclusions (p .stored-accumulation .ensures j) (a .d .0) (a .m + p′) (ks j) (getD (numbers (a .hs)) p′ 0)),
       l .inv .2,

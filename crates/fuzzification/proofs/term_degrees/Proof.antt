@@ -9,11 +9,12 @@ use Rattle.model.specs.Bounds.{M}
 use Rattle.model.specs.declared.Crisp.{Crisp}
 use Rattle.model.specs.Evaluation.{termDegrees}
 use Rattle.model.specs.Image.{wordAt, tab, inputAt, decode}
+use Rattle.laws.proofs.Arrays.{each-start}
 use Rattle.crisp.specs.Crisp.{InCrisp}
 use Rattle.layout.specs.Tables.{sums, inputCount}
 use Rattle.degrees.specs.Tables.{numbers, Low}
 use Rattle.fuzzification.specs.Filled.{filled, figures}
-use Rattle.fuzzification.proofs.Fill.{each-start, filled-sets}
+use Rattle.fuzzification.proofs.Fill.{filled-sets}
 use Rattle.fuzzification.proofs.Entries.{input-limit, accepted-terms, sums-last}
 use Rattle.fuzzification.proofs.Degrees.{length-degrees, input-more}
 use Rattle.fuzzification.proofs.term_degrees.Statement.{statement}

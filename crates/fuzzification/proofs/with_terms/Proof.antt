@@ -11,8 +11,9 @@ use Rattle.model.specs.Degrees.{termDegree}
 use Rattle.model.specs.Image.{wordAt, tab, termAt}
 use Rattle.model.specs.WellFormed.{termOk}
 use Rattle.laws.proofs.Lists.{all-at}
+use Rattle.laws.proofs.Arrays.{each-set, map-set}
 use Rattle.degrees.specs.Tables.{numbers, Low}
-use Rattle.fuzzification.proofs.Fill.{map-set, one-more, each-set}
+use Rattle.fuzzification.proofs.Fill.{one-more}
 use Rattle.fuzzification.proofs.Degrees.{degreesAt, length-at, term-more}
 use Rattle.fuzzification.proofs.with_terms.Statement.{statement}
 use Rattle.fuzzification.proofs.with_terms.Tie as tie

@@ -2,6 +2,7 @@ use mathlib.Core.Path.{sym, _∙_}
 use mathlib.Core.Bool.{true, false}
 use borrow.Author.Needs.{needs}
 use borrow.Author.Tests.{not-true, not-false}
+use Rattle.laws.proofs.Signed.{negated}
 use Rattle.numerals.proofs.Values as values
 use Rattle.numerals.proofs.crisp.Statement.{statement}
 use Rattle.numerals.proofs.crisp.Tie as tie
@@ -45,7 +46,7 @@ returns-3 c =
     let w = c9 .args .w .now in
     let n = c7 .amount-of in
     values.crisp-is w (n .result .thousandths) (n .ensures .1) (sym (n .ensures .0) ∙ not-false (n .result .fits) (c5 .if1 .left)) (c3 .if2 .left)
-    true (sym (c .before .before .is-negative .ensures) ∙ c .before .if3 .taken) _ (values.minus-is (n .result .thousandths) (c3 .if2 .left))
+    true (sym (c .before .before .is-negative .ensures) ∙ c .before .if3 .taken) _ (negated (n .result .thousandths) (c3 .if2 .left))
 
 returns-4 : tie.Need-returns-4
 returns-4 c =

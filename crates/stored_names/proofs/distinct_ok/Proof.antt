@@ -6,8 +6,9 @@ use borrow.Author.Needs.{needs}
 use borrow.Author.Tests.{not-true, not-false}
 use Rattle.model.specs.Basic.{distinct, same}
 use Rattle.model.specs.Image.{wordAt, tab}
+use Rattle.laws.proofs.Places.{distinct-more, distinct-stop, distinct-end}
 use Rattle.stored_names.specs.Stored.{wordsIn}
-use Rattle.stored_names.proofs.Tables.{entry, distinct-more, distinct-stop, distinct-end}
+use Rattle.stored_names.proofs.Tables.{entry}
 use Rattle.stored_names.proofs.distinct_ok.Statement.{statement}
 use Rattle.stored_names.proofs.distinct_ok.Tie as tie
 

@@ -8,8 +8,8 @@ use lib.Dec.{eqb}
 use lib.ListN.{length, getD, set, length-set}
 use Rattle.model.specs.Basic.{distinct}
 use Rattle.model.specs.Image.{wordAt, tab}
+use Rattle.laws.proofs.Places.{distinct-end}
 use Rattle.stored_rules.specs.Walk.{ruleNumber}
-use Rattle.stored_rules.proofs.Loops.{distinct-end}
 use Rattle.stored_rules.proofs.Numbers.{Marks, marks-none, marks-more, met, unmet}
 use Rattle.stored_rules.proofs.numbers_distinct.Statement.{statement}
 use Rattle.stored_rules.proofs.numbers_distinct.Tie as tie

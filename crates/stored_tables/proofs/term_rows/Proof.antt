@@ -6,9 +6,10 @@ use borrow.Author.Tests.{not-true, not-false}
 use Rattle.model.specs.Image.{wordAt, termAt}
 use Rattle.header.proofs.Laws.{small}
 use Rattle.layout.specs.Tables.{sums, termCount, termNext, termRow}
+use Rattle.layout.proofs.Whole.{term-next}
 use Rattle.laws.proofs.Tests.{clash}
 use Rattle.stored_tables.specs.Tests.{termTest, termRowsTo}
-use Rattle.stored_tables.proofs.RowTests.{term-row, term-next}
+use Rattle.stored_tables.proofs.RowTests.{term-row}
 use Rattle.stored_tables.proofs.Loops.{Rest, Count, rows-start, rows-more, rows-stop, rows-end, count-start, count-more, count-end, seen}
 use Rattle.stored_tables.proofs.term_rows.Statement.{statement}
 use Rattle.stored_tables.proofs.term_rows.Tie as tie

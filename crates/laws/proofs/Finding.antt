@@ -8,11 +8,11 @@ use borrow.Author.Tests.{not-true, le-ltb, lt-ltb}
 use lib.Dec.{ltb}
 use lib.ListN.{length, length-append, length-map, getD, take}
 use lib.Seq.{getD-at, take-at}
-use Rattle.model.specs.Basic.{isEmpty, all, total, gather, distinct, indexOf, update}
+use Rattle.model.specs.Basic.{isEmpty, all, gather, distinct, indexOf, update}
 use Rattle.model.specs.Tokens.{sameName}
 use Rattle.laws.proofs.Tests.{both, and-i, clash}
 use Rattle.laws.proofs.Lists.{all-append, gather-append}
 use Rattle.laws.proofs.Places.{same-eq, same-refl}
 
 pub update-at : {A : Type 0} (g : A → A) (xs : List A) (y : A) (ys : List A) → update g (length xs) (xs ++ (y ∷ ys)) ≡ xs ++ (g y ∷ ys)
 unfolding update
@@ -196,12 +196,6 @@ map-cut {A} {B} g {xs} {n} c =
       split = ap (map g) (c .split) ∙ map-append g (c .before) (c .mid ∷ c .after);
       counted = length-map (c .before) g ∙ c .counted;
     }
-
-pub length-gather : {A B : Type 0} (h : A → List B) (count : A → ℕ) → ((x : A) → length (h x) ≡ count x)
-    → (xs : List A) → length (gather h xs) ≡ total count xs
-unfolding gather total
-length-gather h count e [] = refl
-length-gather h count e (x ∷ xs) = omega (arith, length-append (h x) (gather h xs), e x, length-gather h count e xs)
 
 pub gather-cut : {A B : Type 0} (h : A → List B) {xs : List A} {n m : ℕ} (c : Cut xs n) (k : Cut (h (c .mid)) m) (d : B)
     → getD (gather h xs) (length (gather h (c .before)) + m) d ≡ k .mid

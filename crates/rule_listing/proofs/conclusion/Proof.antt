@@ -1,0 +1,80 @@
+use native.Mathlib.Omega.{arith}
+use Rattle.model.specs.Image.{wordAt}
+use Rattle.listing_writer.proofs.Prepends.{joined}
+use Rattle.rule_listing.proofs.Names.{conclusion-text}
+use borrow.Author.Needs.{needs}
+use Rattle.rule_listing.proofs.conclusion.Statement.{statement}
+use Rattle.rule_listing.proofs.conclusion.Tie as tie
+
+conclusion-row-requires : tie.Need-conclusion-row-requires
+conclusion-row-requires c κs =
+    let s = c .before .before in
+    let hd = s .pre .1 in
+    omega (arith, hd .conclusion-table, hd .fits 15, s .pre .2)
+
+word-requires : tie.Need-word-requires
+word-requires c κs = search needs
+
+add-word : tie.Need-add-word
+add-word c = search needs
+
+word-requires-2 : tie.Need-word-requires-2
+word-requires-2 c κs = search needs
+
+term-row-requires : tie.Need-term-row-requires
+term-row-requires c κs =
+    let hd = c .before .before .before .before .before .before .pre .1 in
+    omega (arith, hd .term-table, hd .fits 11, c .before .word2 .ensures .1)
+
+name-requires : tie.Need-name-requires
+name-requires c κs = search needs
+
+slice-aggregate-puts : tie.Need-slice-aggregate-puts
+slice-aggregate-puts c = search needs
+
+puts-requires : tie.Need-puts-requires
+puts-requires c κs = search needs
+
+output-row-requires : tie.Need-output-row-requires
+output-row-requires c κs =
+    let r = c .before .before .before .before .before .before .before .before .before .before .before .before in
+    let hd = r .before .before .before .before .pre .1 in
+    omega (arith, hd .output-table, hd .fits 10, r .word .ensures .1)
+
+name-requires-2 : tie.Need-name-requires-2
+name-requires-2 c κs = search needs
+
+same-length : tie.Need-same-length
+same-length c = search needs
+
+returns : tie.Need-returns
+returns c =
+    let w3 = c .before .before in
+    let w2 = w3 .before .before .before .before .before in
+    let w1 = w2 .before .before .before .before .before in
+    let t = w1 .before in
+    let r = t .before .before in
+    let o = r .before .before in
+    let s = o .before .before .before in
+    let w = wordAt (s .args .img .now) in
+    let hd = s .pre .1 in
+    let e = conclusion-text w (s .pre .0) (s .args .j) _ _ _ _ _ (s .pre .3) (o .conclusion-row .ensures .0 w hd)
+    (r .before .word .ensures .0) (r .word2 .ensures .0) (w3 .before .output-row .ensures .0 w hd) (t .term-row .ensures .0 w hd) in
+    rw e (joined (joined (w1 .name .ensures) (w2 .puts .ensures)) (w3 .name2 .ensures))
+
+pub conclusion-spec : {M : Type 1} → statement M
+conclusion-spec =
+    tie.close
+    (tie.spec
+    conclusion-row-requires
+    word-requires
+    add-word
+    word-requires-2
+    term-row-requires
+    name-requires
+    slice-aggregate-puts
+    puts-requires
+    output-row-requires
+    name-requires-2
+    same-length
+    returns)

@@ -1,0 +1,63 @@
+use borrow.Author.Tests.{ne-eqb}
+use borrow.Author.Needs.{needs}
+use Rattle.rule_listing.proofs.or_algorithm.Statement.{statement}
+use Rattle.rule_listing.proofs.or_algorithm.Tie as tie
+
+slice-aggregate-puts : tie.Need-slice-aggregate-puts
+slice-aggregate-puts c = search needs
+
+puts-requires : tie.Need-puts-requires
+puts-requires c κs = search needs
+
+slice-aggregate-puts-2 : tie.Need-slice-aggregate-puts-2
+slice-aggregate-puts-2 c = search needs
+
+puts-requires-2 : tie.Need-puts-requires-2
+puts-requires-2 c κs = search needs
+
+slice-aggregate-puts-3 : tie.Need-slice-aggregate-puts-3
+slice-aggregate-puts-3 c = search needs
+
+puts-requires-3 : tie.Need-puts-requires-3
+puts-requires-3 c κs = search needs
+
+same-length : tie.Need-same-length
+same-length c = search needs
+
+returns : tie.Need-returns
+returns c =
+    let w = c .before .before in
+    rw (w .before .before .before .match .keys1) (w .puts .ensures)
+
+same-length-2 : tie.Need-same-length-2
+same-length-2 c = search needs
+
+returns-2 : tie.Need-returns-2
+returns-2 c =
+    let w = c .before .before in
+    rw (w .before .before .before .match .keys2) (w .puts2 .ensures)
+
+same-length-3 : tie.Need-same-length-3
+same-length-3 c = search needs
+
+returns-3 : tie.Need-returns-3
+returns-3 c =
+    let w = c .before .before in
+    let others = w .before .before .before .match .rest in rw (ne-eqb _ 0 (others .0 .1), ne-eqb _ 1 (others .1)) (w .puts3 .ensures)
+
+pub or-algorithm-spec : {M : Type 1} → statement M
+or-algorithm-spec =
+    tie.close
+    (tie.spec
+    slice-aggregate-puts
+    puts-requires
+    slice-aggregate-puts-2
+    puts-requires-2
+    slice-aggregate-puts-3
+    puts-requires-3
+    same-length
+    returns
+    same-length-2
+    returns-2
+    same-length-3
+    returns-3)

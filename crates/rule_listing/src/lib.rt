@@ -1,0 +1,165 @@
+// The rules of a stored block as a listing prints them, and the rule block around them.
+ghost use mathlib.Core.Path.{_≡_};
+ghost use mathlib.Core.Bool.{true};
+ghost use mathlib.Core.List.{map};
+ghost use Prim.Native.Nat.{_<_, _≤_};
+ghost use Rattle.model.specs.Basic.{gather};
+ghost use Rattle.model.specs.WellFormed.{conclusionOk};
+ghost use Rattle.model.specs.Image.{wordAt, decode, ruleAt, conclusionAt, pairOf, accuOf, actOf};
+ghost use Rattle.model.specs.Listing.{commaed, andText, orText, actText, accuText, conclusionText, weightText, ruleLine, ruleBlockText};
+ghost use Rattle.header.specs.Header.{Heads};
+ghost use Rattle.layout.specs.Groups.{Sound};
+ghost use Rattle.listing_writer.specs.Prepends.{Prepends};
+use condition_listing::rule_condition;
+use header::Header;
+use header::conclusion_row;
+use header::output_row;
+use header::rule_row;
+use header::term_row;
+use listing_writer::puts;
+use model::Degree;
+use name_listing::name;
+use words::word;
+
+// Conclusion j, counted over the whole table.
+fn conclusion(out: &mut [u8], k: usize, img: &[u8], h: Header, j: usize) -> usize
+    requires { ⌜ Sound (wordAt (now img)) × Heads (wordAt (now img)) h × (j ≤ 9000000000)
+        × (conclusionOk (decode (wordAt (now img))) (conclusionAt (wordAt (now img)) j) ≡ true) ⌝ }
+    ensures { λ r. ⌜ Prepends k r
+        (conclusionText (decode (wordAt (now (img .entry)))) (conclusionAt (wordAt (now (img .entry))) j))
+        (now (out .entry)) (now (out .exit)) ⌝ }
+{
+    let o = conclusion_row(h, j);
+    let output = word(img, o);
+    let term = word(img, o + header::CONCLUSION_TERM);
+    let a = name(out, k, img, term_row(h, term));
+    let b = puts(out, a, b" IS ");
+    name(out, b, img, output_row(h, output))
+}
+
+// The conclusions of rule i.
+fn conclusions(out: &mut [u8], k: usize, img: &[u8], h: Header, i: usize) -> usize
+    requires { ⌜ Sound (wordAt (now img)) × Heads (wordAt (now img)) h × (i < h .rules) ⌝ }
+    ensures { λ r. ⌜ Prepends k r
+        (commaed (map (conclusionText (decode (wordAt (now (img .entry))))) (ruleAt (wordAt (now (img .entry))) i .conclusions)))
+        (now (out .entry)) (now (out .exit)) ⌝ }
+{
+    let o = rule_row(h, i);
+    let first = word(img, o + header::RULE_CONCLUSION_FIRST);
+    let n = word(img, o + header::RULE_CONCLUSIONS);
+    if n == 0 {
+        return k;
+    }
+    let mut j = n - 1;
+    let mut p = conclusion(out, k, img, h, first + j);
+    while 0 < j {
+        p = puts(out, p, b", ");
+        p = conclusion(out, p, img, h, first + (j - 1));
+        j -= 1;
+    }
+    p
+}
+
+// A weight other than 1.
+fn weight(out: &mut [u8], k: usize, d: Degree) -> usize
+    ensures { λ r. ⌜ Prepends k r (weightText (d .0)) (now (out .entry)) (now (out .exit)) ⌝ }
+{
+    if d.0 as usize == bounds::M {
+        return k;
+    }
+    let a = number_listing::unit(out, k, d);
+    puts(out, a, b" WITH ")
+}
+
+// The line of rule i.
+fn rule(out: &mut [u8], k: usize, img: &[u8], h: Header, i: usize) -> usize
+    requires { ⌜ Sound (wordAt (now img)) × Heads (wordAt (now img)) h × (i < h .rules) ⌝ }
+    ensures { λ r. ⌜ Prepends k r
+        (ruleLine (decode (wordAt (now (img .entry)))) (ruleAt (wordAt (now (img .entry))) i))
+        (now (out .entry)) (now (out .exit)) ⌝ }
+{
+    let o = rule_row(h, i);
+    let number = word(img, o);
+    let a = puts(out, k, b";\n");
+    let b = weight(out, a, Degree(word(img, o + header::RULE_WEIGHT) as u32));
+    let c = conclusions(out, b, img, h, i);
+    let d = puts(out, c, b" THEN ");
+    let e = rule_condition(out, d, img, h, i);
+    let f = puts(out, e, b" : IF ");
+    let g = number_listing::digits(out, f, number);
+    puts(out, g, b"  RULE ")
+}
+
+fn rules(out: &mut [u8], k: usize, img: &[u8], h: Header) -> usize
+    requires { ⌜ Sound (wordAt (now img)) × Heads (wordAt (now img)) h ⌝ }
+    ensures { λ r. ⌜ Prepends k r
+        (gather (ruleLine (decode (wordAt (now (img .entry))))) (decode (wordAt (now (img .entry))) .rules))
+        (now (out .entry)) (now (out .exit)) ⌝ }
+{
+    let mut p = k;
+    let mut i = h.rules;
+    while 0 < i {
+        p = rule(out, p, img, h, i - 1);
+        i -= 1;
+    }
+    p
+}
+
+// The algorithms, by their words in the header.
+fn and_algorithm(out: &mut [u8], k: usize, n: usize) -> usize
+    ensures { λ r. ⌜ Prepends k r (andText (pairOf n)) (now (out .entry)) (now (out .exit)) ⌝ }
+{
+    match n {
+        0 => puts(out, k, b"MIN"),
+        1 => puts(out, k, b"PROD"),
+        _ => puts(out, k, b"BDIF"),
+    }
+}
+
+fn or_algorithm(out: &mut [u8], k: usize, n: usize) -> usize
+    ensures { λ r. ⌜ Prepends k r (orText (pairOf n)) (now (out .entry)) (now (out .exit)) ⌝ }
+{
+    match n {
+        0 => puts(out, k, b"MAX"),
+        1 => puts(out, k, b"ASUM"),
+        _ => puts(out, k, b"BSUM"),
+    }
+}
+
+fn activation(out: &mut [u8], k: usize, n: usize) -> usize
+    ensures { λ r. ⌜ Prepends k r (actText (actOf n)) (now (out .entry)) (now (out .exit)) ⌝ }
+{
+    match n {
+        0 => puts(out, k, b"MIN"),
+        _ => puts(out, k, b"PROD"),
+    }
+}
+
+fn accumulation(out: &mut [u8], k: usize, n: usize) -> usize
+    ensures { λ r. ⌜ Prepends k r (accuText (accuOf n)) (now (out .entry)) (now (out .exit)) ⌝ }
+{
+    match n {
+        0 => puts(out, k, b"MAX"),
+        _ => puts(out, k, b"BSUM"),
+    }
+}
+
+pub fn rule_block(out: &mut [u8], k: usize, img: &[u8], h: Header) -> usize
+    requires { ⌜ Sound (wordAt (now img)) × Heads (wordAt (now img)) h ⌝ }
+    ensures { λ r. ⌜ Prepends k r (ruleBlockText (decode (wordAt (now (img .entry))))) (now (out .entry)) (now (out .exit)) ⌝ }
+{
+    let pair = word(img, header::PAIR);
+    let a = puts(out, k, b"END_RULEBLOCK\n");
+    let b = rules(out, a, img, h);
+    let c = puts(out, b, b";\n");
+    let d = accumulation(out, c, word(img, header::ACCU));
+    let e = puts(out, d, b";\n  ACCU : ");
+    let f = activation(out, e, word(img, header::ACT));
+    let g = puts(out, f, b";\n  ACT : ");
+    let i = or_algorithm(out, g, pair);
+    let j = puts(out, i, b";\n  OR : ");
+    let l = and_algorithm(out, j, pair);
+    let m = puts(out, l, b"\n  AND : ");
+    let n = name(out, m, img, header::RULE_BLOCK_NAME);
+    puts(out, n, b"RULEBLOCK ")
+}
