@@ -13,7 +13,7 @@ use Rattle.model.specs.Image.{loads}
 use Rattle.model.specs.WellFormed.{wellFormed}
 use Rattle.model.specs.Evaluation.{valuesOf, heldOf, starting, freshOf, fresh, recordIn}
 use Rattle.model.specs.declared.Held.{Held}
-use Rattle.laws.proofs.Each.{Each, each-so, each-append}
+use Rattle.laws.proofs.Each.{Each, each-so, each-append, each-always}
 use Rattle.image_laws.proofs.Loads.{loads-iff}
 use Rattle.round_trip.proofs.RoundTrip.{passes-iff}
 use Rattle.model.specs.Calls.{rightCall, ruling, given, inputDegrees, figuresAfter, defined, degreesIn, Made, callOf, resultOf, Link, Trace, recordAfter, acceptedIn, lastFigures, Seen, outputsSeen, seen, CallsHold, Demand3}
@@ -46,10 +46,9 @@ module _ (img : List ℕ) (b : Block) (loaded : loads img ≡ accepted b) (ok : 
         after = r .after ∙ ap (λ (l : List ℤ). heldOf (foldl (lastFigures b) l ms)) (sym (s .last));
       }
 
-  degrees-low : (ms : List Made) → Each (λ m. acceptedIn m ≡ true → Each (λ d. d ≤ M) (degreesIn b (inputDegrees b (callOf m)))) ms
+  degrees-low : (m : Made) → acceptedIn m ≡ true → Each (λ d. d ≤ M) (degreesIn b (inputDegrees b (callOf m)))
   unfolding inputDegrees
-  degrees-low [] = tt
-  degrees-low (m ∷ ms) = (λ e. call-low b ok (given (valuesOf 0 (b .inputs) (callOf m .readings))), degrees-low ms)
+  degrees-low m e = call-low b ok (given (valuesOf 0 (b .inputs) (callOf m .readings)))
 
   fresh-is : recordIn (fresh img) ≡ heldOf (starting b)
   unfolding fresh freshOf
@@ -63,7 +62,7 @@ module _ (img : List ℕ) (b : Block) (loaded : loads img ≡ accepted b) (ok : 
         accepted-right = a .right;
         verdicts = a .verdicts;
         block-degrees = block-low b ok;
-        call-degrees = degrees-low ms;
+        call-degrees = each-always degrees-low ms;
         answers-defined = a .answers;
         marked = each-so (λ (o : Seen) g. g .marked) os (a .good);
         fired-raised = each-so (λ (o : Seen) g. g .fired-raised) os (a .good);

@@ -13,6 +13,7 @@ use lib.IntN.{ℤ, pos, natAbs}
 use lib.ListN.{length, replicate}
 use lib.Signed.{leZ, ltZ, ≤ℤ-refl, ltZ-yes, ltZ-no, clashℤ}
 use Rattle.model.specs.Basic.{if_then_else_, all, isEmpty}
+use Rattle.model.specs.Bounds.{outputLimit}
 use Rattle.model.specs.Block.{Range, Output, Block, outputFirst, inRange}
 use Rattle.model.specs.Image.{tab}
 use Rattle.model.specs.Tokens.{isName, inCrisp}
@@ -192,7 +193,7 @@ fit-held (v ∷ vs) [] n f = absurd f
 fit-held (v ∷ vs) (x ∷ xs) n f = and-i (figureOk (v .range) x) (heldOk vs (xs ++ replicate n (pos 0))) (f .0) (fit-held vs xs n (f .1))
 
 pub held-fits : (vs : List Output) (xs : List ℤ) → Fit vs xs → heldOk vs (figuresOf (heldOf xs)) ≡ true
-held-fits vs xs f = ap (heldOk vs) (figures-back xs) ∙ fit-held vs xs (6 - length xs) f
+held-fits vs xs f = ap (heldOk vs) (figures-back xs) ∙ fit-held vs xs (outputLimit - length xs) f
 
 -- THE STARTING FIGURES
 less-most : (a b : ℤ) → ltZ a b ≡ true → leZ a b ≡ true

@@ -7,6 +7,7 @@ use lib.IntN.{ℤ, pos}
 use lib.ListN.{length, replicate, take}
 use lib.Seq.{take-at}
 use Rattle.model.specs.Basic.{if_then_else_}
+use Rattle.model.specs.Bounds.{outputLimit}
 use Rattle.model.specs.Block.{Block}
 use Rattle.model.specs.Outcome.{Outcome, accepted, refused, andThen}
 use Rattle.model.specs.Refusals.{verdictOf}
@@ -25,7 +26,7 @@ use Rattle.calls.proofs.Low.{outputs-ok}
 module _ (img : List ℕ) (b : Block) (loaded : loads img ≡ accepted b) (xs : List ℤ) (fit : Fit (b .outputs) xs) (c : Call) where
   answers-on-record : answersOf b (figuresOf (heldOf xs)) c ≡ answersOf b xs c
   unfolding answersOf blockAnswers
-  answers-on-record = ap (λ (l : List ℤ). answersOf b l c) (figures-back xs) ∙ past-outputs b _ 0 (b .outputs) xs (replicate (6 - length xs) (pos 0)) fit
+  answers-on-record = ap (λ (l : List ℤ). answersOf b l c) (figures-back xs) ∙ past-outputs b _ 0 (b .outputs) xs (replicate (outputLimit - length xs) (pos 0)) fit
 
   call-is : evaluate img (c .readings) (c .count) (heldOf xs) ≡ outcomeBy b xs c
   call-is =
@@ -51,14 +52,14 @@ module _ (img : List ℕ) (b : Block) (loaded : loads img ≡ accepted b) (ok : 
 
   told-all : Each Good (outputsSeen b (inputDegrees b c) 0 (b .outputs) xs (padded noAnswer gs)) × Fit (b .outputs) (figures gs)
   unfolding answersOf blockAnswers inputDegrees
-  told-all = all-told b (inputDegrees b c) 0 (b .outputs) xs (replicate (6 - length gs) noAnswer) (outputs-ok b ok) fit
+  told-all = all-told b (inputDegrees b c) 0 (b .outputs) xs (replicate (outputLimit - length gs) noAnswer) (outputs-ok b ok) fit
 
   count : length gs ≡ length (b .outputs)
   unfolding answersOf blockAnswers inputDegrees
   count = count-answers b (inputDegrees b c) 0 (b .outputs) xs fit
 
   taken : take (length (b .outputs)) (padded noAnswer gs) ≡ gs
-  taken = ap (λ (n : ℕ). take n (padded noAnswer gs)) (sym count) ∙ take-at gs (replicate (6 - length gs) noAnswer) (length gs) refl
+  taken = ap (λ (n : ℕ). take n (padded noAnswer gs)) (sym count) ∙ take-at gs (replicate (outputLimit - length gs) noAnswer) (length gs) refl
 
   -- by whether the call is right
   abbrev figuresBy : Bool → List ℤ
