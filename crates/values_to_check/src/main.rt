@@ -1,6 +1,7 @@
 // The values to check of document 01: each is evaluated through the public functions and printed on a line with its
-// name. The texts are in data/. A term t there has the points (0, 0), (1000, 1), so that a reading has as many
-// millionths for its degree as it has thousandths, and the sum of heights of a block with one rule is the rule's degree.
+// name. The texts are in data/. A term t there has the points (0, 0), (1000, 1), but in `points`, so that a reading has
+// as many millionths for its degree as it has thousandths; where one rule has one conclusion, the sum of heights is the
+// rule's degree.
 ghost use Prim.Native.Nat.{_≤_, _<_};
 ghost use Rattle.io.specs.Counts.{Counts};
 use model::Answer;
@@ -91,8 +92,8 @@ fn write_fraction(rest: u64, unit: u64)
     }
 }
 
-// What the 53 places of a float, read as a whole number, are to be divided by: 2^52 where it is below 2, and half as much
-// for each power of two more.
+// What the 53 places of a float, read as a whole number, are divided by: 2^52 where it is below 2, and half as much for
+// each power of two more.
 fn unit_of(exponent: u64) -> u64
     ensures { λ r. ⌜ (1 ≤ r) × (r ≤ 4503599627370496) ⌝ }
 {
