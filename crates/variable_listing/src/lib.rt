@@ -5,6 +5,7 @@ ghost use mathlib.Core.Bool.{true};
 ghost use mathlib.Core.List.{map};
 ghost use Prim.Native.Nat.{_≤_, _<_};
 ghost use Rattle.model.specs.Basic.{all, gather};
+ghost use Rattle.model.specs.Bounds.{termLimit, pointLimit};
 ghost use Rattle.model.specs.Image.{wordAt, tab, termAt, singletonAt, inputAt, outputAt, decode, INPUTS};
 ghost use Rattle.model.specs.Listing.{commaed, typeText, inputLine, outputLine, pointText, termLine, fuzzifyText};
 ghost use Rattle.model.specs.Listing.{rangeLine, singletonLine, defaultText, defuzzifyText};
@@ -102,7 +103,7 @@ fn point(out: &mut [u8], k: usize, p: Point) -> usize
 
 // The first n points.
 fn points(out: &mut [u8], k: usize, ps: [Point; bounds::POINTS], n: usize) -> usize
-    requires { ⌜ n ≤ 4 ⌝ }
+    requires { ⌜ n ≤ pointLimit ⌝ }
     ensures { λ r. ⌜ Prepends k r (commaed (map pointText (pointViews ps n))) (now (out .entry)) (now (out .exit)) ⌝ }
 {
     if n == 0 {
@@ -126,7 +127,7 @@ pub fn term_line(
     ps: [Point; bounds::POINTS],
     n: usize,
 ) -> usize
-    requires { ⌜ n ≤ 4 ⌝ }
+    requires { ⌜ n ≤ pointLimit ⌝ }
     ensures { λ r. ⌜ Prepends k r (termLine (record { name = now (name .entry); points = pointViews ps n }))
         (now (out .entry)) (now (out .exit)) ⌝ }
 {
@@ -155,7 +156,7 @@ fn input_term(out: &mut [u8], k: usize, img: &[u8], h: Header, t: usize) -> usiz
 
 // The n terms from the first on.
 fn input_terms(out: &mut [u8], k: usize, img: &[u8], h: Header, first: usize, n: usize) -> usize
-    requires { ⌜ Heads (wordAt (now img)) h × (first ≤ 4294967295) × (n ≤ 7) ⌝ }
+    requires { ⌜ Heads (wordAt (now img)) h × (first ≤ 4294967295) × (n ≤ termLimit) ⌝ }
     requires { ⌜ all termOk (tab (termAt (wordAt (now img))) n first) ≡ true ⌝ }
     ensures { λ r. ⌜ Prepends k r (gather termLine (tab (termAt (wordAt (now (img .entry)))) n first))
         (now (out .entry)) (now (out .exit)) ⌝ }
