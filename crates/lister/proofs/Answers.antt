@@ -6,11 +6,11 @@ use mathlib.Core.Option.{none}
 use Prim.Native.Nat.{ℕ, _-_, _≤_}
 use native.Mathlib.Omega.{arith}
 use lib.ListN.{length, take, drop, replicate}
-use lib.Seq.{drop-append-seam, length-take-le}
+use lib.Seq.{drop-append-seam, length-take-le, take-all}
 use Rattle.model.specs.Block.{Block}
-use Rattle.model.specs.Basic.{same}
-use Rattle.model.specs.Image.{wordAt, image, decode, isImageOf, loads}
-use Rattle.model.specs.Listing.{listing}
+use Rattle.model.specs.Basic.{bytes, gather, same}
+use Rattle.model.specs.Image.{wordAt, image, nameAt, decode, isImageOf, loads, BLOCK-NAME}
+use Rattle.model.specs.Listing.{inputLine, outputLine, fuzzifyText, defuzzifyText, ruleBlockText, listing}
 use Rattle.model.specs.Outcome.{Outcome, accepted, refused, into}
 use Rattle.model.specs.Buffers.{listsInto}
 use Rattle.model.specs.WellFormed.{wellFormed}
@@ -47,3 +47,23 @@ module _ (img : List ℕ) where
           let front = take (length old - length (listing block)) old in
           let long : 31421 - n ≡ length front = omega (arith, counted .0, length-take-le (length old - length (listing block)) old (omega arith)) in
           rw (e .1, long) (drop-append-seam front (listing block))
+
+      -- its end, copied to the front of another buffer
+      pub copied : (out last : List ℕ) →
+          let end = take (31421 - (31421 - n)) (drop (31421 - n) new) in
+          last ≡ take (length end) end ++ drop (length end) out → last ≡ listing block ++ drop n out
+      copied out last h =
+          let s = listing block in
+          let m = 31421 - (31421 - n) in
+          let e : take m (drop (31421 - n) new) ≡ s = ap (take m) at-end ∙ take-all m s (omega (arith, counted)) in
+          h ∙ (λ i. take (length (e i)) (e i) ++ drop (length (e i)) out)
+          ∙ (λ i. take-all (length s) s (omega arith) i ++ drop (sym (counted .0) i) out)
+
+-- by the words that the code reads
+pub block-text : (w : ℕ → ℕ) →
+    let b = decode w in
+    listing b ≡ bytes "FUNCTION_BLOCK " ++ (nameAt w BLOCK-NAME ++ (bytes "\nVAR_INPUT\n" ++ (gather inputLine (b .inputs)
+    ++ (bytes "END_VAR\nVAR_OUTPUT\n" ++ (gather outputLine (b .outputs) ++ (bytes "END_VAR\n" ++ (gather fuzzifyText (b .inputs)
+    ++ (gather defuzzifyText (b .outputs) ++ (ruleBlockText b ++ bytes "END_FUNCTION_BLOCK\n")))))))))
+unfolding listing decode
+block-text w = refl

@@ -27,9 +27,9 @@ fn block(out: &mut [u8], k: usize, img: &[u8], h: Header) -> usize
     let c = variable_listing::defuzzify_parts(out, b, img, h);
     let d = variable_listing::fuzzify_parts(out, c, img, h);
     let e = puts(out, d, b"END_VAR\n");
-    let f = variable_listing::output_declarations(out, e, img, h);
+    let f = variable_listing::output_lines(out, e, img, h);
     let g = puts(out, f, b"END_VAR\nVAR_OUTPUT\n");
-    let i = variable_listing::input_declarations(out, g, img, h);
+    let i = variable_listing::input_lines(out, g, img, h);
     let j = puts(out, i, b"\nVAR_INPUT\n");
     let l = name_listing::name(out, j, img, header::BLOCK_NAME);
     puts(out, l, b"FUNCTION_BLOCK ")
