@@ -30,7 +30,7 @@ use Rattle.image.proofs.Kept.{words-count, conclusions-count, all-kept}
 
 -- HOW LONG the words of a block are
 module _ (b : Block) where
-  length-words : length (words b) ≡ endOf headerSize (counts b) widths
+  pub length-words : length (words b) ≡ endOf headerSize (counts b) widths
   unfolding words endOf
   length-words =
       let g = gather conclusionWords (conclusions b) in

@@ -5,7 +5,7 @@ use Prim.Native.Nat.{ℕ, suc, _+_, _-_, _≤_, _<_}
 use native.Mathlib.Omega.{arith}
 use borrow.Author.Tests.{le-ltb, lt-ltb}
 use lib.ListN.{length, getD, set, drop, take, length-append}
-use lib.Seq.{drop-cons, drop-length, take-suc, take-all, set-at, length-take-le}
+use lib.Seq.{drop-cons, drop-length, drop-append-seam, take-suc, take-all, set-at, length-take-le}
 use Rattle.listing_writer.specs.Prepends.{top, next, setBefore, countAfter, prepended, Prepends}
 
 count-append : (k : ℕ) (xs ys : List ℕ) → countAfter k (xs ++ ys) ≡ countAfter (countAfter k ys) xs
@@ -84,3 +84,24 @@ prepended-is (x ∷ xs) old h m =
 pub stands : (r : ℕ) (xs old new : List ℕ) → length xs ≤ length old → length old ≤ top → Prepends 0 r xs old new
     → (r ≡ length xs) × (new ≡ take (length old - length xs) old ++ xs)
 stands r xs old new h m w = (w .count ∙ count-is xs (omega arith), w .contents ∙ prepended-is xs old h m)
+
+-- ITS END, copied elsewhere: the buffer has m bytes, and the text fits
+module _ (m n : ℕ) (xs old new : List ℕ) (room : length old ≡ m) (few : m ≤ top) (short : length xs ≤ m) (w : Prepends 0 n xs old new) where
+  pub counted : (n ≡ length xs) × (n ≤ m)
+  counted = let e = stands n xs old new (omega arith) (omega arith) w .0 in (e, omega arith)
+
+  at-end : drop (m - n) new ≡ xs
+  at-end =
+      let front = take (length old - length xs) old in
+      let long : m - n ≡ length front = omega (arith, counted .0, length-take-le (length old - length xs) old (omega arith)) in
+      rw (stands n xs old new (omega arith) (omega arith) w .1, long) (drop-append-seam front xs)
+
+  -- to the front of another buffer
+  pub copied : (out last : List ℕ) →
+      let end = take (m - (m - n)) (drop (m - n) new) in
+      last ≡ take (length end) end ++ drop (length end) out → last ≡ xs ++ drop n out
+  copied out last h =
+      let k = m - (m - n) in
+      let e : take k (drop (m - n) new) ≡ xs = ap (take k) at-end ∙ take-all k xs (omega (arith, counted)) in
+      h ∙ (λ i. take (length (e i)) (e i) ++ drop (length (e i)) out)
+      ∙ (λ i. take-all (length xs) xs (omega arith) i ++ drop (sym (counted .0) i) out)

@@ -1,12 +1,14 @@
 use mathlib.Core.Path.{_≡_, refl, sym, _∙_}
 use mathlib.Core.Bool.{true}
-use Prim.Native.Nat.{ℕ, _≤_}
+use Prim.Native.Nat.{_≤_}
+use native.Mathlib.Omega.{arith}
 use borrow.Author.Tests.{not-true, not-false}
 use lib.ListN.{length}
 use Rattle.model.specs.Image.{isImageOf}
 use Rattle.model.specs.Listing.{listing}
 use Rattle.laws.proofs.Buffers.{too-short, stored}
-use Rattle.lister.proofs.Answers.{block, not-listed, listed, counted, copied}
+use Rattle.lister.proofs.Answers.{block, not-listed, listed, short}
+use Rattle.listing_writer.proofs.Prepends.{counted, copied}
 use borrow.Author.Needs.{needs}
 use Rattle.lister.proofs.list.Statement.{statement}
 use Rattle.lister.proofs.list.Tie as tie
@@ -23,7 +25,7 @@ taken c =
 long : (c : tie.After-block) →
     let img = c .before .before .before .before .before .before .before .before .args .img .now in
     (c .block .result ≡ length (listing (block img))) × (c .block .result ≤ 31421)
-long c = counted _ (taken c) _ _ _ (search needs) (c .block .ensures)
+long c = counted 31421 _ _ _ _ (search needs) (omega arith) (short _ (taken c)) (c .block .ensures)
 
 examine-requires : tie.Need-examine-requires
 examine-requires c κs = search needs
@@ -75,7 +77,7 @@ returns-3 c =
     let w = i .before .before in
     let a = w .before .before .before .before .before .before .before .before .args in
     let img = a .img .now in
-    let text = copied img (taken w) _ _ _ (search needs) (w .block .ensures) (a .out .now) _ (copy .copy .ensures .1) in
+    let text = copied 31421 _ _ _ _ (search needs) (omega arith) (short img (taken w)) (w .block .ensures) (a .out .now) _ (copy .copy .ensures .1) in
     rw (listed img (taken w) (length (a .out .now)))
     (stored (listing (block img)) (a .out .now) _ (sym (long w .0)) _ (i .if2 .left) text)
 
