@@ -7,7 +7,7 @@ ghost use lib.ListN.{length};
 ghost use Rattle.model.specs.Outcome.{accepted as acceptedOutcome, bufferAfter};
 ghost use Rattle.model.specs.Refusals.{refusalOf, writtenOf, verdictOf as verdictOutcome};
 ghost use Rattle.model.specs.Image.{loads};
-ghost use Rattle.model.specs.Buffers.{readsInto};
+ghost use Rattle.model.specs.Buffers.{readsInto, listsInto};
 ghost use Rattle.model.specs.Evaluation.{evaluate, figuresOf, fresh, heldOf};
 ghost use Rattle.grillenhelm.specs.Crossing.{outcomeOf, verdictOf, readingOf, markNumber, answerOf};
 ghost use Rattle.grillenhelm.specs.Crossing.{freshIn, evaluationIn, leaving};
@@ -236,6 +236,17 @@ pub extern "C" fn grillenhelm_check(image: &[u8]) -> GrillenhelmOutcome
     verdict(v)
 }
 
+// `lister::list`.
+#[no_mangle]
+pub extern "C" fn grillenhelm_list(image: &[u8], text: &mut [u8]) -> GrillenhelmOutcome
+    ensures { λ r. ⌜ r ≡ outcomeOf length (listsInto (length (now (text .entry))) (now (image .entry))) ⌝ }
+    ensures buffer { λ r. ⌜ now (text .exit)
+        ≡ bufferAfter (now (text .entry)) (listsInto (length (now (text .entry))) (now (image .entry))) ⌝ }
+{
+    let w = lister::list(image, text);
+    written(w)
+}
+
 // `evaluation::fresh_of`.
 #[no_mangle]
 pub extern "C" fn grillenhelm_fresh(image: &[u8]) -> GrillenhelmFresh
@@ -285,7 +296,8 @@ pub extern "C" fn grillenhelm_evaluate_held(
     held: &mut [i32; 6],
 ) -> GrillenhelmReply
     ensures { λ r. ⌜ leaving r (now (held .exit)) ≡ evaluationIn (heldOf (now (held .entry)))
-        (evaluate (now (image .entry)) (map readingOf (readings .at)) (readings .count) (heldOf (now (held .entry)))) ⌝ }
+        (evaluate (now (image .entry)) (map readingOf (readings .at)) (readings .count)
+        (heldOf (now (held .entry)))) ⌝ }
 {
     let figures = *held;
     let e = grillenhelm_evaluate(image, readings, GrillenhelmHeld { figures: figures });
