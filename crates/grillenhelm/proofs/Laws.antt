@@ -1,25 +1,30 @@
--- What is told of an outcome, an array of parts told one by one, and an evaluation that has crossed.
+-- What is told of an outcome, that it can be told back, arrays part by part, and an evaluation that has crossed.
 use mathlib.Core.Path.{_≡_, refl, sym, ap, _∙_}
 use mathlib.Core.Bool.{Bool, true, false}
 use mathlib.Core.List.{List, [], _∷_, _++_, map, append-nil}
 use mathlib.Core.Option.{none, some}
-use Prim.Native.Nat.{ℕ, zero, suc, _+_, _-_}
+use Prim.Native.Nat.{ℕ, suc, _+_, _-_}
 use native.Mathlib.Omega.{arith}
-use lib.IntN.{ℤ, pos}
+use lib.Dec.{eqb}
+use lib.IntN.{ℤ}
 use lib.ListN.{length, getD, replicate}
 use mir.Val.{boolByte}
+use Rattle.model.specs.Basic.{if_then_else_}
 use Rattle.model.specs.Image.{tab}
 use Rattle.model.specs.Outcome.{Outcome, accepted, refused, andThen}
-use Rattle.model.specs.Refusals.{refusalOf, writtenOf, verdictOf as verdictOutcome}
-use Rattle.model.specs.Evaluation.{CallResult, Tells, padded, figuresOf, heldOf}
-use Rattle.model.specs.declared.Crisp.{Crisp}
+use Rattle.model.specs.Refusals.{refusalOf, writtenOf, verdictOf}
+use Rattle.model.specs.Evaluation.{CallResult, Tells, figuresOf, heldOf}
 use Rattle.model.specs.declared.Held.{Held}
 use Rattle.model.specs.declared.Evaluation.{Evaluation}
 use Rattle.model.specs.declared.Refusal.{Refusal}
 use Rattle.model.specs.declared.Refusal.the-variants.{TextTooLong, WrongToken, WrongNumber, WrongName, NotDeclared, TooMany, WrongPosition, Unpaired, PartMissing, BufferTooShort, ImageNotAccepted, WrongCount, WrongHeld, WrongReading}
+use Rattle.model.specs.declared.Mark.{Mark}
+use Rattle.model.specs.declared.Mark.the-variants.{None, Fired, Default, Held as HeldMark}
+use Rattle.model.specs.declared.Written.{Written}
+use Rattle.model.specs.declared.Written.the-variants.{Bytes, Refused}
 use Rattle.refusals.specs.Told.{placeOf}
 use Rattle.laws.proofs.Places.{tab-ext}
-use Rattle.grillenhelm.specs.Crossing.{outcomeOf, verdictOf, answerOf, evaluationIn}
+use Rattle.grillenhelm.specs.Crossing.{outcomeOf, bareOutcome, markNumber, answerOf, evaluationIn}
 use Rattle.grillenhelm.specs.declared.GrillenhelmOutcome.{GrillenhelmOutcome}
 use Rattle.grillenhelm.specs.declared.GrillenhelmEvaluation.{GrillenhelmEvaluation}
 
@@ -54,6 +59,38 @@ told-then g f (accepted a) = refl
 told-then g f (refused n none) = refl
 told-then g f (refused n (some p)) = refl
 
+-- NOTHING IS LOST
+-- the outcome that is told
+abbrev pub outcomeBack : GrillenhelmOutcome → Outcome ℕ
+outcomeBack o =
+    if eqb (o .refusal) 0 then accepted (o .length) else refused (o .refusal) (placeOf (eqb (o .«has_place») 1) (o .place))
+
+pub outcome-back : (w : Written) → outcomeBack (outcomeOf (λ n. n) (writtenOf w)) ≡ writtenOf w
+outcome-back (Bytes n) = refl
+outcome-back (Refused TextTooLong) = refl
+outcome-back (Refused (WrongToken place)) = refl
+outcome-back (Refused (WrongNumber place)) = refl
+outcome-back (Refused (WrongName place)) = refl
+outcome-back (Refused (NotDeclared place)) = refl
+outcome-back (Refused (TooMany place)) = refl
+outcome-back (Refused (WrongPosition place)) = refl
+outcome-back (Refused (Unpaired place)) = refl
+outcome-back (Refused (PartMissing place)) = refl
+outcome-back (Refused (BufferTooShort needed)) = refl
+outcome-back (Refused ImageNotAccepted) = refl
+outcome-back (Refused WrongCount) = refl
+outcome-back (Refused WrongHeld) = refl
+outcome-back (Refused (WrongReading index)) = refl
+
+abbrev pub markBack : ℕ → Mark
+markBack n = if eqb n 0 then None else if eqb n 1 then Fired else if eqb n 2 then Default else HeldMark
+
+pub mark-back : (m : Mark) → markBack (markNumber m) ≡ m
+mark-back None = refl
+mark-back Fired = refl
+mark-back Default = refl
+mark-back HeldMark = refl
+
 -- ARRAYS, part by part
 pub each : {A B : Type 0} (f : A → B) (d : A) (xs : List A) → tab (λ k. f (getD xs k d)) (length xs) 0 ≡ map f xs
 unfolding tab
@@ -87,7 +124,7 @@ whole-record xs long =
 abbrev pub crossed : Evaluation → GrillenhelmEvaluation
 crossed e =
     record {
-      outcome = verdictOf (verdictOutcome (e .verdict));
+      outcome = bareOutcome (verdictOf (e .verdict));
       answers = map answerOf (e .answers);
       held = record { figures = figuresOf (e .held) };
     }
@@ -96,7 +133,7 @@ crossed e =
 pub crossed-tells : (e : Evaluation) (h : Held) (o : Outcome CallResult) → Tells e h o → crossed e ≡ evaluationIn h o
 crossed-tells e h o t =
     λ j. record {
-      outcome = (ap verdictOf (t .verdict) ∙ told-then (λ u. 0) (λ a. tt) o) j;
+      outcome = (ap bareOutcome (t .verdict) ∙ told-then (λ u. 0) (λ a. tt) o) j;
       answers = map answerOf (t .answers j);
       held = record { figures = figuresOf (t .held j) };
     }

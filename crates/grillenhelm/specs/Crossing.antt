@@ -1,7 +1,8 @@
--- A helper: how outcomes, readings, answers and records cross to a host, as numbers. Each contract of this crate says
--- by it what model's own definition gives; `Laws` has that nothing is lost on the way.
+-- A helper: how outcomes, readings, answers and records cross to a host, as numbers. The contracts say by it what
+-- model's definitions give; `Laws` has that nothing is lost (`outcome-back`, `mark-back`), and that it is what the public
+-- functions hand back (`told-then`, `crossed-tells`).
 use mathlib.Core.List.{List, map}
-use mathlib.Core.Option.{Option, none, some}
+use mathlib.Core.Option.{none, some}
 use Prim.Native.Nat.{ℕ}
 use lib.Dec.{eqb}
 use lib.IntN.{ℤ}
@@ -28,8 +29,8 @@ outcomeOf written (refused n none) = record { refusal = n; «has_place» = 0; pl
 outcomeOf written (refused n (some p)) = record { refusal = n; «has_place» = 1; place = p; length = 0 }
 
 -- where nothing is written
-abbrev pub verdictOf : {A : Type 0} → Outcome A → GrillenhelmOutcome
-verdictOf o = outcomeOf (λ a. 0) o
+abbrev pub bareOutcome : {A : Type 0} → Outcome A → GrillenhelmOutcome
+bareOutcome o = outcomeOf (λ a. 0) o
 
 -- 1 REAL, 2 INT; 0 and every unknown kind are no reading, which is refused 14
 abbrev pub readingOf : GrillenhelmReading → Reading
@@ -46,13 +47,13 @@ answerOf a =
     record { mark = markNumber (a .mark); thousandths = a .thousandths .0; sum = a .sum; value = a .value }
 
 abbrev pub freshIn : Outcome Held → GrillenhelmFresh
-freshIn o = record { outcome = verdictOf o; held = record { figures = figuresOf (recordIn o) } }
+freshIn o = record { outcome = bareOutcome o; held = record { figures = figuresOf (recordIn o) } }
 
 -- a call on the record h
 abbrev pub evaluationIn : Held → Outcome CallResult → GrillenhelmEvaluation
 evaluationIn h o =
     record {
-      outcome = verdictOf o;
+      outcome = bareOutcome o;
       answers = map answerOf (answersAfter o);
       held = record { figures = figuresOf (heldAfter h o) };
     }

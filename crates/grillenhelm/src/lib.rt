@@ -2,14 +2,13 @@
 // marks are document 01's numbers. Each function is the public one that it stands for, of any bytes and any values.
 ghost use mathlib.Core.Path.{_≡_};
 ghost use mathlib.Core.List.{map};
-ghost use Prim.Native.Nat.{ℕ};
 ghost use lib.ListN.{length};
-ghost use Rattle.model.specs.Outcome.{accepted as acceptedOutcome, bufferAfter};
-ghost use Rattle.model.specs.Refusals.{refusalOf, writtenOf, verdictOf as verdictOutcome};
+ghost use Rattle.model.specs.Outcome.{accepted, bufferAfter};
+ghost use Rattle.model.specs.Refusals.{refusalOf, writtenOf, verdictOf};
 ghost use Rattle.model.specs.Image.{loads};
 ghost use Rattle.model.specs.Buffers.{readsInto, listsInto};
 ghost use Rattle.model.specs.Evaluation.{evaluate, figuresOf, fresh, heldOf};
-ghost use Rattle.grillenhelm.specs.Crossing.{outcomeOf, verdictOf, readingOf, markNumber, answerOf};
+ghost use Rattle.grillenhelm.specs.Crossing.{outcomeOf, bareOutcome, readingOf, markNumber, answerOf};
 ghost use Rattle.grillenhelm.specs.Crossing.{freshIn, evaluationIn, leaving};
 use model::Answer;
 use model::Crisp;
@@ -78,7 +77,7 @@ pub struct GrillenhelmReply {
 }
 
 fn accepted(length: usize) -> GrillenhelmOutcome
-    ensures { λ r. ⌜ r ≡ outcomeOf (λ n. n) (acceptedOutcome length) ⌝ }
+    ensures { λ r. ⌜ r ≡ outcomeOf (λ n. n) (accepted length) ⌝ }
 {
     GrillenhelmOutcome {
         refusal: 0,
@@ -110,7 +109,7 @@ fn written(w: Written) -> GrillenhelmOutcome
 }
 
 fn verdict(v: Verdict) -> GrillenhelmOutcome
-    ensures { λ r. ⌜ r ≡ verdictOf (verdictOutcome v) ⌝ }
+    ensures { λ r. ⌜ r ≡ bareOutcome (verdictOf v) ⌝ }
 {
     match v {
         Verdict::Accepted => accepted(0),
@@ -230,7 +229,7 @@ pub extern "C" fn grillenhelm_read(text: &[u8], image: &mut [u8]) -> Grillenhelm
 // `load::check`.
 #[no_mangle]
 pub extern "C" fn grillenhelm_check(image: &[u8]) -> GrillenhelmOutcome
-    ensures { λ r. ⌜ r ≡ verdictOf (loads (now (image .entry))) ⌝ }
+    ensures { λ r. ⌜ r ≡ bareOutcome (loads (now (image .entry))) ⌝ }
 {
     let v = load::check(image);
     verdict(v)

@@ -1,7 +1,7 @@
 use borrow.Author.Needs.{needs}
 use mathlib.Core.Path.{_≡_, refl, sym, ap, _∙_}
 use mathlib.Core.List.{List, _++_}
-use Prim.Native.Nat.{ℕ, _-_, _≤_}
+use Prim.Native.Nat.{_-_, _≤_}
 use native.Mathlib.Omega.{arith}
 use lib.ListN.{length, getD, set, replicate, length-map}
 use Rattle.model.specs.Image.{tab}
@@ -11,7 +11,6 @@ use lib.IntN.{ℤ, pos}
 use mir.Syntax.{w32}
 use mir.Val.{toZ, ofZ}
 use mir.ValLaws.{toZ-ofZ}
-use Rattle.model.specs.declared.Crisp.{Crisp}
 use Rattle.grillenhelm.proofs.figures_of.Statement.{statement}
 use Rattle.grillenhelm.proofs.figures_of.Tie as tie
 use Rattle.grillenhelm.proofs.figures_of.Reads as reads

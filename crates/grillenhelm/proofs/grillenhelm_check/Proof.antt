@@ -1,6 +1,6 @@
 use mathlib.Core.Path.{ap, _∙_}
 use Rattle.model.specs.Image.{loads}
-use Rattle.grillenhelm.specs.Crossing.{verdictOf}
+use Rattle.grillenhelm.specs.Crossing.{bareOutcome}
 use Rattle.grillenhelm.proofs.Laws.{told-then}
 use borrow.Author.Needs.{needs}
 use Rattle.grillenhelm.proofs.grillenhelm_check.Statement.{statement}
@@ -19,7 +19,7 @@ verdict-requires c κs = search needs
 returns : tie.Need-returns
 returns c =
     let o = loads (c .before .before .before .args .image .now) in
-    c .verdict .ensures ∙ ap verdictOf (c .before .check .ensures) ∙ told-then (λ u. 0) (λ b. tt) o
+    c .verdict .ensures ∙ ap bareOutcome (c .before .check .ensures) ∙ told-then (λ u. 0) (λ b. tt) o
 
 pub grillenhelm-check-spec : {M : Type 1} → statement M
 grillenhelm-check-spec = tie.close (tie.spec check-requires verdict-requires returns)

@@ -1,6 +1,6 @@
 use mathlib.Core.Path.{ap, _∙_}
 use Rattle.model.specs.Evaluation.{figuresOf, fresh}
-use Rattle.grillenhelm.specs.Crossing.{verdictOf}
+use Rattle.grillenhelm.specs.Crossing.{bareOutcome}
 use Rattle.grillenhelm.proofs.Laws.{told-then}
 use borrow.Author.Needs.{needs}
 use Rattle.grillenhelm.proofs.grillenhelm_fresh.Statement.{statement}
@@ -25,7 +25,7 @@ returns c =
     let f = c .before .before .before in
     let o = fresh (f .before .before .args .image .now) in
     λ j. record {
-      outcome = (c .verdict .ensures ∙ ap verdictOf (f .fresh-of .ensures .0) ∙ told-then (λ u. 0) (λ h. tt) o) j;
+      outcome = (c .verdict .ensures ∙ ap bareOutcome (f .fresh-of .ensures .0) ∙ told-then (λ u. 0) (λ h. tt) o) j;
       held = record { figures = (c .before .figures-of .ensures ∙ ap figuresOf (f .fresh-of .ensures .1)) j };
     }
 

@@ -1,7 +1,7 @@
-use mathlib.Core.Path.{_≡_, sym, ap, _∙_}
-use Rattle.model.specs.Refusals.{verdictOf as verdictOutcome}
+use mathlib.Core.Path.{sym, ap, _∙_}
+use Rattle.model.specs.Refusals.{verdictOf}
 use Rattle.model.specs.declared.Verdict.{Verdict}
-use Rattle.grillenhelm.specs.Crossing.{verdictOf}
+use Rattle.grillenhelm.specs.Crossing.{bareOutcome}
 use Rattle.grillenhelm.proofs.Laws.{any-refusal}
 use borrow.Author.Needs.{needs}
 use Rattle.grillenhelm.proofs.verdict.Statement.{statement}
@@ -25,12 +25,12 @@ refused-requires c κs = search needs
 
 returns : tie.Need-returns
 returns c =
-    c .accepted .ensures ∙ ap (λ (v : Verdict). verdictOf (verdictOutcome v)) (sym (c .before .enum-told .given .1))
+    c .accepted .ensures ∙ ap (λ (v : Verdict). bareOutcome (verdictOf v)) (sym (c .before .enum-told .given .1))
 
 returns-2 : tie.Need-returns-2
 returns-2 c =
     let v = c .before .before .v in
-    c .refused .ensures ∙ any-refusal (λ n. n) (λ a. 0) (v .given .0 .0) ∙ ap (λ (v : Verdict). verdictOf (verdictOutcome v)) (sym (v .given .1))
+    c .refused .ensures ∙ any-refusal (λ n. n) (λ a. 0) (v .given .0 .0) ∙ ap (λ (v : Verdict). bareOutcome (verdictOf v)) (sym (v .given .1))
 
 pub verdict-spec : {M : Type 1} → statement M
 verdict-spec =

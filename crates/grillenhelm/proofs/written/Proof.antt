@@ -1,4 +1,4 @@
-use mathlib.Core.Path.{_≡_, sym, ap, _∙_}
+use mathlib.Core.Path.{sym, ap, _∙_}
 use Rattle.model.specs.Refusals.{writtenOf}
 use Rattle.model.specs.declared.Written.{Written}
 use Rattle.grillenhelm.specs.Crossing.{outcomeOf}
