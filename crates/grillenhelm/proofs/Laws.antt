@@ -1,31 +1,40 @@
--- What is told of an outcome, that it can be told back, arrays part by part, and an evaluation that has crossed.
+-- What is told of an outcome, an unknown kind of reading, what can be told back, arrays part by part, and an evaluation
+-- that has crossed.
 use mathlib.Core.Path.{_≡_, refl, sym, ap, _∙_}
 use mathlib.Core.Bool.{Bool, true, false}
 use mathlib.Core.List.{List, [], _∷_, _++_, map, append-nil}
-use mathlib.Core.Option.{none, some}
+use mathlib.Core.Option.{Option, none, some}
 use Prim.Native.Nat.{ℕ, suc, _+_, _-_}
 use native.Mathlib.Omega.{arith}
+use borrow.Author.Tests.{ne-eqb}
 use lib.Dec.{eqb}
 use lib.IntN.{ℤ}
 use lib.ListN.{length, getD, replicate}
 use mir.Val.{boolByte}
 use Rattle.model.specs.Basic.{if_then_else_}
+use Rattle.model.specs.Block.{Input}
 use Rattle.model.specs.Image.{tab}
 use Rattle.model.specs.Outcome.{Outcome, accepted, refused, andThen}
 use Rattle.model.specs.Refusals.{refusalOf, writtenOf, verdictOf}
-use Rattle.model.specs.Evaluation.{CallResult, Tells, figuresOf, heldOf}
+use Rattle.model.specs.Readings.{taken, valueIn}
+use Rattle.model.specs.Evaluation.{CallResult, Tells, figuresOf, heldOf, valuesOf}
 use Rattle.model.specs.declared.Held.{Held}
 use Rattle.model.specs.declared.Evaluation.{Evaluation}
 use Rattle.model.specs.declared.Refusal.{Refusal}
 use Rattle.model.specs.declared.Refusal.the-variants.{TextTooLong, WrongToken, WrongNumber, WrongName, NotDeclared, TooMany, WrongPosition, Unpaired, PartMissing, BufferTooShort, ImageNotAccepted, WrongCount, WrongHeld, WrongReading}
+use Rattle.model.specs.declared.InputType.{InputType}
+use Rattle.model.specs.declared.InputType.the-variants.{Real as real, Int as int}
 use Rattle.model.specs.declared.Mark.{Mark}
 use Rattle.model.specs.declared.Mark.the-variants.{None, Fired, Default, Held as HeldMark}
+use Rattle.model.specs.declared.Reading.{Reading}
+use Rattle.model.specs.declared.Reading.the-variants.{Absent}
 use Rattle.model.specs.declared.Written.{Written}
 use Rattle.model.specs.declared.Written.the-variants.{Bytes, Refused}
 use Rattle.refusals.specs.Told.{placeOf}
 use Rattle.laws.proofs.Places.{tab-ext}
-use Rattle.grillenhelm.specs.Crossing.{outcomeOf, bareOutcome, markNumber, answerOf, evaluationIn}
+use Rattle.grillenhelm.specs.Crossing.{outcomeOf, bareOutcome, readingOf, markNumber, answerOf, evaluationIn}
 use Rattle.grillenhelm.specs.declared.GrillenhelmOutcome.{GrillenhelmOutcome}
+use Rattle.grillenhelm.specs.declared.GrillenhelmReading.{GrillenhelmReading}
 use Rattle.grillenhelm.specs.declared.GrillenhelmEvaluation.{GrillenhelmEvaluation}
 
 -- OUTCOMES
@@ -58,6 +67,24 @@ pub told-then : {A B : Type 0} (g : B → ℕ) (f : A → B) (o : Outcome A) →
 told-then g f (accepted a) = refl
 told-then g f (refused n none) = refl
 told-then g f (refused n (some p)) = refl
+
+-- AN UNKNOWN KIND OF READING
+pub unknown-absent : (r : GrillenhelmReading) → (r .kind ≡ 1 → ⊥) → (r .kind ≡ 2 → ⊥) → readingOf r ≡ Absent
+unknown-absent r one two = rw (ne-eqb (r .kind) 1 one, ne-eqb (r .kind) 2 two) refl
+
+absent-none : (t : InputType) → valueIn (taken t Absent) ≡ none
+unfolding taken
+absent-none real = refl
+absent-none int = refl
+
+-- it is refused 14 at its index, where no reading before it is refused
+pub unknown-refused : (i : ℕ) (v : Input) (vs : List Input) (r : GrillenhelmReading) (rs : List Reading)
+    → (r .kind ≡ 1 → ⊥) → (r .kind ≡ 2 → ⊥) → valuesOf i (v ∷ vs) (readingOf r ∷ rs) ≡ refused 14 (some i)
+unfolding valuesOf
+unknown-refused i v vs r rs one two =
+    ap (λ (x : Reading). valuesOf i (v ∷ vs) (x ∷ rs)) (unknown-absent r one two)
+    ∙ ap (λ (o : Option ℤ). elim o [ none ↦ refused 14 (some i) | some x ↦ andThen (valuesOf (suc i) vs rs) (λ xs. accepted (x ∷ xs)) ])
+    (absent-none (v .type))
 
 -- NOTHING IS LOST
 -- the outcome that is told

@@ -32,7 +32,7 @@ outcomeOf written (refused n (some p)) = record { refusal = n; «has_place» = 1
 abbrev pub bareOutcome : {A : Type 0} → Outcome A → GrillenhelmOutcome
 bareOutcome o = outcomeOf (λ a. 0) o
 
--- 1 REAL, 2 INT; 0 and every unknown kind are no reading, which is refused 14
+-- 1 REAL, 2 INT; 0 and every unknown kind are no reading: refused 14 at its index (`Laws.unknown-refused`)
 abbrev pub readingOf : GrillenhelmReading → Reading
 readingOf r = if eqb (r .kind) 1 then Real (r .real) else if eqb (r .kind) 2 then Int (r .whole) else Absent
 
