@@ -1,0 +1,38 @@
+use mathlib.Core.Path.{sym, ap, _∙_}
+use Rattle.model.specs.Refusals.{verdictOf}
+use Rattle.model.specs.declared.Verdict.{Verdict}
+use Rattle.grillenhelm.specs.Crossing.{bareOutcome}
+use Rattle.grillenhelm.proofs.Laws.{any-refusal}
+use borrow.Author.Needs.{needs}
+use Rattle.grillenhelm.proofs.verdict.Statement.{statement}
+use Rattle.grillenhelm.proofs.verdict.Tie as tie
+use Rattle.grillenhelm.proofs.verdict.Reads as reads
+use Rattle.grillenhelm.proofs.verdict.Lts as lts
+use Rattle.grillenhelm.proofs.accepted.Reads as accepted-reads
+use Rattle.grillenhelm.proofs.refused.Reads as refused-reads
+
+enum-told : tie.Need-enum-told
+enum-told c = search needs
+
+accepted-requires : tie.Need-accepted-requires
+accepted-requires c κs = search needs
+
+enum-known-v : tie.Need-enum-known-v
+enum-known-v c = search needs
+
+refused-requires : tie.Need-refused-requires
+refused-requires c κs = search needs
+
+returns : tie.Need-returns
+returns c =
+    c .accepted .ensures ∙ ap (λ (v : Verdict). bareOutcome (verdictOf v)) (sym (c .before .enum-told .given .1))
+
+returns-2 : tie.Need-returns-2
+returns-2 c =
+    let v = c .before .before .v in
+    c .refused .ensures ∙ any-refusal (λ n. n) (λ a. 0) (v .given .0 .0) ∙ ap (λ (v : Verdict). bareOutcome (verdictOf v)) (sym (v .given .1))
+
+pub verdict-spec : {M : Type 1} → statement M
+verdict-spec =
+    tie.close
+    (tie.spec enum-told accepted-requires enum-known-v refused-requires returns returns-2)
