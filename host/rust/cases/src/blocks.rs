@@ -364,7 +364,7 @@ pub fn strain(random: &mut Random, block: &mut Block) {
     let input = random.below(block.inputs.len());
     let output = random.below(block.outputs.len());
     let rule = random.below(block.rules.len());
-    match random.below(31) {
+    match random.below(36) {
         0 => more_inputs(random, block),
         1 => more_outputs(random, block),
         2 => {
@@ -386,7 +386,7 @@ pub fn strain(random: &mut Random, block: &mut Block) {
             let open = random.size(7, 10);
             block.rules[rule].condition = deepest(random, &block.inputs, open);
         }
-        9 => *any_name(random, block) = odd_name(random),
+        9 | 30..=33 => *any_name(random, block) = odd_name(random),
         10 => {
             let other = any_name(random, block).clone();
             *any_name(random, block) = other;
@@ -457,11 +457,11 @@ fn near_ends(random: &mut Random, (min, max): (i64, i64)) -> i64 {
 }
 
 fn odd_name(random: &mut Random) -> String {
-    match random.below(5) {
+    match random.below(6) {
         0 => word(random, 17),
-        1 => random.pick(&KEYWORDS).to_string(),
-        2 => random.pick(&ODD_NAMES).to_string(),
-        3 => random
+        1 | 2 => random.pick(&KEYWORDS).to_string(),
+        3 => random.pick(&ODD_NAMES).to_string(),
+        4 => random
             .pick(&["_", "a_", "a__b", "__", "1a", "a-b", "", "abcdefghijklmnop_", "END_FUNCTION_BLOC"])
             .to_string(),
         _ => {

@@ -102,7 +102,12 @@ fn real(random: &mut Random, block: &Block, input: usize) -> f32 {
         3 | 4 => (2 * random.between(-200_000, 200_000) + 1) as f32 / 16.0,
         // Small ones, where a float is finer than a thousandth.
         5 => random.between(-100_000, 100_000) as f32 / 1024.0 / 1024.0,
-        6 => (random.between(-20_000, 20_000) as f32 + 0.5) / 1000.0,
+        // Next to halves that no float hits, the smallest ones too.
+        6 => {
+            let most = *random.pick(&[1, 20, 20_000]);
+            let half = (random.between(-most, most) as f32 + 0.5) / 1000.0;
+            f32::from_bits(half.to_bits().wrapping_add_signed(random.between(-1, 1) as i32))
+        }
         7 => crisp(random, -1_000_000_000, 1_000_000_000) as f32 / 1000.0,
         _ => {
             let near = (near_points(random, block, input) as f64 / 1000.0) as f32;

@@ -1,11 +1,11 @@
 //! Stored images: of blocks that keep or break a rule, and damaged ones.
 use crate::block::{Block, WIDTHS};
-use crate::blocks::{block, strain};
+use crate::blocks::{block, strain, KEYWORDS};
 use crate::random::Random;
 
 pub fn image(random: &mut Random) -> Vec<u8> {
     let mut subject = block(random);
-    let kind = random.below(10);
+    let kind = random.below(12);
     if (4..=6).contains(&kind) {
         for _ in 0..random.size(1, 2) {
             strain(random, &mut subject);
@@ -22,7 +22,8 @@ pub fn image(random: &mut Random) -> Vec<u8> {
         4 | 5 => {}
         7 => damage_rows(random, &mut image),
         8 => resize(random, &mut image),
-        _ => damage_condition(random, &mut image, &subject),
+        9 => damage_condition(random, &mut image, &subject),
+        _ => damage_name(random, &mut image),
     }
     image
 }
@@ -59,6 +60,40 @@ pub fn damage_word(random: &mut Random, image: &mut [u8]) {
         _ => (old as u32 & !(0xff << (8 * random.below(4)))) as i32,
     };
     set_word(image, at, new);
+}
+
+/// The first byte of some name.
+fn any_name(random: &mut Random, image: &[u8]) -> usize {
+    let at = match random.below(5) {
+        0 => *random.pick(&[20, 24]),
+        kind => {
+            let (first, width, rows) = table(image, kind.min(3) - 1);
+            first + width * random.below(rows)
+        }
+    };
+    4 * at
+}
+
+fn damage_name(random: &mut Random, image: &mut [u8]) {
+    let at = any_name(random, image);
+    let other = any_name(random, image);
+    let length = image[at..at + 16].iter().position(|&byte| byte == 0).unwrap_or(16);
+    let last = at + length.max(1) - 1;
+    match random.below(8) {
+        0 => image[at] = *random.pick(b"0a_Z\x00"),
+        1 => image[last] = *random.pick(b"_09zZ\x00 \x80"),
+        2 => image[at + random.below(16)] = *random.pick(b"_09az-.\x00 \xe4"),
+        3 => image[at..at + 16].fill(0),
+        4 => {
+            let keyword = random.pick(&KEYWORDS).as_bytes();
+            let length = keyword.len().min(16);
+            image[at..at + 16].fill(0);
+            image[at..at + length].copy_from_slice(&keyword[..length]);
+        }
+        5 => image[at + random.size(length.min(15), 15)] = *random.pick(b"_a0 "),
+        6 => image[at + 8..at + 16].fill(b'x'),
+        _ => image.copy_within(other..other + 16, at),
+    }
 }
 
 /// Rows swapped, doubled or taken out, the header set right or not.

@@ -143,6 +143,40 @@ fn swap_alike(random: &mut Random, tokens: &mut Tokens, at: usize) {
     tokens.swap(at, other);
 }
 
+/// A number is written in a form that is wrong, or just right.
+fn damage_number(random: &mut Random, tokens: &mut Tokens, at: usize) {
+    // Rule numbers are few among the numbers, so they get a share of their own.
+    let of_rule = random.once_in(3);
+    let fits = |&at: &usize| alike(&tokens[at]) == Alike::Number && (!of_rule || at > 0 && tokens[at - 1] == b"RULE");
+    let Some(at) = (at..tokens.len()).chain(0..at).find(fits) else { return };
+    let token = &mut tokens[at];
+    let digits = token.iter().position(u8::is_ascii_digit).unwrap_or(0);
+    let whole = token[digits..].iter().take_while(|byte| byte.is_ascii_digit()).count();
+    match random.below(8) {
+        0 => token.splice(digits..digits, vec![b'0'; random.size(7, 8).saturating_sub(whole)]).for_each(drop),
+        1 => {
+            token.truncate(digits + whole);
+            token.extend(*random.pick(&[&b".0000"[..], b".000", b".0001", b".001", b".", b"..", b".5.5", b".-1"]));
+        }
+        2 => token.insert(0, *random.pick(b"+-")),
+        3 => token.insert(digits, b' '),
+        4 => token.push(*random.pick(b"0123456789")),
+        5 => token.extend(*random.pick(&[&b"E3"[..], b"_0", b"x", b"#1", b"%"])),
+        6 => {
+            *token = random
+                .pick(&["1000000", "1000000.001", "-1000000", "-1000000.001", "65535", "65536"])
+                .as_bytes()
+                .to_vec()
+        }
+        _ => {
+            *token = random
+                .pick(&["1", "1.000", "1.001", "0", "-0", "-0.001", "+1", "9999999.999", "0.999"])
+                .as_bytes()
+                .to_vec()
+        }
+    }
+}
+
 /// A FUZZIFY or DEFUZZIFY part is written twice, moved or left out.
 fn damage_part(random: &mut Random, tokens: &mut Tokens) {
     let (start, end): (&[u8], &[u8]) = match random.below(2) {
@@ -165,7 +199,8 @@ fn damage_part(random: &mut Random, tokens: &mut Tokens) {
 fn damage_tokens(random: &mut Random, tokens: &mut Tokens) {
     let at = random.below(tokens.len());
     let other = random.below(tokens.len());
-    match random.below(12) {
+    match random.below(14) {
+        12 | 13 => damage_number(random, tokens, at),
         8 | 9 => like_for_like(random, tokens, at),
         10 => damage_part(random, tokens),
         11 => swap_alike(random, tokens, at),

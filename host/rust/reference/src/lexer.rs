@@ -137,12 +137,16 @@ impl<'a> Lexer<'a> {
         }
     }
 
+    /// Passes the bytes from here on that are of a kind.
+    fn run(&mut self, is: impl Fn(u8) -> bool) -> &'a [u8] {
+        let rest = &self.text[self.at..];
+        let length = rest.iter().position(|&byte| !is(byte)).unwrap_or(rest.len());
+        self.at += length;
+        &rest[..length]
+    }
+
     fn digits(&mut self) -> &'a [u8] {
-        let start = self.at;
-        while self.byte(self.at).is_ascii_digit() {
-            self.at += 1;
-        }
-        &self.text[start..self.at]
+        self.run(|byte| byte.is_ascii_digit())
     }
 
     fn number(&mut self) -> Kind {
@@ -173,11 +177,7 @@ impl<'a> Lexer<'a> {
     }
 
     fn word(&mut self) -> Kind {
-        let start = self.at;
-        while is_word_byte(self.byte(self.at)) {
-            self.at += 1;
-        }
-        let word = &self.text[start..self.at];
+        let word = self.run(is_word_byte);
         if let Some(key) = keyword(word) {
             return Kind::Key(key);
         }
