@@ -430,7 +430,7 @@ pub fn strain(random: &mut Random, block: &mut Block) {
         22 => block.outputs[output].terms.clear(),
         23 => block.rules.clear(),
         24 => block.rules[rule].conclusions.clear(),
-        25 => block.or_pair = random.below(3),
+        25 | 34 => block.or_pair = random.below(3),
         26 => {
             let name = name(random, &variable_names(block));
             block.inputs.push(Input { name, int: false, terms: Vec::new() });

@@ -3,10 +3,8 @@ use crate::calls::{Call, HeldFrom};
 use crate::{Answer, Case, Evaluated, Held, Implementation, Refusal, Room};
 use std::fmt::Debug;
 
-/// More than any image needs.
-const IMAGE_ROOM: usize = 10_240;
-/// More than any listing needs.
-const LISTING_ROOM: usize = 65_600;
+/// A room for answers that are refused in any.
+const SOME_ROOM: usize = 200;
 
 /// How often each refusal, or 0 for acceptance, was the answer.
 #[derive(Clone, Copy, Default, Debug)]
@@ -16,8 +14,12 @@ pub struct Tally {
     pub calls: [usize; 15],
 }
 
-fn no_room(needed: usize) -> Result<usize, Refusal> {
-    Err(Refusal { number: 10, place: Some(needed) })
+/// The length that a refusal for want of room asks for.
+fn needed(answer: &Result<usize, Refusal>) -> Option<usize> {
+    match answer {
+        Err(Refusal { number: 10, place }) => *place,
+        _ => None,
+    }
 }
 
 fn number<T>(answer: &Result<T, Refusal>) -> usize {
@@ -102,26 +104,24 @@ impl<A: Implementation, B: Implementation> Both<'_, A, B> {
     }
 
     fn text(&self, text: &[u8], room: Room, tally: &mut Tally) -> Result<(), String> {
-        let (answer, buffer) = self.read(text, IMAGE_ROOM)?;
-        tally.texts[number(&answer)] += 1;
-        let needed = answer.unwrap_or(IMAGE_ROOM);
-        let (answer_there, buffer_there) = self.read(text, room.of(needed))?;
-        match answer {
-            Ok(length) if room.of(length) < length => {
-                tally.texts[10] += 1;
-                same("refusal for want of room", &answer_there, &no_room(length))?;
-            }
-            _ => same("answer at another room", &answer_there, &answer)?,
+        let (refusal, _) = self.read(text, 0)?;
+        let Some(length) = needed(&refusal) else {
+            tally.texts[number(&refusal)] += 1;
+            return same("refusal at another room", &self.read(text, SOME_ROOM)?.0, &refusal);
+        };
+        tally.texts[0] += 1;
+        let (answer, image) = self.read(text, length)?;
+        same("length of the image", &answer, &Ok(length))?;
+        let (answer, buffer) = self.read(text, room.of(length))?;
+        if room.of(length) < length {
+            tally.texts[10] += 1;
+            same("refusal for want of room", &answer, &refusal)?;
+        } else {
+            same("length of the image", &answer, &Ok(length))?;
+            holds("another image at another room", buffer[..length] == image)?;
         }
-        if let Ok(length) = answer {
-            let image = &buffer[..length];
-            if answer_there.is_ok() {
-                holds("another image at another room", buffer_there[..length] == *image)?;
-            }
-            self.image(image, room, tally)?;
-            holds("an image that was read does not pass", self.a.check(image).is_ok())?;
-        }
-        Ok(())
+        holds("an image that was read does not pass", self.a.check(&image).is_ok())?;
+        self.image(&image, room, tally)
     }
 
     fn image(&self, image: &[u8], room: Room, tally: &mut Tally) -> Result<(), String> {
@@ -130,23 +130,24 @@ impl<A: Implementation, B: Implementation> Both<'_, A, B> {
         tally.images[number(&accepted)] += 1;
         let (refusal, held) = self.fresh(image)?;
         same("load check and refusal of the fresh record", &accepted.err(), &refusal)?;
-        holds("a fresh record beside a refusal", refusal.is_none() || held == [0; 6])?;
-
-        let (answer, buffer) = self.list(image, LISTING_ROOM)?;
-        same("load check and refusal of the lister", &accepted.err(), &answer.err())?;
-        let Ok(length) = answer else {
-            holds("not refused as 11", refusal == Some(Refusal { number: 11, place: None }))?;
-            return Ok(());
-        };
-        let listing = &buffer[..length];
-        let (answer, _) = self.list(image, room.of(length))?;
+        if refusal.is_some() {
+            same("refusal of an image", &refusal, &Some(Refusal { number: 11, place: None }))?;
+            same("fresh record beside a refusal", &held, &[0; 6])?;
+            return same("refusal of the lister", &self.list(image, SOME_ROOM)?.0.err(), &refusal);
+        }
+        let (no_room, _) = self.list(image, 0)?;
+        let length = needed(&no_room).ok_or(format!("an accepted image is not listed: {no_room:?}"))?;
+        let (answer, listing) = self.list(image, length)?;
+        same("length of the listing", &answer, &Ok(length))?;
+        let (answer, buffer) = self.list(image, room.of(length))?;
         if room.of(length) < length {
             tally.images[10] += 1;
-            same("refusal for want of room", &answer, &no_room(length))?;
+            same("refusal for want of room", &answer, &no_room)?;
         } else {
             same("length of the listing", &answer, &Ok(length))?;
+            holds("another listing at another room", buffer[..length] == listing)?;
         }
-        let (answer, buffer) = self.read(listing, image.len())?;
+        let (answer, buffer) = self.read(&listing, image.len())?;
         same("length of the image of the listing", &answer, &Ok(image.len()))?;
         holds("the listing reads to another image", buffer == image)
     }

@@ -7,12 +7,14 @@ pub mod blocks;
 pub mod calls;
 mod compare;
 pub mod images;
+mod neighbours;
 pub mod random;
 mod run;
 pub mod spelling;
 pub mod texts;
 
 pub use compare::{compare, Tally};
+pub use neighbours::neighbours;
 pub use reference::{Answer, Evaluated, Held, Mark, Refusal};
 pub use run::Run;
 

@@ -1,5 +1,5 @@
 //! A run of many cases, as the environment asks for it.
-use crate::{compare, Case, Implementation, Tally};
+use crate::{compare, neighbours, Case, Implementation, Tally};
 
 /// `GRILLENHELM_SEED` and `GRILLENHELM_CASES` set the seed and the number of cases; `GRILLENHELM_CASE` picks
 /// one case, to replay it.
@@ -23,9 +23,16 @@ impl Run {
         }
     }
 
-    /// Compares two implementations on every case; panics at the first difference, with the case.
+    /// Compares two implementations on the neighbours of one block and on every case, which are counted; panics at the first difference, with the case.
     pub fn compare<A: Implementation, B: Implementation>(&self, a: &A, b: &B) -> Tally {
         let mut tally = Tally::default();
+        if self.only.is_none() {
+            for case in neighbours() {
+                if let Err(difference) = compare(a, b, &case, &mut Tally::default()) {
+                    panic!("{difference}\n{case}");
+                }
+            }
+        }
         let cases = self.only.map_or(0..self.cases, |case| case..case + 1);
         for number in cases {
             let case = Case::new(self.seed, number);

@@ -4,7 +4,7 @@ use crate::blocks::{block, strain, KEYWORDS};
 use crate::random::Random;
 use crate::spelling::{join, tokens, Tokens};
 
-const SYMBOLS: [&str; 22] = [
+pub const SYMBOLS: [&str; 22] = [
     ":", ":=", ";", ",", "(", ")", "..", ".", "=", "+", "-", "*", "(*", "*)", "0", "1", "-1", "+0.5", "00000001", "x",
     "a__b", "1.2345",
 ];
