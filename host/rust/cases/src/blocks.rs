@@ -365,8 +365,8 @@ pub fn strain(random: &mut Random, block: &mut Block) {
     let output = random.below(block.outputs.len());
     let rule = random.below(block.rules.len());
     match random.below(36) {
-        0 => more_inputs(random, block),
-        1 => more_outputs(random, block),
+        0 => fill(random, block, Bound::Inputs),
+        1 => fill(random, block, Bound::Outputs),
         2 => {
             let count = random.size(7, 8);
             more_terms(random, &mut block.inputs[input].terms, count);
@@ -380,8 +380,8 @@ pub fn strain(random: &mut Random, block: &mut Block) {
             any_term(random, block).points = points(random, count);
         }
         5 => more_rules(random, block),
-        6 => more_words(random, block),
-        7 => more_conclusions(random, block),
+        6 => fill(random, block, Bound::Words),
+        7 => fill(random, block, Bound::Conclusions),
         8 => {
             let open = random.size(7, 10);
             block.rules[rule].condition = deepest(random, &block.inputs, open);
@@ -509,6 +509,25 @@ fn variable_names(block: &Block) -> Vec<&str> {
     inputs.chain(block.outputs.iter().map(|output| output.name.as_str())).collect()
 }
 
+/// The bounds that are passed at a name.
+#[derive(Clone, Copy)]
+pub enum Bound {
+    Inputs,
+    Outputs,
+    Words,
+    Conclusions,
+}
+
+/// Brings a count to its bound, or a little past it.
+pub fn fill(random: &mut Random, block: &mut Block, bound: Bound) {
+    match bound {
+        Bound::Inputs => more_inputs(random, block),
+        Bound::Outputs => more_outputs(random, block),
+        Bound::Words => more_words(random, block),
+        Bound::Conclusions => more_conclusions(random, block),
+    }
+}
+
 fn more_inputs(random: &mut Random, block: &mut Block) {
     for _ in block.inputs.len()..random.size(8, 9) {
         let name = name(random, &variable_names(block));
@@ -547,7 +566,6 @@ fn more_rules(random: &mut Random, block: &mut Block) {
     }
 }
 
-/// Brings the condition words to 640 or a few more.
 fn more_words(random: &mut Random, block: &mut Block) {
     let rule = random.below(block.rules.len());
     let others = block.words() - block.rules[rule].condition.words();

@@ -103,7 +103,8 @@ fn damage_rows(random: &mut Random, image: &mut Vec<u8>) {
     if rows == 0 {
         return;
     }
-    let (a, b) = (random.below(rows), random.below(rows));
+    // A row more or less at the end leaves all before it sound.
+    let (a, b) = if random.once_in(2) { (rows - 1, rows - 1) } else { (random.below(rows), random.below(rows)) };
     let bytes = |row: usize| 4 * (first + row * width)..4 * (first + (row + 1) * width);
     let change: i32 = match random.below(4) {
         0 | 1 => {

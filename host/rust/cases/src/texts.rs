@@ -1,6 +1,6 @@
 //! Texts: respelled, cut, damaged, past a bound, random.
 use crate::block::Block;
-use crate::blocks::{block, strain, KEYWORDS};
+use crate::blocks::{block, fill, strain, Bound, KEYWORDS};
 use crate::random::Random;
 use crate::spelling::{join, tokens, Tokens};
 
@@ -17,7 +17,8 @@ pub fn valid(random: &mut Random, block: &Block) -> Vec<u8> {
 
 pub fn text(random: &mut Random) -> Vec<u8> {
     let mut subject = block(random);
-    match random.below(20) {
+    match random.below(21) {
+        20 => at_bound(random, subject),
         0..=3 => valid(random, &subject),
         4 | 5 => {
             let mut text = valid(random, &subject);
@@ -51,6 +52,53 @@ pub fn text(random: &mut Random) -> Vec<u8> {
         18 => long(random, &subject),
         _ => noise(random),
     }
+}
+
+/// A count at its bound or past it, and there a name that may be wrong itself.
+fn at_bound(random: &mut Random, mut subject: Block) -> Vec<u8> {
+    let bound = *random.pick(&[Bound::Inputs, Bound::Outputs, Bound::Words, Bound::Conclusions]);
+    fill(random, &mut subject, bound);
+    let mut tokens = tokens(random, &subject);
+    let (places, most) = match bound {
+        Bound::Inputs => (declared(&tokens, b"VAR_INPUT"), 8),
+        Bound::Outputs => (declared(&tokens, b"VAR_OUTPUT"), 6),
+        Bound::Words => (used(&tokens, b"IF", b"THEN"), 640),
+        Bound::Conclusions => (used(&tokens, b"THEN", b";"), 128),
+    };
+    if let Some(&at) = places.get(most - random.below(2)) {
+        tokens[at] = match random.below(6) {
+            0 => tokens[places[0]].clone(),
+            1 => b"gone".to_vec(),
+            2 => b"seventeen_letters".to_vec(),
+            3 => random.pick(&KEYWORDS).as_bytes().to_vec(),
+            _ => {
+                let other = same_kind(random, &tokens, at);
+                tokens[other].clone()
+            }
+        };
+    }
+    join(random, &tokens)
+}
+
+/// The names declared in a section.
+fn declared(tokens: &Tokens, section: &[u8]) -> Vec<usize> {
+    let start = tokens.iter().position(|token| token == section).unwrap_or(0);
+    let section = (start..tokens.len()).take_while(|&at| tokens[at] != b"END_VAR");
+    section.filter(|&at| alike(&tokens[at]) == Alike::Name).collect()
+}
+
+/// The operators between two tokens, and the variables, which stand before IS.
+fn used(tokens: &Tokens, from: &[u8], to: &[u8]) -> Vec<usize> {
+    let mut inside = false;
+    let mut places = Vec::new();
+    for (at, token) in tokens.iter().enumerate() {
+        inside = token == from || inside && token != to;
+        let before_is = tokens.get(at + 1).is_some_and(|next| next == b"IS");
+        if inside && (before_is || [&b"NOT"[..], b"AND", b"OR"].contains(&&token[..])) {
+            places.push(at);
+        }
+    }
+    places
 }
 
 /// About 65,536 bytes.
