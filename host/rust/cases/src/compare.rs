@@ -34,6 +34,13 @@ fn same<T: PartialEq + Debug>(what: &str, a: &T, b: &T) -> Result<(), String> {
     }
 }
 
+fn same_bytes(what: &str, a: &[u8], b: &[u8]) -> Result<(), String> {
+    match a.iter().zip(b).position(|(a, b)| a != b) {
+        Some(at) => Err(format!("{what}: differ from byte {at} on, {} and {}", a[at], b[at])),
+        None => same(what, &a.len(), &b.len()),
+    }
+}
+
 fn holds(what: &str, is: bool) -> Result<(), String> {
     if is {
         Ok(())
@@ -85,7 +92,7 @@ impl<A: Implementation, B: Implementation> Both<'_, A, B> {
         let a = written(room, |buffer| self.a.read_into(text, buffer))?;
         let b = written(room, |buffer| self.b.read_into(text, buffer))?;
         same("answer of reading", &a.0, &b.0)?;
-        same("image buffer", &a.1, &b.1)?;
+        same_bytes("image buffers", &a.1, &b.1)?;
         Ok(a)
     }
 
@@ -99,7 +106,7 @@ impl<A: Implementation, B: Implementation> Both<'_, A, B> {
         let a = written(room, |buffer| self.a.list_into(image, buffer))?;
         let b = written(room, |buffer| self.b.list_into(image, buffer))?;
         same("answer of listing", &a.0, &b.0)?;
-        holds("listing buffers differ", a.1 == b.1)?;
+        same_bytes("listing buffers", &a.1, &b.1)?;
         Ok(a)
     }
 
@@ -118,7 +125,7 @@ impl<A: Implementation, B: Implementation> Both<'_, A, B> {
             same("refusal for want of room", &answer, &refusal)?;
         } else {
             same("length of the image", &answer, &Ok(length))?;
-            holds("another image at another room", buffer[..length] == image)?;
+            same_bytes("images at two rooms", &buffer[..length], &image)?;
         }
         holds("an image that was read does not pass", self.a.check(&image).is_ok())?;
         self.image(&image, room, tally)
@@ -145,11 +152,11 @@ impl<A: Implementation, B: Implementation> Both<'_, A, B> {
             same("refusal for want of room", &answer, &no_room)?;
         } else {
             same("length of the listing", &answer, &Ok(length))?;
-            holds("another listing at another room", buffer[..length] == listing)?;
+            same_bytes("listings at two rooms", &buffer[..length], &listing)?;
         }
         let (answer, buffer) = self.read(&listing, image.len())?;
         same("length of the image of the listing", &answer, &Ok(image.len()))?;
-        holds("the listing reads to another image", buffer == image)
+        same_bytes("the listing's image and the image", &buffer, image)
     }
 
     fn calls(&self, image: &[u8], calls: &[Call], tally: &mut Tally) -> Result<(), String> {

@@ -43,8 +43,17 @@ fn table(image: &[u8], table: usize) -> (usize, usize, usize) {
 
 pub fn damage_word(random: &mut Random, image: &mut [u8]) {
     let words = image.len() / 4;
-    // The header as often as all the rest.
-    let at = if random.once_in(2) { random.below(28.min(words)) } else { random.below(words) };
+    // The header and each table about as often, however long they are.
+    let at = match random.below(3) {
+        0 => random.below(28.min(words)),
+        1 => random.below(words),
+        _ => {
+            let table = random.below(7);
+            let (first, rows) = (word(image, 9 + table) as usize, word(image, 2 + table) as usize);
+            let within = random.below(WIDTHS[table] * rows.clamp(1, 640));
+            first.wrapping_add(within) % words
+        }
+    };
     let other = random.below(words);
     let old = word(image, at);
     let new = match random.below(10) {
