@@ -355,45 +355,66 @@ pub fn deepest(random: &mut Random, inputs: &[Input], open: usize) -> Condition 
     part
 }
 
-/// Breaks a rule of document 01, or comes close to it. What cannot be broken in this block is left.
+/// Breaks a rule of document 01, or comes close to it. A block that lacks a part stays as it is.
 pub fn strain(random: &mut Random, block: &mut Block) {
     let bare_input = block.inputs.iter().any(|input| input.terms.is_empty());
     if bare_input || block.outputs.iter().any(|output| output.terms.is_empty()) || block.rules.is_empty() {
         return;
     }
-    let input = random.below(block.inputs.len());
-    let output = random.below(block.outputs.len());
-    let rule = random.below(block.rules.len());
-    match random.below(36) {
+    match random.below(5) {
+        0 => strain_counts(random, block),
+        1 => strain_names(random, block),
+        2 => strain_numbers(random, block),
+        3 => strain_rules(random, block),
+        _ => strain_parts(random, block),
+    }
+}
+
+fn strain_counts(random: &mut Random, block: &mut Block) {
+    let count = random.size(7, 8);
+    match random.below(8) {
         0 => fill(random, block, Bound::Inputs),
         1 => fill(random, block, Bound::Outputs),
-        2 => {
-            let count = random.size(7, 8);
+        2 => fill(random, block, Bound::Words),
+        3 => fill(random, block, Bound::Conclusions),
+        4 => more_rules(random, block),
+        5 => {
+            let input = random.below(block.inputs.len());
             more_terms(random, &mut block.inputs[input].terms, count);
         }
-        3 => {
-            let count = random.size(7, 8);
+        6 => {
+            let output = random.below(block.outputs.len());
             more_terms(random, &mut block.outputs[output].terms, count);
         }
-        4 => {
+        _ => {
             let count = *random.pick(&[0, 1, 4, 5, 6]);
             any_term(random, block).points = points(random, count);
         }
-        5 => more_rules(random, block),
-        6 => fill(random, block, Bound::Words),
-        7 => fill(random, block, Bound::Conclusions),
-        8 => {
-            let open = random.size(7, 10);
-            block.rules[rule].condition = deepest(random, &block.inputs, open);
-        }
-        9 | 30..=33 => *any_name(random, block) = odd_name(random),
-        10 => {
+    }
+}
+
+fn strain_names(random: &mut Random, block: &mut Block) {
+    match random.below(6) {
+        0 => {
             let other = any_name(random, block).clone();
             *any_name(random, block) = other;
         }
-        11 | 12 => {
-            let term = any_term(random, block);
-            if let [first, .., last] = &mut term.points[..] {
+        1 => same_names(random, block),
+        2 => {
+            let input = random.below(block.inputs.len());
+            let term = block.inputs[input].terms[0].clone();
+            block.inputs[input].terms.push(term);
+        }
+        _ => *any_name(random, block) = odd_name(random),
+    }
+}
+
+fn strain_numbers(random: &mut Random, block: &mut Block) {
+    let output = random.below(block.outputs.len());
+    let range = block.outputs[output].range.unwrap_or((-CRISP, CRISP));
+    match random.below(7) {
+        0 | 1 => {
+            if let [first, .., last] = &mut any_term(random, block).points[..] {
                 match random.below(3) {
                     0 => last.0 = first.0,
                     1 => std::mem::swap(first, last),
@@ -401,50 +422,63 @@ pub fn strain(random: &mut Random, block: &mut Block) {
                 }
             }
         }
-        13 => {
-            let term = any_term(random, block);
-            if let Some(point) = term.points.last_mut() {
+        2 => {
+            if let Some(point) = any_term(random, block).points.last_mut() {
                 point.1 = *random.pick(&[-1, 1001, 1000, 0, 9999]);
             }
         }
-        14 => {
+        3 => {
             let min = crisp(random, -CRISP, CRISP);
             block.outputs[output].range = Some((min, min + random.between(-1, 1)));
         }
-        15 => {
-            // The ends of RANGE themselves are inside.
-            let range = block.outputs[output].range.unwrap_or((-CRISP, CRISP));
-            let edge = near_ends(random, range);
+        4 => {
             let term = random.below(block.outputs[output].terms.len());
-            block.outputs[output].terms[term].points = vec![(edge, 1000)];
+            block.outputs[output].terms[term].points = vec![(near_ends(random, range), 1000)];
         }
-        16 => {
-            let range = block.outputs[output].range.unwrap_or((-CRISP, CRISP));
-            block.outputs[output].default = Some(near_ends(random, range));
+        5 => block.outputs[output].default = Some(near_ends(random, range)),
+        _ => block.outputs[output].range = Some((outside(random), crisp(random, -CRISP, CRISP))),
+    }
+}
+
+fn strain_rules(random: &mut Random, block: &mut Block) {
+    let rule = random.below(block.rules.len());
+    let first = block.rules[0].number;
+    let rule = &mut block.rules[rule];
+    match random.below(5) {
+        0 => rule.number = *random.pick(&[0, -1, 65_535, 65_536, 9_999_999, 10_000_000]),
+        1 => rule.number = first,
+        2 => rule.weight = *random.pick(&[-1, 1001, 999, 0, 1000, 2000]),
+        3 => rule.condition = deepest(random, &block.inputs, 8),
+        _ => {
+            let open = random.size(7, 10);
+            rule.condition = deepest(random, &block.inputs, open);
         }
-        17 => block.outputs[output].range = Some((outside(random), crisp(random, -CRISP, CRISP))),
-        18 => block.rules[rule].number = *random.pick(&[0, -1, 65_535, 65_536, 9_999_999, 10_000_000]),
-        19 => block.rules[rule].number = block.rules[0].number,
-        20 => block.rules[rule].weight = *random.pick(&[-1, 1001, 999, 0, 1000, 2000]),
-        21 => block.inputs[input].terms.clear(),
-        22 => block.outputs[output].terms.clear(),
-        23 => block.rules.clear(),
-        24 => block.rules[rule].conclusions.clear(),
-        25 | 34 => block.or_pair = random.below(3),
-        26 => {
+    }
+}
+
+/// Parts left out, and algorithms that are no pair.
+fn strain_parts(random: &mut Random, block: &mut Block) {
+    let rule = random.below(block.rules.len());
+    match random.below(8) {
+        0 => {
+            let input = random.below(block.inputs.len());
+            block.inputs[input].terms.clear();
+        }
+        1 => {
+            let output = random.below(block.outputs.len());
+            block.outputs[output].terms.clear();
+        }
+        2 => block.rules.clear(),
+        3 => block.rules[rule].conclusions.clear(),
+        4 => {
             let name = name(random, &variable_names(block));
             block.inputs.push(Input { name, int: false, terms: Vec::new() });
         }
-        27 => {
+        5 => {
             let name = name(random, &variable_names(block));
             block.outputs.push(Output { name, range: None, terms: Vec::new(), default: None });
         }
-        28 => same_names(random, block),
-        29 => {
-            let term = block.inputs[input].terms[0].clone();
-            block.inputs[input].terms.push(term);
-        }
-        _ => block.rules[rule].condition = deepest(random, &block.inputs, 8),
+        _ => block.or_pair = random.below(3),
     }
 }
 
