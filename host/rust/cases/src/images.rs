@@ -65,7 +65,7 @@ pub fn damage_word(random: &mut Random, image: &mut [u8]) {
         5 => old ^ 1 << random.below(32),
         6 => old.wrapping_add(random.between(-20, 20) as i32),
         7 => random.bits() as i32,
-        8 => old.wrapping_add(1000),
+        8 => old.wrapping_add(*random.pick(&[1000, -1000])),
         _ => (old as u32 & !(0xff << (8 * random.below(4)))) as i32,
     };
     set_word(image, at, new);
