@@ -129,45 +129,7 @@ impl Block {
 
     /// The image of the block. A name is cut at 16 bytes.
     pub fn image(&self) -> Vec<u8> {
-        let mut firsts = Vec::new();
-        let mut terms = Vec::new();
-        let sections = self.inputs.iter().map(|i| &i.terms).chain(self.outputs.iter().map(|o| &o.terms));
-        for section in sections {
-            firsts.push(terms.len());
-            terms.extend(section);
-        }
-        let mut tables: [Vec<i64>; 7] = Default::default();
-        for (input, &first) in self.inputs.iter().zip(&firsts) {
-            put_name(&mut tables[0], &input.name);
-            tables[0].extend([input.int as i64, first as i64, input.terms.len() as i64]);
-        }
-        for (output, &first) in self.outputs.iter().zip(&firsts[self.inputs.len()..]) {
-            put_name(&mut tables[1], &output.name);
-            let (min, max) = output.range.unwrap_or((0, 0));
-            tables[1].extend([first as i64, output.terms.len() as i64]);
-            tables[1].extend([output.range.is_some() as i64, min, max]);
-            tables[1].extend([output.default.is_some() as i64, output.default.unwrap_or(0)]);
-        }
-        for term in terms {
-            put_name(&mut tables[2], &term.name);
-            tables[2].extend([tables[3].len() as i64 / 2, term.points.len() as i64]);
-            for &(crisp, degree) in &term.points {
-                tables[3].extend([crisp, 1000 * degree]);
-            }
-        }
-        for rule in &self.rules {
-            let (word, conclusion) = (tables[5].len(), tables[6].len() / 2);
-            rule.condition.postfix(&firsts, &mut tables[5]);
-            for &(output, term) in &rule.conclusions {
-                let first = firsts[self.inputs.len() + output];
-                tables[6].extend([output as i64, (first + term) as i64]);
-            }
-            let words = tables[5].len() - word;
-            let row = [word, words, conclusion, rule.conclusions.len()];
-            tables[4].push(rule.number);
-            tables[4].extend(row.map(|n| n as i64));
-            tables[4].push(1000 * rule.weight);
-        }
+        let tables = self.tables();
         let total = 28 + tables.iter().map(Vec::len).sum::<usize>();
         let mut words = vec![1, total as i64];
         words.extend(tables.iter().zip(WIDTHS).map(|(table, width)| (table.len() / width) as i64));
@@ -181,6 +143,49 @@ impl Block {
         put_name(&mut words, &self.rules_name);
         words.extend(tables.iter().flatten());
         words.iter().flat_map(|&word| (word as i32).to_le_bytes()).collect()
+    }
+
+    fn tables(&self) -> [Vec<i64>; 7] {
+        let mut firsts = Vec::new();
+        let mut tables: [Vec<i64>; 7] = Default::default();
+        let sections = self.inputs.iter().map(|i| &i.terms).chain(self.outputs.iter().map(|o| &o.terms));
+        for section in sections {
+            firsts.push(tables[2].len() / WIDTHS[2]);
+            for term in section {
+                put_name(&mut tables[2], &term.name);
+                let first = tables[3].len() / WIDTHS[3];
+                tables[2].extend([first as i64, term.points.len() as i64]);
+                tables[3].extend(term.points.iter().flat_map(|&(crisp, degree)| [crisp, 1000 * degree]));
+            }
+        }
+        let (input_firsts, output_firsts) = firsts.split_at(self.inputs.len());
+        for (input, &first) in self.inputs.iter().zip(input_firsts) {
+            put_name(&mut tables[0], &input.name);
+            tables[0].extend([input.int as i64, first as i64, input.terms.len() as i64]);
+        }
+        for (output, &first) in self.outputs.iter().zip(output_firsts) {
+            put_name(&mut tables[1], &output.name);
+            let (min, max) = output.range.unwrap_or((0, 0));
+            tables[1].extend([first as i64, output.terms.len() as i64]);
+            tables[1].extend([output.range.is_some() as i64, min, max]);
+            tables[1].extend([output.default.is_some() as i64, output.default.unwrap_or(0)]);
+        }
+        for rule in &self.rules {
+            Self::put_rule(rule, input_firsts, output_firsts, &mut tables);
+        }
+        tables
+    }
+
+    fn put_rule(rule: &Rule, input_firsts: &[usize], output_firsts: &[usize], tables: &mut [Vec<i64>; 7]) {
+        let (word, conclusion) = (tables[5].len(), tables[6].len() / WIDTHS[6]);
+        rule.condition.postfix(input_firsts, &mut tables[5]);
+        for &(output, term) in &rule.conclusions {
+            tables[6].extend([output as i64, (output_firsts[output] + term) as i64]);
+        }
+        let words = tables[5].len() - word;
+        tables[4].push(rule.number);
+        tables[4].extend([word, words, conclusion, rule.conclusions.len()].map(|n| n as i64));
+        tables[4].push(1000 * rule.weight);
     }
 }
 

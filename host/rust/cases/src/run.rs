@@ -23,7 +23,8 @@ impl Run {
         }
     }
 
-    /// Compares two implementations on the neighbours of one block and on every case, which are counted; panics at the first difference, with the case.
+    /// Compares two implementations on the neighbours of one block and on every case; the latter are counted.
+    /// Panics at the first difference, with the case.
     pub fn compare<A: Implementation, B: Implementation>(&self, a: &A, b: &B) -> Tally {
         let mut tally = Tally::default();
         if self.only.is_none() {

@@ -77,11 +77,17 @@ impl Block {
 
     /// Writes the image, whose length the slice has.
     pub fn lay_out(&self, image: &mut [u8]) {
-        let total = image.len() / 4;
         let mut out = Words { image, at: 0 };
+        self.header(&mut out);
+        self.variables(&mut out);
+        self.terms_and_points(&mut out);
+        self.rules_and_conditions(&mut out);
+    }
+
+    fn header(&self, out: &mut Words) {
         let counts = self.counts();
         out.index(1);
-        out.index(total);
+        out.index(out.image.len() / 4);
         counts.iter().for_each(|&count| out.index(count));
         let mut offset = HEADER;
         for (count, width) in counts.iter().zip(WIDTHS) {
@@ -91,7 +97,9 @@ impl Block {
         out.words(&[self.pair, self.accu, self.act, 0]);
         out.name(&self.name);
         out.name(&self.rules_name);
+    }
 
+    fn variables(&self, out: &mut Words) {
         let mut first = 0;
         for input in &self.inputs {
             out.name(&input.name);
@@ -105,6 +113,9 @@ impl Block {
             out.words(&[i32::from(output.range.is_some()), min, max]);
             out.words(&[i32::from(output.default.is_some()), output.default.unwrap_or(0)]);
         }
+    }
+
+    fn terms_and_points(&self, out: &mut Words) {
         let mut first = 0;
         for term in self.terms() {
             out.name(&term.name);
@@ -115,6 +126,9 @@ impl Block {
                 out.words(&[crisp, degree]);
             }
         }
+    }
+
+    fn rules_and_conditions(&self, out: &mut Words) {
         let (mut word, mut conclusion) = (0, 0);
         for rule in &self.rules {
             out.word(rule.number);
