@@ -232,7 +232,7 @@ pub fn block(random: &mut Random) -> Block {
     }
     let rules = rules(random, &sizes, &inputs, &outputs);
     let pair = random.below(3);
-    Block {
+    let mut block = Block {
         name: name(random, &[]),
         rules_name: name(random, &[]),
         inputs,
@@ -242,6 +242,21 @@ pub fn block(random: &mut Random) -> Block {
         accu: random.below(2),
         act: random.below(2),
         rules,
+    };
+    if random.once_in(8) {
+        nest(random, &mut block);
+    }
+    block
+}
+
+/// Gives a rule a condition with many parentheses, if there is room for its words.
+fn nest(random: &mut Random, block: &mut Block) {
+    let rule = random.below(block.rules.len());
+    let open = random.size(6, 8);
+    let condition = deepest(random, &block.inputs, open);
+    let others = block.words() - block.rules[rule].condition.words();
+    if others + condition.words() <= 640 {
+        block.rules[rule].condition = condition;
     }
 }
 
@@ -339,7 +354,8 @@ fn operand(random: &mut Random, inputs: &[Input], words: usize, open: usize) -> 
 pub fn deepest(random: &mut Random, inputs: &[Input], open: usize) -> Condition {
     // As many operands wait at once as the parentheses allow, or any mixture.
     let mixed = random.once_in(2);
-    let mut part = Condition::And(leaf(random, inputs), leaf(random, inputs));
+    let and = Box::new(Condition::And(leaf(random, inputs), leaf(random, inputs)));
+    let mut part = Condition::Or(leaf(random, inputs), and);
     while part.parentheses(Level::Or) < open {
         let kind = if mixed { random.below(4) } else { 3 };
         part = match kind {

@@ -44,7 +44,9 @@ fn call(random: &mut Random, block: &Block) -> Call {
     let inputs = block.inputs.len();
     let count = match random.below(30) {
         0 => random.below(10),
-        1 => *random.pick(&[0, 8, 9, 255, 256 + inputs, usize::MAX, usize::MAX - 7]),
+        1 => *random.pick(&[0, 8, 9, 255, usize::MAX, usize::MAX - 7]),
+        // The right one in its lowest bits.
+        2 => inputs + (1 << *random.pick(&[8, 16, usize::BITS / 2, usize::BITS - 1])),
         _ => inputs,
     };
     Call { readings, count, held: held(random, block) }
