@@ -307,7 +307,7 @@ impl<'a> Stored<'a> {
 
     /// Whether the words are one condition in postfix that eight parentheses suffice for. The stack
     /// holds each part's shape and the parentheses open at once in it.
-    fn is_condition(&self, words: Range<usize>, input_terms: usize, stack: &mut [(Shape, usize)]) -> bool {
+    fn is_condition(&self, words: Range<usize>, input_terms: usize, stack: &mut [(Shape, u8)]) -> bool {
         let mut height = 0;
         for at in words {
             let word = self.word(self.row(Table::Words, at));
@@ -315,20 +315,20 @@ impl<'a> Stored<'a> {
                 NOT if height >= 1 => {
                     height -= 1;
                     let (part, depth) = stack[height];
-                    (shape_of_not(part), depth + usize::from(not_encloses(part)))
+                    (shape_of_not(part), depth + u8::from(not_encloses(part)))
                 }
                 AND | OR if height >= 2 => {
                     height -= 2;
                     let side = |right: bool| {
                         let (part, depth) = stack[height + usize::from(right)];
-                        depth + usize::from(side_enclosed(word, right, part))
+                        depth + u8::from(side_enclosed(word, right, part))
                     };
                     (shape_of_operator(word), side(false).max(side(true)))
                 }
                 _ if word >= FIRST_TERM && ((word - FIRST_TERM) as usize) < input_terms => (Shape::Term, 0),
                 _ => return false,
             };
-            if depth > bounds::PARENTHESES {
+            if usize::from(depth) > bounds::PARENTHESES {
                 return false;
             }
             stack[height] = (shape, depth);
