@@ -1,0 +1,1 @@
+//! The safe wrapper over the static library.
