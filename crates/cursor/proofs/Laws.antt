@@ -36,10 +36,6 @@ module _ (s : List ℕ) (c : Cursor) (b : Block) (n : ℕ) where
   unfolding seen
   words-seen = refl
 
-  pub why-seen : seen s c b n .why ≡ c .why
-  unfolding seen
-  why-seen = refl
-
   -- a block is changed where the reading stands before a token
   pub changed : (f : Block → Block) → c .why ≡ 0 → change f (seen s c b n) ≡ seen s c (f b) n
   unfolding change seen

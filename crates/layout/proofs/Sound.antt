@@ -1,22 +1,23 @@
 -- What an accepted image says of its outputs: where their terms stand, how many they are, and that their positions are crisp.
 use mathlib.Core.Path.{_≡_, sym, ap, _∙_}
 use mathlib.Core.Bool.{true, _&&_}
+use mathlib.Core.List.{List, []}
 use Prim.Native.Nat.{ℕ, zero, suc, _+_, _*_, _-_, _≤_, _<_}
-use native.Mathlib.Nat.{suc-mul}
+use native.Mathlib.Nat.{zero-add, suc-mul}
 use native.Mathlib.Omega.{arith}
 use lib.Dec.{leb}
 use lib.IntN.{ℤ, natAbs}
-use lib.ListN.{length}
+use lib.ListN.{length, getD}
 use borrow.Author.Tests.{leb-true}
 use Rattle.model.specs.Basic.{total}
 use Rattle.model.specs.Bounds.{crispLimit}
-use Rattle.model.specs.Block.{Output, inputTerms, outputFirst, inRange}
+use Rattle.model.specs.Block.{Singleton, Output, inputTerms, outputFirst, singletonsOf, inRange}
 use Rattle.model.specs.Tokens.{isName, inCrisp}
 use Rattle.model.specs.WellFormed.{outputOk, singletonOk}
 use Rattle.model.specs.Image.{tab, termAt, singletonAt, outputAt, decode}
-use Rattle.laws.proofs.Lists.{all-at}
+use Rattle.laws.proofs.Lists.{map-tab, all-at}
 use Rattle.laws.proofs.Tests.{both, passed}
-use Rattle.laws.proofs.Places.{length-tab, take-tab}
+use Rattle.laws.proofs.Places.{length-tab, tab-nth, take-tab}
 use Rattle.layout.specs.Tables.{sums, outputCount, outputFirstAt, inputTermsIn}
 use Rattle.layout.specs.Groups.{tablesOk, variablesOk, Sound}
 use Rattle.layout.proofs.TableLaws.{Runs, total-sums}
@@ -34,6 +35,15 @@ pub sums-le : (c : ℕ → ℕ) (m : ℕ) (k i : ℕ) → ((j : ℕ) → j < i +
 unfolding sums
 sums-le c m zero i h = omega arith
 sums-le c m (suc k) i h = omega (arith, h i (omega arith), sums-le c m k (suc i) (λ j l. h j (omega arith)), suc-mul k m)
+
+-- the terms of output o
+pub output-terms : (w : ℕ → ℕ) (o : ℕ) → o < w 3 → length (singletonsOf o (decode w)) ≡ outputCount w o
+unfolding singletonsOf decode outputAt
+output-terms w o h =
+    let own : ℕ → List Singleton = λ i. tab (singletonAt w) (outputCount w i) (outputFirstAt w i) in
+    ap (λ (l : List (List Singleton)). length (getD l o [])) (map-tab (λ v. v .terms) (outputAt w) (w 3) 0)
+    ∙ ap length (tab-nth own (w 3) 0 o [] h ∙ ap own (zero-add o))
+    ∙ length-tab (singletonAt w) (outputCount w o) (outputFirstAt w o)
 
 module _ (w : ℕ → ℕ) (frame : tablesOk w ≡ true) where
   pub input-terms : length (inputTerms (decode w)) ≡ inputTermsIn w
@@ -58,9 +68,6 @@ module _ (w : ℕ → ℕ) (frame : tablesOk w ≡ true) where
       ∙ sym (first-is i h)
 
 module _ (w : ℕ → ℕ) (s : Sound w) where
-  pub outputs-run : Runs (outputFirstAt w) (outputCount w) (w 3) 0 (inputTermsIn w)
-  outputs-run = firsts-run w (s .frame)
-
   pub outputs-few : w 3 ≤ 6
   unfolding variablesOk decode
   outputs-few =

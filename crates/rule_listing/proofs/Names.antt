@@ -8,17 +8,17 @@ use native.Mathlib.Omega.{arith}
 use borrow.Author.Tests.{ltb-true}
 use lib.ListN.{length, getD}
 use Rattle.model.specs.Basic.{bytes, gather}
-use Rattle.model.specs.Block.{Singleton, Term, outputFirst, singletonsOf}
+use Rattle.model.specs.Block.{Term, outputFirst, singletonsOf}
 use Rattle.model.specs.Image.{tab, terms, nameAt, termAt, singletonAt, outputAt, conclusionAt, decode, outputPlace, termPlace, rulePlace, ruleAt, conclusionPlace, pairOf, accuOf, actOf, PAIR-WORD, ACCU-WORD, ACT-WORD, RULE-BLOCK-NAME}
 use Rattle.model.specs.Listing.{commaed, digits, inputTermName, conditionText, andText, orText, actText, accuText, conclusionText, weightText, ruleLine, ruleBlockText}
 use Rattle.model.specs.WellFormed.{conclusionOk}
 use Rattle.laws.proofs.Lists.{map-tab, tab-append}
 use Rattle.laws.proofs.Tests.{passed}
 use Rattle.laws.proofs.Places.{length-tab, tab-nth}
-use Rattle.layout.specs.Tables.{sums, outputTermAt, inputTermsIn, outputTermsIn, outputCount, outputFirstAt}
+use Rattle.layout.specs.Tables.{sums, outputTermAt, inputTermsIn, outputTermsIn, outputCount}
 use Rattle.layout.specs.Groups.{tablesOk, Sound}
 use Rattle.layout.proofs.Parts.{terms-are}
-use Rattle.layout.proofs.Sound.{output-first, first-is}
+use Rattle.layout.proofs.Sound.{output-terms, output-first, first-is}
 
 -- a count and those before it are among all
 sums-part : (c : ℕ → ℕ) (k i j : ℕ) → j < k → sums c j i + c (i + j) ≤ sums c k i
@@ -59,14 +59,6 @@ module _ (w : ℕ → ℕ) (ok : Sound w) where
       ap (λ (l : List (List ℕ)). getD l t []) names-are
       ∙ nth (λ i. nameAt w (termPlace w i)) (inputTermsIn w + outputTermsIn w) t [] h
 
-  own-count : (o : ℕ) → o < w 3 → length (singletonsOf o (decode w)) ≡ outputCount w o
-  unfolding singletonsOf decode outputAt
-  own-count o h =
-      let own : ℕ → List Singleton = λ i. tab (singletonAt w) (outputCount w i) (outputFirstAt w i) in
-      ap (λ (l : List (List Singleton)). length (getD l o [])) (map-tab (λ v. v .terms) (outputAt w) (w 3) 0)
-      ∙ ap length (nth own (w 3) o [] h)
-      ∙ length-tab (singletonAt w) (outputCount w o) (outputFirstAt w o)
-
   -- the output and the term of a conclusion are there
   pub concluded : (j : ℕ) → conclusionOk (decode w) (conclusionAt w j) ≡ true
       → (conclusionAt w j .output < w 3) × (conclusionAt w j .term < inputTermsIn w + outputTermsIn w)
@@ -79,7 +71,7 @@ module _ (w : ℕ → ℕ) (ok : Sound w) where
       let hi : k .term < outputFirst (k .output) (decode w) + length (singletonsOf (k .output) (decode w)) = ltb-true _ _ (q .1 .1 .0) in
       let f = output-first w (ok .frame) (k .output) o in
       let g = first-is w (ok .frame) (k .output) o in
-      let own = own-count (k .output) o ∙ ap (outputCount w) (sym (zero-add (k .output))) in
+      let own = output-terms w (k .output) o ∙ ap (outputCount w) (sym (zero-add (k .output))) in
       (o, omega (arith, hi, f, g, own, sums-part (outputCount w) (w 3) 0 (k .output) o))
 
   -- by the places that the code reads: c the conclusion's row, o and t what it holds, p and q their rows

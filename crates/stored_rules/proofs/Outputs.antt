@@ -1,34 +1,19 @@
 -- A conclusion in the words that it is judged by, where the frame of the image is right.
-use mathlib.Core.Path.{_≡_, refl, sym, ap, _∙_}
+use mathlib.Core.Path.{_≡_, refl, sym}
 use mathlib.Core.List.{List, [], _∷_}
 use mathlib.Core.Bool.{Bool, true, false}
 use Prim.Native.Nat.{ℕ, _+_, _<_}
-use native.Mathlib.Omega.{arith}
 use borrow.Author.Tests.{ltb-true}
 use lib.Dec.{leb, ltb}
-use lib.ListN.{length, getD}
 use Rattle.model.specs.Basic.{every}
-use Rattle.model.specs.Block.{Output, Singleton, singletonsOf}
 use Rattle.model.specs.WellFormed.{conclusionOk}
-use Rattle.model.specs.Image.{singletonAt, outputAt, conclusionPlace, conclusionAt, decode}
-use Rattle.laws.proofs.Lists.{map-tab}
-use Rattle.laws.proofs.Places.{length-tab, tab-nth}
+use Rattle.model.specs.Image.{conclusionPlace, conclusionAt, decode}
 use Rattle.layout.specs.Tables.{outputCount, outputFirstAt}
 use Rattle.layout.specs.Groups.{tablesOk}
 use Rattle.layout.proofs.Whole.{outputs-count}
-use Rattle.layout.proofs.Sound.{output-first}
+use Rattle.layout.proofs.Sound.{output-first, output-terms}
 
 module _ (w : ℕ → ℕ) (frame : tablesOk w ≡ true) where
-  output-size : (j : ℕ) → length (outputAt w j .terms) ≡ outputCount w j
-  unfolding outputAt
-  output-size j = length-tab (singletonAt w) (outputCount w j) (outputFirstAt w j)
-
-  output-terms : (j : ℕ) → j < w 3 → length (singletonsOf j (decode w)) ≡ outputCount w j
-  unfolding singletonsOf decode
-  output-terms j l =
-      ap (λ (s : List (List Singleton)). length (getD s j [])) (map-tab (λ (v : Output). v .terms) (outputAt w) (w 3) 0)
-      ∙ ap length (tab-nth (λ i. outputAt w i .terms) (w 3) 0 j [] l) ∙ ap (λ i. length (outputAt w i .terms)) (omega arith) ∙ output-size j
-
   -- output j is there, and term t is its own
   abbrev own : ℕ → ℕ → ℕ → ℕ → ℕ → List Bool
   own outputs j first n t = ltb j outputs ∷ leb first t ∷ ltb t (first + n) ∷ []
@@ -39,7 +24,7 @@ module _ (w : ℕ → ℕ) (frame : tablesOk w ≡ true) where
     where
       go : (b : Bool) → ltb j (w 3) ≡ b
           → conclusionOk (decode w) (record { output = j; term = t }) ≡ every (own (w 3) j (outputFirstAt w j) (outputCount w j) t)
-      go true e = let l : j < w 3 = ltb-true j (w 3) e in rw (outputs-count w, output-first w frame j l, output-terms j l) refl
+      go true e = let l : j < w 3 = ltb-true j (w 3) e in rw (outputs-count w, output-first w frame j l, output-terms w j l) refl
       go false e = rw (outputs-count w, e) refl
 
   -- by the words that the code reads
