@@ -1,6 +1,6 @@
 #!/usr/bin/env python3
-"""vectors.py FOLDER: from the vectors of FOLDER, writes what the programs text_vectors, image_vectors and call_vectors
-read and must write."""
+"""vectors.py FOLDER: from the vectors of FOLDER, writes what the programs text_vectors, listing_vectors, image_vectors
+and call_vectors read and must write."""
 import json
 import os
 import sys
@@ -68,9 +68,18 @@ data += [with_length(b" " * 65536), with_length(b" " * 65537)]
 lines += [refusal(2, 65536), refusal(1, 0)]
 write("text_vectors", b"".join(data), lines)
 
-# of a refused image a fresh record, all zero, and a call, which leaves the record that image_vectors lends it
+data, lines = [], []
+for case in json.load(open(os.path.join(source, "texts.json"))):
+    if "listing" in case:
+        data.append(with_length(case["text"].encode("latin-1")))
+        # a listing ends its own last line
+        lines += [case["listing"] + "again", refusal(10, len(case["listing"]))]
+write("listing_vectors", b"".join(data), lines)
+
+# of a refused image a fresh record, all zero; a call, which leaves the record that image_vectors lends it; no listing
 lent = [1, -2, 30, -400, 5000, -60000]
 refused = [refusal(11, None), refusal(11, None) + figures([0] * 6), outcome({"refused": [11, None], "held": lent})]
+refused.append(refusal(11, None))
 data, lines = [], []
 for case in json.load(open(os.path.join(source, "images.json"))):
     data.append(with_length(bytes.fromhex(case["image"])))

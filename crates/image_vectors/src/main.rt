@@ -1,12 +1,16 @@
 // Runs the load check on each image of data/images and writes a line for each: the number of the refusal, or 0. Of an
-// image that is refused, lines for its fresh record and for a call on it follow.
+// image that is refused, lines for its fresh record, for a call on it and for its listing follow.
+ghost use mathlib.Core.Path.{_≡_};
+ghost use lib.ListN.{length};
 use model::Crisp;
 use model::Held;
 use model::Reading;
 use model::Verdict;
+use vectors::FILL;
 use vectors::next_case;
 use vectors::write_evaluation;
 use vectors::write_fresh;
+use vectors::write_refused;
 use vectors::write_verdict;
 
 // A record that no refusal may change.
@@ -23,12 +27,22 @@ fn lent_record() -> Held {
     }
 }
 
+// A buffer that no refusal may change.
+fn filled() -> [u8; 40000]
+    ensures { λ r. ⌜ 40000 ≡ length r ⌝ }
+{
+    [FILL; 40000]
+}
+
 fn run_refused(img: &[u8]) {
     write_fresh(evaluation::fresh_of(img));
     let none = Reading::Absent;
     let readings = [none, none, none, none, none, none, none, none];
     let held = lent_record();
     write_evaluation(evaluation::evaluate(img, readings, 9, held));
+    let mut out = filled();
+    let w = lister::list(img, &mut out);
+    write_refused(w, &out);
 }
 
 fn run_image(img: &[u8]) {

@@ -4,10 +4,10 @@
 ghost use mathlib.Core.Path.{_≡_};
 ghost use lib.ListN.{length};
 use model::Written;
+use vectors::FILL;
+use vectors::end_line;
 use vectors::next_case;
 use vectors::write_refusal;
-
-const FILL: u8 = 165;
 
 fn wide(b: u8) -> u64 {
     b as u64
@@ -25,35 +25,17 @@ fn write_bytes(out: &[u8], n: usize) {
     }
 }
 
-// Whether a byte from k on is another than the buffer came with.
-fn is_changed(out: &[u8], k: usize) -> bool {
-    let mut i = k;
-    while i < out.len() {
-        if out[i] != FILL {
-            return true;
-        }
-        i += 1;
-    }
-    false
-}
-
 // The line of one reading, and how long the image is; 0 where there is none.
 fn run_reading(text: &[u8], out: &mut [u8]) -> usize {
     match reader::read(text, out) {
         Written::Bytes(n) => {
             write_bytes(out, n);
-            if is_changed(out, n) {
-                io::write_all(1, b" changed");
-            }
-            io::write_all(1, b"\n");
+            end_line(out, n);
             n
         }
         Written::Refused(r) => {
             write_refusal(r);
-            if is_changed(out, 0) {
-                io::write_all(1, b" changed");
-            }
-            io::write_all(1, b"\n");
+            end_line(out, 0);
             0
         }
     }

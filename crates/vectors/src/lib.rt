@@ -1,5 +1,5 @@
-// What the programs over vectors share: the cases of a file one by one, and how refusals, figures and answers are
-// written. The files, and the lines to expect, are made by tools/vectors.py from vectors worked out elsewhere.
+// What the programs over vectors share: the cases of a file one by one, whether a buffer that was lent changed, and how
+// refusals, figures and answers are written. The files, and the lines to expect, are made by tools/vectors.py from vectors worked out elsewhere.
 use model::Answer;
 use model::Crisp;
 use model::Evaluation;
@@ -8,9 +8,13 @@ use model::Held;
 use model::Mark;
 use model::Refusal;
 use model::Verdict;
+use model::Written;
 
 // More bytes than any case has.
 pub const END: usize = 1000000;
+
+// What a buffer is filled with before it is lent.
+pub const FILL: u8 = 165;
 
 // How many bytes the next case has, which are read to the start of buf: a word says it, then they follow. END at the
 // end of the file, and where buf has no room for them.
@@ -29,43 +33,57 @@ pub fn next_case(fd: i32, buf: &mut [u8]) -> usize {
     n
 }
 
-fn write_at(number: u64, place: usize) {
-    io::print_decimal(1, number);
-    io::write_all(1, b" ");
-    io::print_decimal(1, place as u64);
+// Whether a byte from k on is another than the buffer was filled with.
+fn is_changed(buf: &[u8], k: usize) -> bool {
+    let mut i = k;
+    while i < buf.len() {
+        if buf[i] != FILL {
+            return true;
+        }
+        i += 1;
+    }
+    false
 }
 
-fn write_alone(number: u64) {
-    io::print_decimal(1, number);
-    io::write_all(1, b" -");
+// Ends a line on a buffer that was lent: "changed" if a byte from k on did.
+pub fn end_line(buf: &[u8], k: usize) {
+    if is_changed(buf, k) {
+        io::write_all(1, b" changed");
+    }
+    io::write_all(1, b"\n");
 }
 
 // The number of a refusal and its place.
 pub fn write_refusal(r: Refusal) {
-    match r {
-        Refusal::TextTooLong => write_at(1, 0),
-        Refusal::WrongToken(p) => write_at(2, p),
-        Refusal::WrongNumber(p) => write_at(3, p),
-        Refusal::WrongName(p) => write_at(4, p),
-        Refusal::NotDeclared(p) => write_at(5, p),
-        Refusal::TooMany(p) => write_at(6, p),
-        Refusal::WrongPosition(p) => write_at(7, p),
-        Refusal::Unpaired(p) => write_at(8, p),
-        Refusal::PartMissing(p) => write_at(9, p),
-        Refusal::BufferTooShort(n) => write_at(10, n),
-        Refusal::ImageNotAccepted => write_alone(11),
-        Refusal::WrongCount => write_alone(12),
-        Refusal::WrongHeld => write_alone(13),
-        Refusal::WrongReading(k) => write_at(14, k),
+    let t = refusals::number_and_place(r);
+    io::print_decimal(1, t.number as u64);
+    if t.placed {
+        io::write_all(1, b" ");
+        io::print_decimal(1, t.place as u64);
+    } else {
+        io::write_all(1, b" -");
     }
 }
 
 // 0 for accepted.
 pub fn write_verdict(v: Verdict) {
     match v {
-        Verdict::Accepted => write_alone(0),
+        Verdict::Accepted => {
+            io::write_all(1, b"0 -");
+        }
         Verdict::Refused(r) => write_refusal(r),
     }
+}
+
+// The line of what is to be refused and to leave the buffer as it came.
+pub fn write_refused(w: Written, buf: &[u8]) {
+    match w {
+        Written::Bytes(_) => {
+            io::write_all(1, b"0 -");
+        }
+        Written::Refused(r) => write_refusal(r),
+    }
+    end_line(buf, 0);
 }
 
 // Any 32-bit number in decimal: a held record that is refused may hold each of them.

@@ -1,14 +1,14 @@
 use Prim.Native.Nat.{_≤_, _-_}
 use lib.ListN.{length}
 use borrow.Author.Needs.{needs}
-use Rattle.text_vectors.proofs.is_changed.Statement.{statement}
-use Rattle.text_vectors.proofs.is_changed.Tie as tie
+use Rattle.vectors.proofs.is_changed.Statement.{statement}
+use Rattle.vectors.proofs.is_changed.Tie as tie
 
 abbrev Inv-loop : tie.InvT-loop
-Inv-loop out k i₀ i = k ≤ i
+Inv-loop buf k i₀ i = k ≤ i
 
 abbrev μ-loop : tie.MeasureT-loop
-μ-loop out k i₀ i = length out - i
+μ-loop buf k i₀ i = length buf - i
 
 loop-holds : tie.Need-loop-holds Inv-loop μ-loop
 loop-holds c = search needs
