@@ -1,5 +1,6 @@
 // What the programs over vectors share: the cases of a file one by one, whether a buffer that was lent changed, and how
-// refusals, figures and answers are written. The files, and the lines to expect, are made by tools/vectors.py from vectors worked out elsewhere.
+// refusals, figures and answers are written. The files, and the lines to expect, are made by tools/vectors.py from
+// vectors worked out elsewhere.
 use model::Answer;
 use model::Crisp;
 use model::Evaluation;
