@@ -59,6 +59,26 @@ module _ {k p : ℕ} (s : List ℕ) {old : List ℕ} where
 pub none-yet : (k : ℕ) (s old : List ℕ) → Prepends k k (drop (length s) s) old old
 none-yet k s old = rw (drop-length s) (nothing k old)
 
+-- A TEXT THAT HAS ROOM: its i-th byte at the place first + i
+module _ (k first : ℕ) (s old : List ℕ) (room : first + length s + k ≡ length old) (few : length old ≤ top) where
+  pub fill-none : Prepends k (k + (length s - length s)) (drop (length s) s) old old
+  fill-none = let e : k + (length s - length s) ≡ k = omega arith in rw e (none-yet k s old)
+
+  pub fill-more : (i : ℕ) (mid : List ℕ) → 0 < i → i ≤ length s → length mid ≡ length old
+      → Prepends k (k + (length s - i)) (drop i s) old mid
+      → Prepends k (k + (length s - (i - 1))) (drop (i - 1) s) old (set mid (first + (i - 1)) (getD s (i - 1) 0))
+  fill-more i mid h t l v =
+      let e : k + (length s - i) + 1 ≡ k + (length s - (i - 1)) = omega arith in
+      let f : length mid - 1 - (k + (length s - i)) ≡ first + (i - 1) = omega arith in
+      let w = one-in (k + (length s - i)) (getD s (i - 1) 0) mid (omega arith) (omega arith) in
+      more s (k + (length s - (i - 1))) i mid _ h t v (rw (e, f) at w)
+
+  pub fill-whole : (i : ℕ) (new : List ℕ) → i ≤ 0 → Prepends k (k + (length s - i)) (drop i s) old new
+      → Prepends k (k + length s) s old new
+  fill-whole i new h v =
+      let e : k + (length s - i) ≡ k + length s = omega arith in
+      whole s i new h (rw e at v)
+
 -- WHERE IT STANDS
 count-is : (xs : List ℕ) → length xs ≤ top → countAfter 0 xs ≡ length xs
 unfolding countAfter next
