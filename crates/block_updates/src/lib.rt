@@ -5,9 +5,9 @@ ghost use Prim.Native.Nat.{ℕ, _+_, _*_, _≤_, _<_};
 ghost use lib.ListN.{length, getD};
 ghost use lib.Seq.{slice};
 ghost use Rattle.model.specs.Bounds.{inputLimit, outputLimit, termLimit, pointLimit, inputTermLimit};
-ghost use Rattle.model.specs.Block.{withName, withRange, withDefault, withSingleton};
-ghost use Rattle.model.specs.Declarations.{addInput, addOutput, intFrom, addTerm, addPoint, changeOutput};
-ghost use Rattle.block_tables.specs.View.{inputRow, outputRow, Holds};
+ghost use Rattle.model.specs.Block.{withName};
+ghost use Rattle.model.specs.Declarations.{addInput, addOutput, intFrom, addTerm, addPoint};
+ghost use Rattle.block_tables.specs.View.{inputRow, Holds};
 ghost use Rattle.block_updates.specs.Changes.{Changes, LastTerm, Typed};
 use block_tables::Input;
 use block_tables::Output;
@@ -125,66 +125,5 @@ pub fn add_point(t: Tables, k: usize, p: Point) -> Tables
     let mut r = t;
     r.points[k * bounds::POINTS + n] = p;
     r.counts[k] = n + 1;
-    r
-}
-
-pub fn add_singleton(t: Tables, o: usize, start: usize, end: usize, x: Crisp) -> Tables
-    requires { ⌜ (o < outputLimit) × (outputRow t o .terms < termLimit) ⌝ }
-    ensures { λ r. ⌜ ((s : List ℕ) → Holds s t → o < t .«output_count» → start ≤ end → end ≤ length s
-        → Changes s t r (changeOutput (withSingleton (record { name = slice start end s; at = x .0 })) o)) ⌝ }
-    ensures count { λ r. ⌜ r .«output_count» ≡ t .«output_count» ⌝ }
-{
-    let mut v = t.outputs[o];
-    let j = v.terms;
-    let k = o * bounds::TERMS + j;
-    v.terms = j + 1;
-    let mut r = t;
-    r.names[lookup::FIRST_OUTPUT_TERM + k] = start;
-    r.names[lookup::ENDS + (lookup::FIRST_OUTPUT_TERM + k)] = end;
-    r.singletons[k] = x;
-    r.outputs[o] = v;
-    r
-}
-
-pub fn set_range(t: Tables, o: usize, least: Crisp, most: Crisp) -> Tables
-    requires { ⌜ o < outputLimit ⌝ }
-    ensures { λ r. ⌜ ((s : List ℕ) → Holds s t → o < t .«output_count»
-        → Changes s t r (changeOutput (withRange (record { least = least .0; most = most .0 })) o)) ⌝ }
-    ensures count { λ r. ⌜ r .«output_count» ≡ t .«output_count» ⌝ }
-{
-    let v = t.outputs[o];
-    let d = v.default;
-    let w = Output {
-        terms: v.terms,
-        ranged: true,
-        least: least,
-        most: most,
-        numbered: v.numbered,
-        default: d,
-    };
-    let mut r = t;
-    r.outputs[o] = w;
-    r
-}
-
-pub fn set_default(t: Tables, o: usize, x: Crisp) -> Tables
-    requires { ⌜ o < outputLimit ⌝ }
-    ensures { λ r. ⌜ ((s : List ℕ) → Holds s t → o < t .«output_count»
-        → Changes s t r (changeOutput (withDefault (x .0)) o)) ⌝ }
-    ensures count { λ r. ⌜ r .«output_count» ≡ t .«output_count» ⌝ }
-{
-    let v = t.outputs[o];
-    let a = v.least;
-    let b = v.most;
-    let w = Output {
-        terms: v.terms,
-        ranged: v.ranged,
-        least: a,
-        most: b,
-        numbered: true,
-        default: x,
-    };
-    let mut r = t;
-    r.outputs[o] = w;
     r
 }

@@ -15,10 +15,10 @@ use Rattle.model.specs.Image.{tab}
 use Rattle.model.specs.Block.{Block, Output, inRange, singletonsOf, rangeOf, withRange, withSingleton, withDefault}
 use Rattle.model.specs.Keywords.{NUMBER, ASSIGN, DOTS, OPEN, CLOSE, SEMICOLON, TERM}
 use Rattle.model.specs.Tokens.{valueOf, sameName}
-use Rattle.model.specs.Parse.{Parse, Checks, text, is, refuse, advance, change, expect, aName, aCrisp, valueHere}
+use Rattle.model.specs.Parse.{Parse, Part, Checks, text, is, refuse, advance, change, expect, repeated, aName, aCrisp, valueHere}
 use Rattle.model.specs.Declarations.{singletonOf, isSingleton, isOutput, outputOf, lowerEnd, upperEnd, rangeBody, rangePart, figure, singletonBody, outputTerm, defaultValue, defuzzifyOf, defuzzifyVariable, changeOutput}
 use Rattle.cursor.specs.declared.Cursor.{Cursor}
-use Rattle.cursor.specs.View.{seen, textOf, Fits, Step, fault}
+use Rattle.cursor.specs.View.{seen, textOf, Fits, left, Step, fault}
 use Rattle.cursor.proofs.Laws.{text-seen, block-seen, fault-bad, fault-good, numbered, lost-expect, lost-judged}
 use Rattle.lookup.specs.Names.{nameOf}
 use Rattle.block_tables.specs.declared.Tables.{Tables}
@@ -29,7 +29,8 @@ use Rattle.block_updates.proofs.Lookups as lookups
 use Rattle.parse_state.specs.declared.ParseState.{ParseState}
 use Rattle.parse_state.specs.Reads.{view, Good, Reads}
 use Rattle.parse_state.proofs.Laws as reading
-use Rattle.defuzzify_text.specs.Output.{ReadsFor, HasSingletons, figureChecks, termChecks, methodText, partText}
+use Rattle.defuzzify_text.specs.declared.Outputs.{Outputs}
+use Rattle.defuzzify_text.specs.Output.{beside, Ready, ReadsFor, Collects, HasSingletons, figureChecks, termChecks, methodText, partText}
 
 outputs-are : (s : List ℕ) (t : Tables) → blockView s t .outputs ≡ outputsView s t
 unfolding blockView
@@ -325,3 +326,33 @@ module _ (s : List ℕ) (c : Cursor) (t : Tables) where
 pub output-found : (s w : List ℕ) (t : Tables) (j : ℕ) → j ≡ indexOf (sameName w) (tab (nameOf s (t .names)) (t .«output_count») 8)
     → j ≡ outputOf w (blockView s t)
 output-found s w t j e = e ∙ sym (lookups.output-of s t (blockView s t) (outputs-are s t) w)
+
+-- AGAIN AND AGAIN, whatever the rest of the tables
+pub record Gathering (k : ℕ) (part : Part) (s names₀ names : List ℕ) (q₀ q : Outputs) : Type 0 where
+  pub from : Ready s names₀ q₀
+  pub going : (t : Tables) → Good s (beside t names₀ q₀) → reading.Going k part s (beside t names₀ q₀) (beside t names q)
+  pub count : q .count ≡ q₀ .count
+
+pub gather-begins : {k : ℕ} {part : Part} {s names : List ℕ} {q : Outputs} → Ready s names q → Gathering k part s names names q q
+gather-begins {k} {part} {s} {names} {q} r = record { from = r; going = λ t g. reading.begins k part s (beside t names q) g; count = refl }
+
+module _ {k : ℕ} {part : Part} {s names₀ names : List ℕ} {q₀ q : Outputs} (g : Gathering k part s names₀ names q₀ q) where
+  pub gathered : Ready s names q
+  gathered = record { tables = g .from .tables; good = g .going (g .from .tables) (g .from .good) .1 }
+
+  pub gather-goes : {names′ : List ℕ} {r : Outputs} → q .cursor .kind ≡ k → Collects part s names names′ q r
+      → left s (r .cursor) < left s (q .cursor) → Gathering k part s names₀ names′ q₀ r
+  gather-goes {names′} {r} h x m = record {
+    from = g .from;
+    going = λ t y. let z = g .going t y in
+        reading.goes k part s (beside t names₀ q₀) (beside t names q) (beside t names′ r) z h (x t (z .1) .reads) m;
+    count = x (gathered .tables) (gathered .good) .count ∙ g .count;
+  }
+
+  pub gather-leaves : {names₁ : List ℕ} {p : Outputs} → Collects part s names₁ names₀ p q₀ → (q .cursor .kind ≡ k → ⊥)
+      → Collects (λ r. repeated k part (part r)) s names₁ names p q
+  gather-leaves {names₁} {p} x h = λ t y. let w = x t y in
+      record {
+        reads = reading.next (w .reads) (reading.leaves k part s (beside t names₀ q₀) (beside t names q) (g .going t (w .reads .good)) h);
+        count = g .count ∙ w .count;
+      }

@@ -1,5 +1,6 @@
 // DEFUZZIFY parts: an optional RANGE, the terms with one number each, the method and the default.
 ghost use mathlib.Core.Path.{_≡_};
+ghost use mathlib.Core.List.{List};
 ghost use Prim.Native.Nat.{ℕ, _≤_, _<_};
 ghost use lib.ListN.{length};
 ghost use lib.Seq.{slice};
@@ -11,9 +12,9 @@ ghost use Rattle.model.specs.Tokens.{valueOf};
 ghost use Rattle.model.specs.Declarations.{upperEnd, rangeBody, rangePart, figure, singletonBody, outputTerm, defaultValue, defuzzifyVariable, defuzzify};
 ghost use Rattle.cursor.specs.View.{seen, textOf, Fits, Step, Moves, fault};
 ghost use Rattle.lookup.specs.Names.{Placed};
-ghost use Rattle.block_tables.specs.View.{outputRow, rangeView};
+ghost use Rattle.block_tables.specs.View.{rangeView};
 ghost use Rattle.parse_state.specs.Reads.{Good, Reads};
-ghost use Rattle.defuzzify_text.specs.Output.{ReadsFor, HasSingletons, figureChecks, termChecks, methodText, partText};
+ghost use Rattle.defuzzify_text.specs.Output.{rowOf, Ready, Collects, HasSingletons, figureChecks, termChecks, methodText, partText};
 use block_tables::Output;
 use cursor::Cursor;
 use lookup::Names;
@@ -21,42 +22,54 @@ use model::Crisp;
 use number_tokens::CrispHere;
 use parse_state::ParseState;
 
+// A reading among outputs: what DEFUZZIFY changes of the tables, beside their names.
+struct Outputs {
+    cursor: Cursor,
+    count: usize,
+    rows: [Output; bounds::OUTPUTS],
+    singletons: [Crisp; bounds::OUTPUT_TERMS],
+}
+
 // The upper end of the RANGE of output o, above its lower end x.
-fn upper_end(s: &[u8], p: ParseState, o: usize, x: Crisp) -> ParseState
-    requires { ⌜ Good (now s) p × (o < p .tables .«output_count») ⌝ }
-    ensures { λ r. ⌜ ReadsFor (upperEnd o (x .0)) (now (s .entry)) p r ⌝ }
+fn upper_end(s: &[u8], p: Outputs, o: usize, x: Crisp) -> Outputs
+    requires { ⌜ ((names : List ℕ) × Ready (now s) names p) × (o < p .count) ⌝ }
+    ensures { λ r. ⌜ ((names : List ℕ) → Collects (upperEnd o (x .0)) (now (s .entry)) names names p r) ⌝ }
 {
     let c = p.cursor;
-    let t = p.tables;
-    let v = number_tokens::crisp_here(s, c);
-    let w = v.fault;
+    let y = number_tokens::crisp_here(s, c);
+    let w = y.fault;
+    let mut r = p;
     if w != 0 {
         let d = cursor::refuse(c, w);
-        return ParseState {
-            cursor: d,
-            tables: t,
-        };
+        r.cursor = d;
+        return r;
     }
-    let y = v.value;
-    if crisp::less(x, y) {
-        let u = block_updates::set_range(t, o, x, y);
-        let d = cursor::advance(s, c);
-        return ParseState {
-            cursor: d,
-            tables: u,
+    let z = y.value;
+    if crisp::less(x, z) {
+        let v = p.rows[o];
+        let e = v.default;
+        let u = Output {
+            terms: v.terms,
+            ranged: true,
+            least: x,
+            most: z,
+            numbered: v.numbered,
+            default: e,
         };
+        let d = cursor::advance(s, c);
+        r.rows[o] = u;
+        r.cursor = d;
+        return r;
     }
     let d = cursor::refuse(c, 7);
-    ParseState {
-        cursor: d,
-        tables: t,
-    }
+    r.cursor = d;
+    r
 }
 
 // min..max); of output o
-fn range_from(s: &[u8], p: ParseState, o: usize) -> ParseState
-    requires { ⌜ Good (now s) p × (o < p .tables .«output_count») ⌝ }
-    ensures { λ r. ⌜ ReadsFor (rangeBody o) (now (s .entry)) p r ⌝ }
+fn range_from(s: &[u8], p: Outputs, o: usize) -> Outputs
+    requires { ⌜ ((names : List ℕ) × Ready (now s) names p) × (o < p .count) ⌝ }
+    ensures { λ r. ⌜ ((names : List ℕ) → Collects (rangeBody o) (now (s .entry)) names names p r) ⌝ }
 {
     let c = p.cursor;
     let v = number_tokens::crisp_here(s, c);
@@ -79,9 +92,9 @@ fn range_from(s: &[u8], p: ParseState, o: usize) -> ParseState
     r
 }
 
-fn optional_range(s: &[u8], p: ParseState, o: usize) -> ParseState
-    requires { ⌜ Good (now s) p × (o < p .tables .«output_count») ⌝ }
-    ensures { λ r. ⌜ ReadsFor (rangePart o) (now (s .entry)) p r ⌝ }
+fn optional_range(s: &[u8], p: Outputs, o: usize) -> Outputs
+    requires { ⌜ ((names : List ℕ) × Ready (now s) names p) × (o < p .count) ⌝ }
+    ensures { λ r. ⌜ ((names : List ℕ) → Collects (rangePart o) (now (s .entry)) names names p r) ⌝ }
 {
     let c = p.cursor;
     if c.kind != token_kinds::RANGE {
@@ -122,59 +135,73 @@ fn figure_here(s: &[u8], c: Cursor, v: Output) -> CrispHere
 }
 
 // A number as the singleton of output o with the name from start to end.
-fn singleton_at(s: &[u8], p: ParseState, o: usize, start: usize, end: usize) -> ParseState
-    requires { ⌜ Good (now s) p × (o < p .tables .«output_count») × (outputRow (p .tables) o .terms < termLimit)
-        × (start ≤ end)
+fn singleton_at(
+    s: &[u8],
+    names: &mut Names,
+    p: Outputs,
+    o: usize,
+    start: usize,
+    end: usize,
+) -> Outputs
+    requires { ⌜ Ready (now s) (now names) p × (o < p .count) × (rowOf p o .terms < termLimit) × (start ≤ end)
         × (end ≤ length (now s)) ⌝ }
-    ensures { λ r. ⌜ ReadsFor
+    ensures { λ r. ⌜ Collects
         (figure (λ x. withSingleton (record { name = slice start end (now (s .entry)); at = x })) o)
-        (now (s .entry)) p r ⌝ }
+        (now (s .entry)) (now (names .entry)) (now (names .exit)) p r ⌝ }
 {
     let c = p.cursor;
-    let t = p.tables;
-    let v = t.outputs[o];
+    let mut v = p.rows[o];
     let y = figure_here(s, c, v);
     let w = y.fault;
+    let mut r = p;
     if w != 0 {
         let d = cursor::refuse(c, w);
-        return ParseState {
-            cursor: d,
-            tables: t,
-        };
+        r.cursor = d;
+        return r;
     }
     let x = y.value;
-    let u = block_updates::add_singleton(t, o, start, end, x);
+    let j = v.terms;
+    let k = o * bounds::TERMS + j;
+    v.terms = j + 1;
+    names[lookup::FIRST_OUTPUT_TERM + k] = start;
+    names[lookup::ENDS + (lookup::FIRST_OUTPUT_TERM + k)] = end;
+    r.singletons[k] = x;
+    r.rows[o] = v;
     let d = cursor::advance(s, c);
-    ParseState {
-        cursor: d,
-        tables: u,
-    }
+    r.cursor = d;
+    r
 }
 
 // A number as the DEFAULT of output o.
-fn default_number(s: &[u8], p: ParseState, o: usize) -> ParseState
-    requires { ⌜ Good (now s) p × (o < p .tables .«output_count») ⌝ }
-    ensures { λ r. ⌜ ReadsFor (figure withDefault o) (now (s .entry)) p r ⌝ }
+fn default_number(s: &[u8], p: Outputs, o: usize) -> Outputs
+    requires { ⌜ ((names : List ℕ) × Ready (now s) names p) × (o < p .count) ⌝ }
+    ensures { λ r. ⌜ ((names : List ℕ) → Collects (figure withDefault o) (now (s .entry)) names names p r) ⌝ }
 {
     let c = p.cursor;
-    let t = p.tables;
-    let v = t.outputs[o];
+    let v = p.rows[o];
     let y = figure_here(s, c, v);
     let w = y.fault;
+    let mut r = p;
     if w != 0 {
         let d = cursor::refuse(c, w);
-        return ParseState {
-            cursor: d,
-            tables: t,
-        };
+        r.cursor = d;
+        return r;
     }
     let x = y.value;
-    let u = block_updates::set_default(t, o, x);
+    let a = v.least;
+    let b = v.most;
+    let u = Output {
+        terms: v.terms,
+        ranged: v.ranged,
+        least: a,
+        most: b,
+        numbered: true,
+        default: x,
+    };
     let d = cursor::advance(s, c);
-    ParseState {
-        cursor: d,
-        tables: u,
-    }
+    r.rows[o] = u;
+    r.cursor = d;
+    r
 }
 
 // By which number the current token is refused as the name of a new term of output o; 0 where it is one.
@@ -204,79 +231,60 @@ fn term_fault(s: &[u8], names: &Names, o: usize, terms: usize, c: Cursor) -> u8
 }
 
 // name := number ; as a term of output o
-fn singleton_named(s: &[u8], p: ParseState, o: usize) -> ParseState
-    requires { ⌜ Good (now s) p × (o < p .tables .«output_count») × (outputRow (p .tables) o .terms < termLimit) ⌝ }
-    ensures { λ r. ⌜ ReadsFor (singletonBody o) (now (s .entry)) p r ⌝ }
+fn singleton_named(s: &[u8], names: &mut Names, p: Outputs, o: usize) -> Outputs
+    requires { ⌜ Ready (now s) (now names) p × (o < p .count) × (rowOf p o .terms < termLimit) ⌝ }
+    ensures { λ r. ⌜ Collects (singletonBody o) (now (s .entry)) (now (names .entry)) (now (names .exit)) p r ⌝ }
 {
     let c = p.cursor;
-    let t = p.tables;
-    let v = t.outputs[o];
-    let w = term_fault(s, &t.names, o, v.terms, c);
+    let v = p.rows[o];
+    let w = term_fault(s, names, o, v.terms, c);
+    let mut q = p;
     if w != 0 {
         let d = cursor::refuse(c, w);
-        return ParseState {
-            cursor: d,
-            tables: t,
-        };
+        q.cursor = d;
+        return q;
     }
     let d = cursor::advance(s, c);
     let e = cursor::expect(s, d, token_kinds::ASSIGN);
-    let mut q = singleton_at(
-        s,
-        ParseState {
-            cursor: e,
-            tables: t,
-        },
-        o,
-        c.start,
-        c.end,
-    );
-    let f = q.cursor;
+    q.cursor = e;
+    let mut r = singleton_at(s, names, q, o, c.start, c.end);
+    let f = r.cursor;
     let g = cursor::expect(s, f, token_kinds::SEMICOLON);
-    q.cursor = g;
-    q
+    r.cursor = g;
+    r
 }
 
-fn output_term(s: &[u8], p: ParseState, o: usize) -> ParseState
-    requires { ⌜ Good (now s) p × (o < p .tables .«output_count») ⌝ }
-    ensures { λ r. ⌜ ReadsFor (outputTerm o) (now (s .entry)) p r ⌝ }
+fn output_term(s: &[u8], names: &mut Names, p: Outputs, o: usize) -> Outputs
+    requires { ⌜ Ready (now s) (now names) p × (o < p .count) ⌝ }
+    ensures { λ r. ⌜ Collects (outputTerm o) (now (s .entry)) (now (names .entry)) (now (names .exit)) p r ⌝ }
     ensures moves { λ r. ⌜ Moves (now (s .entry)) (p .cursor) (r .cursor) ⌝ }
 {
     let c = p.cursor;
-    let t = p.tables;
+    let mut q = p;
     if c.kind != token_kinds::TERM {
         let d = cursor::refuse(c, 2);
-        return ParseState {
-            cursor: d,
-            tables: t,
-        };
+        q.cursor = d;
+        return q;
     }
-    let v = t.outputs[o];
+    let v = p.rows[o];
     if bounds::TERMS <= v.terms {
         let d = cursor::refuse(c, 6);
-        return ParseState {
-            cursor: d,
-            tables: t,
-        };
+        q.cursor = d;
+        return q;
     }
     let d = cursor::advance(s, c);
-    singleton_named(
-        s,
-        ParseState {
-            cursor: d,
-            tables: t,
-        },
-        o,
-    )
+    q.cursor = d;
+    singleton_named(s, names, q, o)
 }
 
-fn output_terms(s: &[u8], p: ParseState, o: usize) -> ParseState
-    requires { ⌜ Good (now s) p × (o < p .tables .«output_count») ⌝ }
-    ensures { λ r. ⌜ ReadsFor (λ q. repeated TERM (outputTerm o) (outputTerm o q)) (now (s .entry)) p r ⌝ }
+fn output_terms(s: &[u8], names: &mut Names, p: Outputs, o: usize) -> Outputs
+    requires { ⌜ Ready (now s) (now names) p × (o < p .count) ⌝ }
+    ensures { λ r. ⌜ Collects (λ q. repeated TERM (outputTerm o) (outputTerm o q))
+        (now (s .entry)) (now (names .entry)) (now (names .exit)) p r ⌝ }
 {
-    let mut q = output_term(s, p, o);
+    let mut q = output_term(s, names, p, o);
     while q.cursor.kind == token_kinds::TERM {
-        q = output_term(s, q, o);
+        q = output_term(s, names, q, o);
     }
     q
 }
@@ -295,9 +303,9 @@ fn method(s: &[u8], c: Cursor) -> Cursor
 }
 
 // A number or NC for output o.
-fn default_value(s: &[u8], p: ParseState, o: usize) -> ParseState
-    requires { ⌜ Good (now s) p × (o < p .tables .«output_count») ⌝ }
-    ensures { λ r. ⌜ ReadsFor (defaultValue o) (now (s .entry)) p r ⌝ }
+fn default_value(s: &[u8], p: Outputs, o: usize) -> Outputs
+    requires { ⌜ ((names : List ℕ) × Ready (now s) names p) × (o < p .count) ⌝ }
+    ensures { λ r. ⌜ ((names : List ℕ) → Collects (defaultValue o) (now (s .entry)) names names p r) ⌝ }
 {
     let c = p.cursor;
     if c.kind != token_kinds::NC {
@@ -310,12 +318,12 @@ fn default_value(s: &[u8], p: ParseState, o: usize) -> ParseState
 }
 
 // The part of output o, from behind its name on.
-fn output_part(s: &[u8], p: ParseState, o: usize) -> ParseState
-    requires { ⌜ Good (now s) p × (o < p .tables .«output_count») ⌝ }
-    ensures { λ r. ⌜ Reads (partText o) (now (s .entry)) p r ⌝ }
+fn output_part(s: &[u8], names: &mut Names, p: Outputs, o: usize) -> Outputs
+    requires { ⌜ Ready (now s) (now names) p × (o < p .count) ⌝ }
+    ensures { λ r. ⌜ Collects (partText o) (now (s .entry)) (now (names .entry)) (now (names .exit)) p r ⌝ }
 {
     let a = optional_range(s, p, o);
-    let mut b = output_terms(s, a, o);
+    let mut b = output_terms(s, names, a, o);
     let c = b.cursor;
     let d = method(s, c);
     b.cursor = d;
@@ -327,64 +335,58 @@ fn output_part(s: &[u8], p: ParseState, o: usize) -> ParseState
     e
 }
 
-fn defuzzify_named(s: &[u8], p: ParseState) -> ParseState
-    requires { ⌜ Good (now s) p ⌝ }
-    ensures { λ r. ⌜ Reads defuzzifyVariable (now (s .entry)) p r ⌝ }
+fn defuzzify_named(s: &[u8], names: &mut Names, p: Outputs) -> Outputs
+    requires { ⌜ Ready (now s) (now names) p ⌝ }
+    ensures { λ r. ⌜ Collects defuzzifyVariable (now (s .entry)) (now (names .entry)) (now (names .exit)) p r ⌝ }
 {
     let c = p.cursor;
-    let t = p.tables;
     let w = cursor::name_fault(c);
+    let mut q = p;
     if w != 0 {
         let d = cursor::refuse(c, w);
-        return ParseState {
-            cursor: d,
-            tables: t,
-        };
+        q.cursor = d;
+        return q;
     }
-    let o = lookup::find(
-        s,
-        &t.names,
-        lookup::FIRST_OUTPUT,
-        t.output_count,
-        c.start,
-        c.end,
-    );
-    if t.output_count <= o {
+    let n = p.count;
+    let o = lookup::find(s, names, lookup::FIRST_OUTPUT, n, c.start, c.end);
+    if n <= o {
         let d = cursor::refuse(c, 5);
-        return ParseState {
-            cursor: d,
-            tables: t,
-        };
+        q.cursor = d;
+        return q;
     }
-    let v = t.outputs[o];
+    let v = p.rows[o];
     if v.terms != 0 {
         let d = cursor::refuse(c, 4);
-        return ParseState {
-            cursor: d,
-            tables: t,
-        };
+        q.cursor = d;
+        return q;
     }
     let d = cursor::advance(s, c);
-    output_part(
-        s,
-        ParseState {
-            cursor: d,
-            tables: t,
-        },
-        o,
-    )
+    q.cursor = d;
+    output_part(s, names, q, o)
 }
 
-fn defuzzify_part(s: &[u8], p: ParseState) -> ParseState
-    requires { ⌜ Good (now s) p ⌝ }
-    ensures { λ r. ⌜ Reads defuzzify (now (s .entry)) p r ⌝ }
+fn defuzzify_part(s: &[u8], names: &mut Names, p: Outputs) -> Outputs
+    requires { ⌜ Ready (now s) (now names) p ⌝ }
+    ensures { λ r. ⌜ Collects defuzzify (now (s .entry)) (now (names .entry)) (now (names .exit)) p r ⌝ }
     ensures moves { λ r. ⌜ Moves (now (s .entry)) (p .cursor) (r .cursor) ⌝ }
 {
     let c = p.cursor;
     let d = cursor::expect(s, c, token_kinds::DEFUZZIFY);
     let mut q = p;
     q.cursor = d;
-    defuzzify_named(s, q)
+    defuzzify_named(s, names, q)
+}
+
+fn parts(s: &[u8], names: &mut Names, p: Outputs) -> Outputs
+    requires { ⌜ Ready (now s) (now names) p ⌝ }
+    ensures { λ r. ⌜ Collects (λ q. repeated DEFUZZIFY defuzzify (defuzzify q))
+        (now (s .entry)) (now (names .entry)) (now (names .exit)) p r ⌝ }
+{
+    let mut q = defuzzify_part(s, names, p);
+    while q.cursor.kind == token_kinds::DEFUZZIFY {
+        q = defuzzify_part(s, names, q);
+    }
+    q
 }
 
 // DEFUZZIFY parts, one or more.
@@ -392,9 +394,28 @@ pub fn defuzzify_parts(s: &[u8], p: ParseState) -> ParseState
     requires { ⌜ Good (now s) p ⌝ }
     ensures { λ r. ⌜ Reads (λ q. repeated DEFUZZIFY defuzzify (defuzzify q)) (now (s .entry)) p r ⌝ }
 {
-    let mut q = defuzzify_part(s, p);
-    while q.cursor.kind == token_kinds::DEFUZZIFY {
-        q = defuzzify_part(s, q);
+    let c = p.cursor;
+    let mut t = p.tables;
+    let rows = t.outputs;
+    let singletons = t.singletons;
+    let n = t.output_count;
+    let q = parts(
+        s,
+        &mut t.names,
+        Outputs {
+            cursor: c,
+            count: n,
+            rows: rows,
+            singletons: singletons,
+        },
+    );
+    let d = q.cursor;
+    let next = q.rows;
+    let figures = q.singletons;
+    t.outputs = next;
+    t.singletons = figures;
+    ParseState {
+        cursor: d,
+        tables: t,
     }
-    q
 }

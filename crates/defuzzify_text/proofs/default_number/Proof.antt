@@ -1,8 +1,10 @@
 use Rattle.model.specs.Block.{withDefault}
-use mathlib.Core.Path.{sym, _∙_}
+use mathlib.Core.Path.{refl, sym, _∙_}
 use native.Mathlib.Omega.{arith}
 use borrow.Author.Needs.{needs}
+use Rattle.block_updates.proofs.Rows.{default-set}
 use Rattle.defuzzify_text.proofs.Laws as laws
+use Rattle.defuzzify_text.specs.Output.{beside}
 use Rattle.defuzzify_text.proofs.default_number.Statement.{statement}
 use Rattle.defuzzify_text.proofs.default_number.Tie as tie
 
@@ -10,46 +12,50 @@ mul-v : tie.Need-mul-v
 mul-v c = search needs
 
 element-copy-out-v : tie.Need-element-copy-out-v
-element-copy-out-v c = let q = c .before .before .before .pre .0 .holds .outputCount in omega (arith, c .before .before .before .pre .1)
+element-copy-out-v c = let q = c .before .before .pre .0 .1 .good .holds .outputCount in omega (arith, c .before .before .pre .1)
 
 figure-here-requires : tie.Need-figure-here-requires
-figure-here-requires c κs = c .before .before .before .before .pre .0 .fits
+figure-here-requires c κs =
+    let c3 = c .before .before .before in
+    c3 .pre .0 .1 .good .fits
 
 refuse-requires : tie.Need-refuse-requires
 refuse-requires c κs = search needs
 
 returns : tie.Need-returns
 returns c =
-    let c7 = c .before .before .before .before .before .before .before in
-    let a = c7 .args in
-    let g = c7 .pre in
-    laws.figure-none (a .s .now) (a .p .cursor) (c .refuse .result) (a .p .tables) (a .o) withDefault (g .1) _
-    (c .before .before .figure-here .ensures .0 _ 0) (c .before .if1 .taken) (g .0 .holds) (c .refuse .ensures .0 _ (g .0 .fits))
-
-set-default-requires : tie.Need-set-default-requires
-set-default-requires c κs =
-    let c7 = c .before .before .before .before .before .before .before in
-    let q = c7 .pre .0 .holds .outputCount in
-    omega (arith, c7 .pre .1)
+    let c6 = c .before .before .before .before .before .before in
+    let a = c6 .args in
+    λ names t g. laws.figure-none (a .s .now) (a .t2 .cursor) (c .refuse .result) (beside t names (a .t2) .tables) (a .o) withDefault (c6 .pre .1) _
+    (c .before .before .figure-here .ensures .0 _ 0) (c .before .if1 .taken) (g .holds) (c .refuse .ensures .0 _ (g .fits))
 
 advance-requires : tie.Need-advance-requires
 advance-requires c κs =
     let c3 = c .before .before .before in
-    let c8 = c3 .before .before .before .before .before in
-    (c8 .pre .0 .fits, λ q. omega (arith, c3 .figure-here .ensures .1 (c .before .before .if1 .left) .0))
+    let c4 = c3 .before in
+    let c8 = c4 .before .before .before .before in
+    (c8 .pre .0 .1 .good .fits, λ q. omega (arith, c4 .figure-here .ensures .1 (c3 .if1 .left) .0))
+
+mul-u : tie.Need-mul-u
+mul-u c = search needs
+
+element-set-from-u : tie.Need-element-set-from-u
+element-set-from-u c =
+    let c9 = c .before .before .before .before .before .before .before .before .before in
+    let q = c9 .pre .0 .1 .good .holds .outputCount in omega (arith, c9 .pre .1)
 
 returns-2 : tie.Need-returns-2
 returns-2 c =
-    let c3 = c .before .before .before in
-    let c4 = c3 .before in
-    let c9 = c4 .before .before .before .before .before in
+    let c4 = c .before .before .before .before in
+    let c5 = c4 .before in
+    let c9 = c5 .before .before .before .before in
     let a = c9 .args in
-    let g = c9 .pre in
-    let e = c4 .figure-here .ensures in
-    let z = c3 .if1 .left in
-    laws.figure-set (a .s .now) (a .p .cursor) (c .advance .result) (a .p .tables) (a .o) withDefault (g .1) (c .before .set-default .result) _
-    (sym z ∙ e .0 _ 0) (e .1 z .1) (g .0 .fits) (λ q. omega (arith, e .1 z .0)) (c .before .set-default .ensures .0 _ (g .0 .holds) (g .1))
-    (c .before .set-default .ensures .1) (c .advance .ensures .0)
+    let e = c5 .figure-here .ensures in
+    let z = c4 .if1 .left in
+    λ names t g.
+    laws.figure-set (a .s .now) (a .t2 .cursor) (c .advance .result) (beside t names (a .t2) .tables) (a .o) withDefault (c9 .pre .1) _ _
+    (sym z ∙ e .0 _ 0) (e .1 z .1) (g .fits) (λ q. omega (arith, e .1 z .0))
+    (default-set (a .s .now) (beside t names (a .t2) .tables) (a .o) _ (c9 .pre .1) (g .holds)) refl (c .advance .ensures .0)
 
 pub default-number-spec : {M : Type 1} → statement M
 default-number-spec =
@@ -60,6 +66,7 @@ default-number-spec =
     figure-here-requires
     refuse-requires
     returns
-    set-default-requires
     advance-requires
+    mul-u
+    element-set-from-u
     returns-2)

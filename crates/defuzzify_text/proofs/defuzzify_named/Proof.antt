@@ -1,28 +1,31 @@
-use mathlib.Core.Path.{sym, _∙_}
+use mathlib.Core.Path.{refl, sym, _∙_}
 use native.Mathlib.Omega.{arith}
 use borrow.Author.Needs.{needs}
 use Rattle.defuzzify_text.proofs.Laws as laws
+use Rattle.defuzzify_text.specs.Output.{beside}
 use Rattle.defuzzify_text.proofs.defuzzify_named.Statement.{statement}
 use Rattle.defuzzify_text.proofs.defuzzify_named.Tie as tie
 
 name-fault-requires : tie.Need-name-fault-requires
-name-fault-requires c κs = c .before .before .before .pre .fits .order
+name-fault-requires c κs = c .before .before .pre .good .fits .order
 
 refuse-requires : tie.Need-refuse-requires
 refuse-requires c κs = search needs
 
 returns : tie.Need-returns
 returns c =
-    let c6 = c .before .before .before .before .before .before in
-    let a = c6 .args in
-    let g = c6 .pre in
-    laws.part-none (a .s .now) (a .p .cursor) (a .p .tables) (c .refuse .result) _ (c .before .before .name-fault .ensures .0 _ (g .fits) _ 0)
-    (c .before .if1 .taken) (g .holds) (c .refuse .ensures .0 _ (g .fits))
+    let c5 = c .before .before .before .before .before in
+    let a = c5 .args in
+    λ t g. record {
+      reads = laws.part-none (a .s .now) (a .t3 .cursor) (beside t (a .names .now) (a .t3) .tables) (c .refuse .result) _ (c .before .before .name-fault .ensures .0 _ (g .fits) _ 0)
+          (c .before .if1 .taken) (g .holds) (c .refuse .ensures .0 _ (g .fits));
+      count = refl;
+    }
 
 find-requires : tie.Need-find-requires
 find-requires c κs =
-    let c7 = c .before .before .before .before .before .before .before in
-    let g = c7 .pre in
+    let c5 = c .before .before .before .before .before in
+    let g = c5 .pre .good in
     let q = g .holds .outputCount in
     (g .fits .order, g .fits .inside, omega arith, g .holds .placed)
 
@@ -31,20 +34,24 @@ refuse-requires-2 c κs = search needs
 
 returns-2 : tie.Need-returns-2
 returns-2 c =
-    let c5 = c .before .before .before .before .before in
-    let c6 = c5 .before in
-    let c10 = c6 .before .before .before .before in
-    let a = c10 .args in
-    let g = c10 .pre in
-    laws.part-unknown (a .s .now) (a .p .cursor) (a .p .tables) (sym (c5 .if1 .left) ∙ c6 .name-fault .ensures .0 _ (g .fits) _ 0) _
-    (laws.output-found _ _ _ _ (c .before .before .find .ensures .0)) (c .refuse2 .result) (c .before .if2 .taken) (g .holds)
-    (c .refuse2 .ensures .0 _ (g .fits))
+    let c4 = c .before .before .before .before in
+    let c5 = c4 .before in
+    let c8 = c5 .before .before .before in
+    let a = c8 .args in
+    λ t g.
+    record {
+      reads = laws.part-unknown (a .s .now) (a .t3 .cursor) (beside t (a .names .now) (a .t3) .tables) (sym (c4 .if1 .left) ∙ c5 .name-fault .ensures .0 _ (g .fits) _ 0) _
+          (laws.output-found _ _ _ _ (c .before .before .find .ensures .0)) (c .refuse2 .result) (c .before .if2 .taken) (g .holds) (c .refuse2 .ensures .0 _ (g .fits));
+      count = refl;
+    }
 
 mul-v : tie.Need-mul-v
 mul-v c = search needs
 
 element-copy-out-v : tie.Need-element-copy-out-v
-element-copy-out-v c = let q = c .before .before .before .before .before .before .before .before .before .pre .holds .outputCount in omega (arith, c .if2 .left)
+element-copy-out-v c =
+    let c7 = c .before .before .before .before .before .before .before in
+    let q = c7 .pre .good .holds .outputCount in omega (arith, c .if2 .left)
 
 refuse-requires-3 : tie.Need-refuse-requires-3
 refuse-requires-3 c κs = search needs
@@ -53,40 +60,49 @@ returns-3 : tie.Need-returns-3
 returns-3 c =
     let c4 = c .before .before .before .before in
     let c5 = c4 .before in
-    let c8 = c5 .before .before .before in
-    let c9 = c8 .before in
-    let c13 = c9 .before .before .before .before in
-    let a = c13 .args in
-    let g = c13 .pre in
-    laws.part-again (a .s .now) (a .p .cursor) (a .p .tables) (sym (c8 .if1 .left) ∙ c9 .name-fault .ensures .0 _ (g .fits) _ 0) _
-    (laws.output-found _ _ _ _ (c5 .find .ensures .0)) (c .refuse3 .result) (c4 .if2 .left) (c .before .if3 .taken) (g .holds)
-    (c .refuse3 .ensures .0 _ (g .fits))
+    let c7 = c5 .before .before in
+    let c8 = c7 .before in
+    let c11 = c8 .before .before .before in
+    let a = c11 .args in
+    λ t g.
+    record {
+      reads = laws.part-again (a .s .now) (a .t3 .cursor) (beside t (a .names .now) (a .t3) .tables) (sym (c7 .if1 .left) ∙ c8 .name-fault .ensures .0 _ (g .fits) _ 0) _
+          (laws.output-found _ _ _ _ (c5 .find .ensures .0)) (c .refuse3 .result) (c4 .if2 .left) (c .before .if3 .taken) (g .holds)
+          (c .refuse3 .ensures .0 _ (g .fits));
+      count = refl;
+    }
 
 advance-requires : tie.Need-advance-requires
 advance-requires c κs =
-    let c7 = c .before .before .before .before .before .before .before in
-    let c8 = c7 .before in
-    let c12 = c8 .before .before .before .before in
-    (c12 .pre .fits, λ q. omega (arith, c8 .name-fault .ensures .1 (c7 .if1 .left)))
+    let c6 = c .before .before .before .before .before .before in
+    let c7 = c6 .before in
+    let c10 = c7 .before .before .before in
+    (c10 .pre .good .fits, λ q. omega (arith, c7 .name-fault .ensures .1 (c6 .if1 .left)))
 
 output-part-requires : tie.Need-output-part-requires
 output-part-requires c κs =
-    let c4 = c .before .before .before .before in
-    let c13 = c4 .before .before .before .before .before .before .before .before .before in
-    (record { fits = c .advance .ensures .0 .fits; holds = c13 .pre .holds }, c4 .if2 .left)
+    let c5 = c .before .before .before .before .before in
+    let c12 = c5 .before .before .before .before .before .before .before in
+    let r = c12 .pre in
+    (record { tables = r .tables; good = record { fits = c .before .advance .ensures .0 .fits; holds = r .good .holds } }, c5 .if2 .left)
 
 returns-4 : tie.Need-returns-4
 returns-4 c =
-    let c5 = c .before .before .before .before .before in
-    let c6 = c5 .before in
-    let c9 = c6 .before .before .before in
+    let c3 = c .before .before .before in
+    let c6 = c3 .before .before .before in
+    let c7 = c6 .before in
+    let c9 = c7 .before .before in
     let c10 = c9 .before in
-    let c14 = c10 .before .before .before .before in
-    let a = c14 .args in
-    let g = c14 .pre in
-    laws.part-read (a .s .now) (a .p .cursor) (a .p .tables) (sym (c9 .if1 .left) ∙ c10 .name-fault .ensures .0 _ (g .fits) _ 0) _
-    (laws.output-found _ _ _ _ (c6 .find .ensures .0)) (c .before .advance .result) _ (c5 .if2 .left) (c .before .before .if3 .left) (g .holds)
-    (c .before .advance .ensures .0) (c .output-part .ensures)
+    let c13 = c10 .before .before .before in
+    let a = c13 .args in
+    λ t g.
+    let x = c .output-part .ensures t (record { fits = c .before .before .advance .ensures .0 .fits; holds = g .holds }) in
+    record {
+      reads = laws.part-read (a .s .now) (a .t3 .cursor) (beside t (a .names .now) (a .t3) .tables)
+          (sym (c9 .if1 .left) ∙ c10 .name-fault .ensures .0 _ (g .fits) _ 0) _ (laws.output-found _ _ _ _ (c7 .find .ensures .0)) (c .before .before .advance .result) _
+          (c6 .if2 .left) (c3 .if3 .left) (g .holds) (c .before .before .advance .ensures .0) (x .reads);
+      count = x .count;
+    }
 
 pub defuzzify-named-spec : {M : Type 1} → statement M
 defuzzify-named-spec =

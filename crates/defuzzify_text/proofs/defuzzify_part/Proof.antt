@@ -5,18 +5,30 @@ use Rattle.defuzzify_text.proofs.defuzzify_part.Statement.{statement}
 use Rattle.defuzzify_text.proofs.defuzzify_part.Tie as tie
 
 expect-requires : tie.Need-expect-requires
-expect-requires c κs = (c .before .before .pre .fits, omega arith)
+expect-requires c κs = (c .before .before .pre .good .fits, omega arith)
 
 defuzzify-named-requires : tie.Need-defuzzify-named-requires
-defuzzify-named-requires c κs = record { fits = c .expect .ensures .0 .fits; holds = c .before .before .before .pre .holds }
+defuzzify-named-requires c κs =
+    let c4 = c .before .before .before .before in
+    let r = c4 .pre in
+    record { tables = r .tables; good = record { fits = c .before .expect .ensures .0 .fits; holds = r .good .holds } }
 
 returns : tie.Need-returns
 unfolding defuzzify
 returns c =
-    let c4 = c .before .before .before .before in (
-      reading.next (reading.step _ (c4 .pre .holds) (c .before .expect .ensures .0)) (c .defuzzify-named .ensures),
-      λ h. omega (arith, c .before .expect .ensures .1 h, c .defuzzify-named .ensures .fewer),
+    let c5 = c .before .before .before .before .before in
+    let r = c5 .pre in
+    let d = c .before .before .expect .ensures in (
+      λ t g.
+          let x = c .defuzzify-named .ensures t (record { fits = d .0 .fits; holds = g .holds }) in
+          record { reads = reading.next (reading.step _ (g .holds) (d .0)) (x .reads); count = x .count },
+      λ h. omega (arith, d .1 h, c .defuzzify-named .ensures (r .tables) (record { fits = d .0 .fits; holds = r .good .holds }) .reads .fewer),
     )
 
 pub defuzzify-part-spec : {M : Type 1} → statement M
-defuzzify-part-spec = tie.close (tie.spec expect-requires defuzzify-named-requires returns)
+defuzzify-part-spec =
+    tie.close
+    (tie.spec
+    expect-requires
+    defuzzify-named-requires
+    returns)

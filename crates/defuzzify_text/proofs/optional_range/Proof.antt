@@ -1,16 +1,20 @@
 use native.Mathlib.Omega.{arith}
 use Rattle.defuzzify_text.proofs.Laws as laws
+use Rattle.defuzzify_text.specs.Output.{beside}
 use Rattle.cursor.proofs.Laws.{steps}
 use Rattle.defuzzify_text.proofs.optional_range.Statement.{statement}
 use Rattle.defuzzify_text.proofs.optional_range.Tie as tie
 
 returns : tie.Need-returns
-returns c = let a = c .before .before .before .before .args in
-    let g = c .before .before .before .before .pre in
-    laws.range-not (a .s .now) (a .p .cursor) (a .p .tables) (a .o) (c .if1 .taken) (g .0)
+returns c =
+    let c4 = c .before .before .before .before in
+    let a = c4 .args in
+    λ names t g. laws.range-not (a .s .now) (a .p .cursor) (beside t names (a .p) .tables) (a .o) (c .if1 .taken) g
 
 advance-requires : tie.Need-advance-requires
-advance-requires c κs = (c .before .before .before .before .pre .0 .fits, λ q. omega (arith, c .if1 .left))
+advance-requires c κs =
+    let c4 = c .before .before .before .before in
+    (c4 .pre .0 .1 .good .fits, λ q. omega (arith, c .if1 .left))
 
 expect-requires : tie.Need-expect-requires
 expect-requires c κs = (c .advance .ensures .0 .fits, omega arith)
@@ -18,17 +22,25 @@ expect-requires c κs = (c .advance .ensures .0 .fits, omega arith)
 range-from-requires : tie.Need-range-from-requires
 range-from-requires c κs =
     let c6 = c .before .before .before .before .before .before in
-    (record { fits = c .expect .ensures .0 .fits; holds = c6 .pre .0 .holds }, c6 .pre .1)
+    let r = c6 .pre .0 .1 in
+    ((_, record { tables = r .tables; good = record { fits = c .expect .ensures .0 .fits; holds = r .good .holds } }), c6 .pre .1)
 
 returns-2 : tie.Need-returns-2
 returns-2 c =
     let c3 = c .before .before .before in
     let c7 = c3 .before .before .before .before in
     let a = c7 .args in
-    let g = c7 .pre in
-    laws.range-given (a .s .now) (a .p .cursor) (a .p .tables) (a .o) (c .before .expect .result) _ (c3 .if1 .left) (g .0 .holds)
-    (steps (c .before .before .advance .ensures .0) (c .before .expect .ensures .0)) (c .range-from .ensures)
+    λ names t g.
+    laws.range-given (a .s .now) (a .p .cursor) (beside t names (a .p) .tables) (a .o) (c .before .expect .result) _ (c3 .if1 .left) (g .holds)
+    (steps (c .before .before .advance .ensures .0) (c .before .expect .ensures .0))
+    (c .range-from .ensures names t (record { fits = c .before .expect .ensures .0 .fits; holds = g .holds }))
 
 pub optional-range-spec : {M : Type 1} → statement M
 optional-range-spec =
-    tie.close (tie.spec returns advance-requires expect-requires range-from-requires returns-2)
+    tie.close
+    (tie.spec
+    returns
+    advance-requires
+    expect-requires
+    range-from-requires
+    returns-2)

@@ -3,13 +3,14 @@ use native.Mathlib.Omega.{arith}
 use borrow.Author.Needs.{needs}
 use Rattle.number_tokens.proofs.Laws.{value-here}
 use Rattle.defuzzify_text.proofs.Laws as laws
+use Rattle.defuzzify_text.specs.Output.{beside}
 use Rattle.cursor.proofs.Laws.{steps}
 use Rattle.parse_state.proofs.Laws as reading
 use Rattle.defuzzify_text.proofs.range_from.Statement.{statement}
 use Rattle.defuzzify_text.proofs.range_from.Tie as tie
 
 crisp-here-requires : tie.Need-crisp-here-requires
-crisp-here-requires c κs = c .before .before .pre .0 .fits
+crisp-here-requires c κs = c .before .before .pre .0 .1 .good .fits
 
 refuse-requires : tie.Need-refuse-requires
 refuse-requires c κs = search needs
@@ -18,14 +19,13 @@ returns : tie.Need-returns
 returns c =
     let c5 = c .before .before .before .before .before in
     let a = c5 .args in
-    let g = c5 .pre in
-    laws.range-lost (a .s .now) (a .p .cursor) (c .refuse .result) (a .p .tables) (a .o) _ (c .before .before .crisp-here .ensures .0 _ 0)
-    (c .before .if1 .taken) (g .0 .holds) (c .refuse .ensures .1 .1) (c .refuse .ensures .0 _ (g .0 .fits))
+    λ names t g. laws.range-lost (a .s .now) (a .p .cursor) (c .refuse .result) (beside t names (a .p) .tables) (a .o) _ (c .before .before .crisp-here .ensures .0 _ 0)
+    (c .before .if1 .taken) (g .holds) (c .refuse .ensures .1 .1) (c .refuse .ensures .0 _ (g .fits))
 
 advance-requires : tie.Need-advance-requires
 advance-requires c κs =
     let c5 = c .before .before .before .before .before in
-    (c5 .pre .0 .fits, λ q. omega (arith, c .before .before .crisp-here .ensures .1 .1 (c .before .if1 .left)))
+    (c5 .pre .0 .1 .good .fits, λ q. omega (arith, c .before .before .crisp-here .ensures .1 .1 (c .before .if1 .left)))
 
 expect-requires : tie.Need-expect-requires
 expect-requires c κs = (c .advance .ensures .0 .fits, omega arith)
@@ -33,10 +33,14 @@ expect-requires c κs = (c .advance .ensures .0 .fits, omega arith)
 upper-end-requires : tie.Need-upper-end-requires
 upper-end-requires c κs =
     let c7 = c .before .before .before .before .before .before .before in
-    (record { fits = c .expect .ensures .0 .fits; holds = c7 .pre .0 .holds }, c7 .pre .1)
+    let r = c7 .pre .0 .1 in
+    ((_, record { tables = r .tables; good = record { fits = c .expect .ensures .0 .fits; holds = r .good .holds } }), c7 .pre .1)
 
 expect-requires-2 : tie.Need-expect-requires-2
-expect-requires-2 c κs = (c .before .upper-end .ensures .reads .good .fits, omega arith)
+expect-requires-2 c κs =
+    let c9 = c .before .before .before .before .before .before .before .before .before in
+    let r = c9 .pre .0 .1 in
+    (c .before .upper-end .ensures _ (r .tables) (record { fits = c .before .before .expect .ensures .0 .fits; holds = r .good .holds }) .reads .good .fits, omega arith)
 
 expect-requires-3 : tie.Need-expect-requires-3
 expect-requires-3 c κs = (c .expect2 .ensures .0 .fits, omega arith)
@@ -50,16 +54,16 @@ returns-2 c =
     let c8 = c7 .before in
     let c11 = c8 .before .before .before in
     let a = c11 .args in
-    let g = c11 .pre in
     let e = c8 .crisp-here .ensures in
     let z = c7 .if1 .left in
-    let u = c3 .upper-end .ensures in
+    λ names t g.
+    let u = c3 .upper-end .ensures names t (record { fits = c4 .expect .ensures .0 .fits; holds = g .holds }) in
     record {
       reads = reading.also (reading.next (reading.next (reading.next
-          (laws.is-crisp (a .s .now) (a .p .cursor) (c5 .advance .result) (a .p .tables) (a .o) (sym z ∙ e .0 _ 0) (g .0 .holds)
-          (c5 .advance .ensures .0)) (reading.step _ (g .0 .holds) (c4 .expect .ensures .0))) (u .reads))
+          (laws.is-crisp (a .s .now) (a .p .cursor) (c5 .advance .result) (beside t names (a .p) .tables) (a .o) (sym z ∙ e .0 _ 0) (g .holds)
+          (c5 .advance .ensures .0)) (reading.step _ (g .holds) (c4 .expect .ensures .0))) (u .reads))
           (reading.step _ (u .reads .good .holds) (steps (c .before .expect2 .ensures .0) (c .expect3 .ensures .0))))
-          (laws.range-is (a .s .now) (a .p) (a .o) _ (value-here _ _ _ _ (e .1 .0) z));
+          (laws.range-is (a .s .now) (beside t names (a .p)) (a .o) _ (value-here _ _ _ _ (e .1 .0) z));
       count = u .count;
     }
 
