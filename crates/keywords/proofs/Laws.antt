@@ -1,61 +1,71 @@
--- A word beside a row of the table, byte by byte, and words longer than every keyword.
-use mathlib.Core.Path.{_≡_, refl, ap}
+-- Two words byte by byte, words that are no keyword, and keywords by their slots.
+use mathlib.Core.Path.{_≡_, refl, sym, ap, _∙_}
 use mathlib.Core.List.{List, [], _∷_}
-use mathlib.Core.Bool.{Bool, true, false, _&&_, false≢true}
-use Prim.Native.Nat.{ℕ, zero, suc, _+_, _≤_, _<_}
+use mathlib.Core.Bool.{Bool, true, false, _&&_, _||_, not}
+use Prim.Native.Nat.{ℕ, suc, _+_, _≤_, _<_}
 use native.Mathlib.Numerals.{add-one}
 use native.Mathlib.Omega.{arith}
-use borrow.Author.Tests.{eq-eqb, ne-eqb, eqb-true, eqb-false, leb-true}
-use lib.Dec.{eqb, leb}
-use lib.ListN.{length, drop, getD, drop-of-length-le}
-use lib.Seq.{drop-cons, drop-nil}
+use borrow.Author.Tests.{eq-eqb, ne-eqb, eqb-true}
+use lib.Dec.{eqb}
+use lib.ListN.{length, drop, getD}
+use lib.Seq.{drop-cons}
 use Rattle.model.specs.Basic.{all, same, indexOf}
+use Rattle.model.specs.Image.{tab}
 use Rattle.model.specs.Keywords.{keywords, keywordAt}
-use Rattle.laws.proofs.Search.{other-length}
-use Rattle.keywords.specs.Table.{spelling}
+use Rattle.laws.proofs.Lists.{all-at}
+use Rattle.laws.proofs.Places.{same-eq}
+use Rattle.laws.proofs.Tests.{both, clash}
+use Rattle.keywords.specs.Slots.{slotOf, Others}
 
-spelling-end : (l : List ℕ) (k : ℕ) → getD l k 0 ≡ 0 → spelling (drop k l) ≡ []
-unfolding spelling
-spelling-end [] k e = rw (drop-nil {A = ℕ} k)
-spelling-end (b ∷ l) zero e = simp (eq-eqb b 0 e)
-spelling-end (b ∷ l) (suc k) e = spelling-end l k e
+module _ (w t : List ℕ) (k : ℕ) (hw : k < length w) (ht : k < length t) where
+  pub same-more : getD w k 0 ≡ getD t k 0 → same (drop k w) (drop k t) ≡ same (drop (k + 1) w) (drop (k + 1) t)
+  same-more e = rw (add-one, drop-cons w k 0 hw, drop-cons t k 0 ht) (simp (eq-eqb _ _ e))
 
-spelling-more : (l : List ℕ) (k : ℕ) → (getD l k 0 ≡ 0 → ⊥) → spelling (drop k l) ≡ getD l k 0 ∷ spelling (drop (suc k) l)
-unfolding spelling
-spelling-more [] k n = absurd (n refl)
-spelling-more (b ∷ l) zero n = simp (ne-eqb b 0 n)
-spelling-more (b ∷ l) (suc k) n = spelling-more l k n
+  pub same-stop : (getD w k 0 ≡ getD t k 0 → ⊥) → same (drop k w) (drop k t) ≡ false
+  same-stop e = rw (drop-cons w k 0 hw, drop-cons t k 0 ht) (simp (ne-eqb _ _ e))
 
-module _ (w l : List ℕ) (k : ℕ) where
-  pub same-more : k < length w → (getD l k 0 ≡ 0 → ⊥) → getD w k 0 ≡ getD l k 0
-      → same (drop k w) (spelling (drop k l)) ≡ same (drop (k + 1) w) (spelling (drop (k + 1) l))
-  same-more h n e = rw (add-one, drop-cons w k 0 h, spelling-more l k n) (simp (eq-eqb _ _ e))
-
-  pub same-short : k < length w → getD l k 0 ≡ 0 → same (drop k w) (spelling (drop k l)) ≡ false
-  same-short h e = rw (drop-cons w k 0 h, spelling-end l k e)
-
-  pub same-stop : k < length w → (getD l k 0 ≡ 0 → ⊥) → (getD w k 0 ≡ getD l k 0 → ⊥) → same (drop k w) (spelling (drop k l)) ≡ false
-  same-stop h n e = rw (drop-cons w k 0 h, spelling-more l k n) (simp (ne-eqb _ _ e))
-
-  pub same-end : length w ≤ k → same (drop k w) (spelling (drop k l)) ≡ eqb (getD l k 0) 0
-  same-end h = rw (drop-of-length-le w h) (go (eqb (getD l k 0) 0) refl)
-    where
-      go : (b : Bool) → eqb (getD l k 0) 0 ≡ b → same [] (spelling (drop k l)) ≡ b
-      go true e = rw (spelling-end l k (eqb-true _ _ e))
-      go false e = rw (spelling-more l k (eqb-false _ _ e))
-
-index-length : (n : ℕ) (w : List ℕ) (ks : List (List ℕ)) → n < length w → all (λ k. leb (length k) n) ks ≡ true → indexOf (same w) ks ≡ length ks
+-- a word that fails a test that the others pass is none of them
+pub unlike : (f : List ℕ → Bool) (w : List ℕ) → f w ≡ false → (ks : List (List ℕ)) → all f ks ≡ true → indexOf (same w) ks ≡ length ks
 unfolding all
-index-length n w [] h e = refl
-index-length n w (k ∷ ks) h e = go (index-length n w ks h) (leb (length k) n) refl e
+unlike f w q [] e = refl
+unlike f w q (k ∷ ks) e = go (both (f k) (all f ks) e) (unlike f w q ks) (same w k) refl
   where
-    go : (all (λ k. leb (length k) n) ks ≡ true → indexOf (same w) ks ≡ length ks) → (b : Bool) → leb (length k) n ≡ b
-        → b && all (λ k. leb (length k) n) ks ≡ true
+    go : (f k ≡ true) × (all f ks ≡ true) → (all f ks ≡ true → indexOf (same w) ks ≡ length ks) → (b : Bool) → same w k ≡ b
         → indexOf (same w) (k ∷ ks) ≡ length (k ∷ ks)
-    go ih true q r = let g = leb-true (length k) n q in rw (indexOf, other-length w k (λ e. omega (arith, e, g, h))) (ap suc (ih r))
-    go ih false q r = absurd (false≢true r)
+    go t ih true p = clash (sym q ∙ ap f (same-eq w k p) ∙ t .0)
+    go t ih false p = rw (indexOf, p) (ap suc (ih (t .1)))
 
--- no keyword is longer than 18 bytes
-pub keyword-long : (w : List ℕ) → 18 < length w → keywordAt w ≡ 43
+-- A KEYWORD'S SLOT: the keyword at i is not found before i, and any other of its slot is itself
+rightSlot : ℕ → Bool
+rightSlot i =
+    eqb (keywordAt (getD keywords i [])) i
+    && all (λ k. not (eqb (slotOf (getD keywords i [])) (slotOf k)) || same k (getD keywords i [])) keywords
+
+right-slot : (i : ℕ) → i < 43 → rightSlot i ≡ true
+unfolding rightSlot all tab
+right-slot i h = let z : 0 + i ≡ i = omega arith in rw z at (all-at rightSlot (λ i. i) 43 0 i h refl)
+
+module _ (w : List ℕ) (i : ℕ) (h : i < 43) where
+  pub slot-keyword : w ≡ getD keywords i [] → keywordAt w ≡ i
+  unfolding rightSlot
+  slot-keyword e = ap keywordAt e ∙ eqb-true _ _ (both _ _ (right-slot i h) .0)
+
+  pub slot-other : slotOf w ≡ slotOf (getD keywords i []) → same w (getD keywords i []) ≡ false → keywordAt w ≡ 43
+  unfolding rightSlot
+  slot-other e n =
+      unlike (λ k. not (eqb (slotOf (getD keywords i [])) (slotOf k)) || same k (getD keywords i [])) w
+      (simp (eq-eqb _ _ (sym e), n)) keywords (both (eqb (keywordAt (getD keywords i [])) i) _ (right-slot i h) .1)
+
+-- NO KEYWORD'S SLOT
+others-front : (T : Type 0) (h : ℕ) (ks : List (List ℕ)) → Others T h ks → T
+others-front T h [] x = x
+others-front T h (k ∷ ks) x = others-front (T × (h ≡ slotOf k → ⊥)) h ks x .0
+
+others-all : (T : Type 0) (h : ℕ) (ks : List (List ℕ)) → Others T h ks → all (λ k. not (eqb h (slotOf k))) ks ≡ true
 unfolding all
-keyword-long w h = index-length 18 w keywords h refl
+others-all T h [] x = refl
+others-all T h (k ∷ ks) x =
+    simp (ne-eqb h (slotOf k) (others-front (T × (h ≡ slotOf k → ⊥)) h ks x .1)) (others-all (T × (h ≡ slotOf k → ⊥)) h ks x)
+
+pub no-slot : (w : List ℕ) (h : ℕ) → h ≡ slotOf w → Others Unit h keywords → keywordAt w ≡ 43
+no-slot w h e x = unlike (λ k. not (eqb h (slotOf k))) w (simp (eq-eqb h (slotOf w) e)) keywords (others-all Unit h keywords x)

@@ -1,96 +1,115 @@
-// The table of keywords.
+// The keywords. Each is alone in its slot, a number by its length, first byte and last byte, so that a word is compared with
+// one of them at most.
 ghost use mathlib.Core.Path.{_≡_};
-ghost use Prim.Native.Nat.{_≤_, _<_};
-ghost use lib.ListN.{length};
-ghost use Rattle.model.specs.Basic.{same, indexOf};
-ghost use Rattle.model.specs.Image.{tab};
-ghost use Rattle.model.specs.Keywords.{keywordAt};
-ghost use Rattle.keywords.specs.Table.{spelt};
+ghost use mathlib.Core.List.{[]};
+ghost use Prim.Native.Nat.{_+_, _*_, _%_, _≤_, _<_};
+ghost use lib.ListN.{length, getD};
+ghost use Rattle.model.specs.Basic.{same};
+ghost use Rattle.model.specs.Keywords.{keywords, keywordAt};
+ghost use Rattle.keywords.specs.Slots.{slotOf, Others};
 
-// How many keywords there are, and how long the longest is.
+// How many keywords there are, how long the longest is, and the last letter that begins one.
 pub const COUNT: usize = 43;
 
 const LONGEST: usize = 18;
 
-// Each keyword, filled up with zeros.
-const TABLE: [[u8; LONGEST + 1]; COUNT] = [
-    *b"ACCU\0\0\0\0\0\0\0\0\0\0\0\0\0\0\0",
-    *b"ACT\0\0\0\0\0\0\0\0\0\0\0\0\0\0\0\0",
-    *b"AND\0\0\0\0\0\0\0\0\0\0\0\0\0\0\0\0",
-    *b"ASUM\0\0\0\0\0\0\0\0\0\0\0\0\0\0\0",
-    *b"BDIF\0\0\0\0\0\0\0\0\0\0\0\0\0\0\0",
-    *b"BSUM\0\0\0\0\0\0\0\0\0\0\0\0\0\0\0",
-    *b"CoA\0\0\0\0\0\0\0\0\0\0\0\0\0\0\0\0",
-    *b"CoG\0\0\0\0\0\0\0\0\0\0\0\0\0\0\0\0",
-    *b"CoGS\0\0\0\0\0\0\0\0\0\0\0\0\0\0\0",
-    *b"DEFAULT\0\0\0\0\0\0\0\0\0\0\0\0",
-    *b"DEFUZZIFY\0\0\0\0\0\0\0\0\0\0",
-    *b"END_DEFUZZIFY\0\0\0\0\0\0",
-    *b"END_FUNCTION_BLOCK\0",
-    *b"END_FUZZIFY\0\0\0\0\0\0\0\0",
-    *b"END_OPTIONS\0\0\0\0\0\0\0\0",
-    *b"END_RULEBLOCK\0\0\0\0\0\0",
-    *b"END_VAR\0\0\0\0\0\0\0\0\0\0\0\0",
-    *b"FUNCTION_BLOCK\0\0\0\0\0",
-    *b"FUZZIFY\0\0\0\0\0\0\0\0\0\0\0\0",
-    *b"IF\0\0\0\0\0\0\0\0\0\0\0\0\0\0\0\0\0",
-    *b"IS\0\0\0\0\0\0\0\0\0\0\0\0\0\0\0\0\0",
-    *b"LM\0\0\0\0\0\0\0\0\0\0\0\0\0\0\0\0\0",
-    *b"MAX\0\0\0\0\0\0\0\0\0\0\0\0\0\0\0\0",
-    *b"METHOD\0\0\0\0\0\0\0\0\0\0\0\0\0",
-    *b"MIN\0\0\0\0\0\0\0\0\0\0\0\0\0\0\0\0",
-    *b"NC\0\0\0\0\0\0\0\0\0\0\0\0\0\0\0\0\0",
-    *b"NOT\0\0\0\0\0\0\0\0\0\0\0\0\0\0\0\0",
-    *b"NSUM\0\0\0\0\0\0\0\0\0\0\0\0\0\0\0",
-    *b"OPTIONS\0\0\0\0\0\0\0\0\0\0\0\0",
-    *b"OR\0\0\0\0\0\0\0\0\0\0\0\0\0\0\0\0\0",
-    *b"PROD\0\0\0\0\0\0\0\0\0\0\0\0\0\0\0",
-    *b"RANGE\0\0\0\0\0\0\0\0\0\0\0\0\0\0",
-    *b"RM\0\0\0\0\0\0\0\0\0\0\0\0\0\0\0\0\0",
-    *b"RULE\0\0\0\0\0\0\0\0\0\0\0\0\0\0\0",
-    *b"RULEBLOCK\0\0\0\0\0\0\0\0\0\0",
-    *b"TERM\0\0\0\0\0\0\0\0\0\0\0\0\0\0\0",
-    *b"THEN\0\0\0\0\0\0\0\0\0\0\0\0\0\0\0",
-    *b"VAR\0\0\0\0\0\0\0\0\0\0\0\0\0\0\0\0",
-    *b"VAR_INPUT\0\0\0\0\0\0\0\0\0\0",
-    *b"VAR_OUTPUT\0\0\0\0\0\0\0\0\0",
-    *b"WITH\0\0\0\0\0\0\0\0\0\0\0\0\0\0\0",
-    *b"REAL\0\0\0\0\0\0\0\0\0\0\0\0\0\0\0",
-    *b"INT\0\0\0\0\0\0\0\0\0\0\0\0\0\0\0\0",
-];
+const LAST: u8 = 87;
 
-// The word is the keyword of row i.
-fn is_row(w: &[u8], t: &[[u8; LONGEST + 1]; COUNT], i: usize) -> bool
-    requires { ⌜ (length (now w) ≤ 18) × (i < 43) ⌝ }
-    ensures { λ r. ⌜ r ≡ same (now (w .entry)) (spelt (now (t .entry)) i) ⌝ }
+fn is_word(w: &[u8], t: &[u8]) -> bool
+    ensures { λ r. ⌜ r ≡ same (now (w .entry)) (now (t .entry)) ⌝ }
 {
-    let mut k = 0;
-    while k < w.len() {
-        if t[i][k] == 0 {
-            return false;
-        }
-        if w[k] != t[i][k] {
-            return false;
-        }
-        k += 1;
+    if w.len() != t.len() {
+        return false;
     }
-    t[i][k] == 0
-}
-
-// The first row of the table that is the word; COUNT where none is.
-fn row_of(w: &[u8], t: &[[u8; LONGEST + 1]; COUNT]) -> usize
-    requires { ⌜ length (now w) ≤ 18 ⌝ }
-    ensures { λ r. ⌜ r ≡ indexOf (same (now (w .entry))) (tab (spelt (now (t .entry))) 43 0) ⌝ }
-    ensures within { λ r. ⌜ r ≤ 43 ⌝ }
-{
     let mut i = 0;
-    while i < COUNT {
-        if is_row(w, t, i) {
-            return i;
+    while i < t.len() {
+        if w[i] != t[i] {
+            return false;
         }
         i += 1;
     }
-    i
+    true
+}
+
+// The place of the keyword t, the one of the word's slot, where it is the word.
+fn place(w: &[u8], t: &[u8], i: usize) -> usize
+    requires { ⌜ slotOf (now w) ≡ slotOf (now t) ⌝ }
+    requires row { ⌜ (now t ≡ getD keywords i []) × (i < 43) ⌝ }
+    ensures { λ r. ⌜ (r ≡ keywordAt (now (w .entry))) × (r ≤ 43) ⌝ }
+{
+    if is_word(w, t) {
+        return i;
+    }
+    COUNT
+}
+
+// No keyword is of the word's slot h.
+fn no_place(w: &[u8], h: usize) -> usize
+    requires { ⌜ (h ≡ slotOf (now w)) × Others Unit h keywords ⌝ }
+    ensures { λ r. ⌜ (r ≡ keywordAt (now (w .entry))) × (r ≤ 43) ⌝ }
+{
+    COUNT
+}
+
+// The word of slot h beside the keyword of that slot.
+fn in_slot(w: &[u8], h: usize) -> usize
+    requires { ⌜ h ≡ slotOf (now w) ⌝ }
+    ensures { λ r. ⌜ (r ≡ keywordAt (now (w .entry))) × (r ≤ 43) ⌝ }
+{
+    match h {
+        100 => place(w, b"ACCU", 0),
+        85 => place(w, b"ACT", 1),
+        53 => place(w, b"AND", 2),
+        84 => place(w, b"ASUM", 3),
+        76 => place(w, b"BDIF", 4),
+        90 => place(w, b"BSUM", 5),
+        59 => place(w, b"CoA", 6),
+        71 => place(w, b"CoG", 7),
+        108 => place(w, b"CoGS", 8),
+        27 => place(w, b"DEFAULT", 9),
+        63 => place(w, b"DEFUZZIFY", 10),
+        121 => place(w, b"END_DEFUZZIFY", 11),
+        30 => place(w, b"END_FUNCTION_BLOCK", 12),
+        95 => place(w, b"END_FUZZIFY", 13),
+        83 => place(w, b"END_OPTIONS", 14),
+        93 => place(w, b"END_RULEBLOCK", 15),
+        29 => place(w, b"END_VAR", 16),
+        112 => place(w, b"FUNCTION_BLOCK", 17),
+        49 => place(w, b"FUZZIFY", 18),
+        92 => place(w, b"IF", 19),
+        118 => place(w, b"IS", 20),
+        124 => place(w, b"LM", 21),
+        37 => place(w, b"MAX", 22),
+        36 => place(w, b"METHOD", 23),
+        17 => place(w, b"MIN", 24),
+        116 => place(w, b"NC", 25),
+        35 => place(w, b"NOT", 26),
+        34 => place(w, b"NSUM", 27),
+        91 => place(w, b"OPTIONS", 28),
+        24 => place(w, b"OR", 29),
+        28 => place(w, b"PROD", 30),
+        55 => place(w, b"RANGE", 31),
+        32 => place(w, b"RM", 32),
+        42 => place(w, b"RULE", 33),
+        119 => place(w, b"RULEBLOCK", 34),
+        70 => place(w, b"TERM", 35),
+        72 => place(w, b"THEN", 36),
+        79 => place(w, b"VAR", 37),
+        33 => place(w, b"VAR_INPUT", 38),
+        46 => place(w, b"VAR_OUTPUT", 39),
+        78 => place(w, b"WITH", 40),
+        56 => place(w, b"REAL", 41),
+        5 => place(w, b"INT", 42),
+        _ => no_place(w, h),
+    }
+}
+
+// The slot of the words of n bytes that begin with a and end in z.
+fn slot(n: usize, a: u8, z: u8) -> usize
+    requires { ⌜ n ≤ 18 ⌝ }
+    ensures { λ r. ⌜ r ≡ (13 * n + 6 * a + 2 * z) % 128 ⌝ }
+{
+    (13 * n + 6 * (a as usize) + 2 * (z as usize)) % 128
 }
 
 // Which keyword the word is; COUNT where it is none.
@@ -98,8 +117,15 @@ pub fn keyword_at(w: &[u8]) -> usize
     ensures { λ r. ⌜ r ≡ keywordAt (now (w .entry)) ⌝ }
     ensures within { λ r. ⌜ r ≤ 43 ⌝ }
 {
-    if LONGEST < w.len() {
+    let n = w.len();
+    if n < 2 {
         return COUNT;
     }
-    row_of(w, &TABLE)
+    if LONGEST < n {
+        return COUNT;
+    }
+    if LAST < w[0] {
+        return COUNT;
+    }
+    in_slot(w, slot(n, w[0], w[n - 1]))
 }
