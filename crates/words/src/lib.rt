@@ -35,7 +35,7 @@ pub fn word(img: &[u8], i: usize) -> usize
     ensures { λ r. ⌜ (r ≡ wordAt (now (img .entry)) i) × (r ≤ 4294967295) ⌝ }
 {
     let k = i * 4;
-    if k + 3 < img.len() {
+    if k + 4 <= img.len() {
         return joined(
             wide(img[k]),
             wide(img[k + 1]),
