@@ -1,9 +1,10 @@
 -- The words of an image against its bytes.
 use mathlib.Core.Path.{_≡_, refl, sym, _∙_}
 use mathlib.Core.List.{List, [], _∷_}
-use Prim.Native.Nat.{ℕ, suc, _+_, _*_, _/_, _%_, _≤_, _<_}
+use Prim.Native.Nat.{ℕ, suc, _+_, _-_, _*_, _/_, _%_, _≤_, _<_}
 use native.Mathlib.Omega.{arith}
-use lib.ListN.{length, getD}
+use lib.ListN.{length, getD, take, drop}
+use lib.Seq.{getD-take, getD-drop}
 use Rattle.model.specs.Basic.{gather}
 use Rattle.model.specs.Image.{wordAt, bytesOf}
 use Rattle.laws.proofs.Places.{At}
@@ -63,6 +64,27 @@ bytes-at (a ∷ b ∷ c ∷ d ∷ img) (x ∷ ws) f e h =
     let qd : d ≡ x / 16777216 = omega arith in
     let r = bytes-at img ws (λ k. f (suc (suc (suc (suc k))))) (omega arith) (at-pred _ _ 0 ws (word-next a b c d img) (h .1)) in
     λ j. qa j ∷ qb j ∷ qc j ∷ qd j ∷ r j
+
+-- the word of the four bytes that code lends from place k on
+module _ (img : List ℕ) (k : ℕ) where
+  abbrev part : List ℕ
+  part = take (k + 4 - k) (drop k img)
+
+  part-at : (j : ℕ) → j < 4 → getD part j 0 ≡ getD img (k + j) 0
+  part-at j h = getD-take (k + 4 - k) (drop k img) j 0 (omega arith) ∙ getD-drop k img j 0
+
+pub part-word : (img : List ℕ) (i a b c d r : ℕ)
+    → a ≡ getD (part img (i * 4)) 0 0 → b ≡ getD (part img (i * 4)) 1 0 → c ≡ getD (part img (i * 4)) 2 0 → d ≡ getD (part img (i * 4)) 3 0
+    → r ≡ a + b * 256 + c * 65536 + d * 16777216 → r ≡ wordAt img i
+unfolding wordAt
+part-word img i a b c d r ea eb ec ed er =
+    let at = part-at img (i * 4) in
+    let z : i * 4 + 0 ≡ i * 4 = omega arith in
+    let qa = rw z at (ea ∙ at 0 (omega arith)) in
+    let qb = eb ∙ at 1 (omega arith) in
+    let qc = ec ∙ at 2 (omega arith) in
+    let qd = ed ∙ at 3 (omega arith) in
+    er ∙ (λ j. qa j + qb j * 256 + qc j * 65536 + qd j * 16777216)
 
 -- four bytes make a word of 32 bits
 pub word-fits : (img : List ℕ) → ((k : ℕ) → getD img k 0 < 256) → (i : ℕ) → wordAt img i ≤ 4294967295

@@ -29,19 +29,15 @@ fn joined(a: u32, b: u32, c: u32, d: u32) -> usize
     (a + b * 256 + c * 65536 + d * 16777216) as usize
 }
 
-// The word at place i: one load where all its bytes are there.
+// The word at place i: one load where all its bytes are there, by their fixed places in a part.
 pub fn word(img: &[u8], i: usize) -> usize
     requires { ⌜ i ≤ 1000000000000 ⌝ }
     ensures { λ r. ⌜ (r ≡ wordAt (now (img .entry)) i) × (r ≤ 4294967295) ⌝ }
 {
     let k = i * 4;
     if k + 3 < img.len() {
-        return joined(
-            wide(img[k]),
-            wide(img[k + 1]),
-            wide(img[k + 2]),
-            wide(img[k + 3]),
-        );
+        let s = &img[k..k + 4];
+        return joined(wide(s[0]), wide(s[1]), wide(s[2]), wide(s[3]));
     }
     joined(
         wide(byte(img, k)),

@@ -1,4 +1,6 @@
 use Rattle.model.specs.Image.{wordAt}
+use native.Mathlib.Omega.{arith}
+use Rattle.words.proofs.Bytes.{part-word}
 use borrow.Author.Needs.{needs}
 use Rattle.words.proofs.word.Statement.{statement}
 use Rattle.words.proofs.word.Tie as tie
@@ -9,14 +11,23 @@ mul-k c = search needs
 add-if1 : tie.Need-add-if1
 add-if1 c = search needs
 
+add-s : tie.Need-add-s
+add-s c = search needs
+
+sub-s : tie.Need-sub-s
+sub-s c = search needs
+
+part-s-start : tie.Need-part-s-start
+part-s-start c = search needs
+
+part-s-end : tie.Need-part-s-end
+part-s-end c = search needs
+
 shared-slice-read-wide : tie.Need-shared-slice-read-wide
 shared-slice-read-wide c = search needs
 
 wide-requires : tie.Need-wide-requires
 wide-requires c κs = search needs
-
-add-wide : tie.Need-add-wide
-add-wide c = search needs
 
 shared-slice-read-wide-2 : tie.Need-shared-slice-read-wide-2
 shared-slice-read-wide-2 c = search needs
@@ -24,17 +35,11 @@ shared-slice-read-wide-2 c = search needs
 wide-requires-2 : tie.Need-wide-requires-2
 wide-requires-2 c κs = search needs
 
-add-wide-2 : tie.Need-add-wide-2
-add-wide-2 c = search needs
-
 shared-slice-read-wide-3 : tie.Need-shared-slice-read-wide-3
 shared-slice-read-wide-3 c = search needs
 
 wide-requires-3 : tie.Need-wide-requires-3
 wide-requires-3 c κs = search needs
-
-add-wide-3 : tie.Need-add-wide-3
-add-wide-3 c = search needs
 
 shared-slice-read-wide-4 : tie.Need-shared-slice-read-wide-4
 shared-slice-read-wide-4 c = search needs
@@ -46,8 +51,14 @@ joined-requires : tie.Need-joined-requires
 joined-requires c κs = search needs
 
 returns : tie.Need-returns
-unfolding wordAt
-returns c = search needs
+returns c =
+    let d = c .before in
+    let b = d .before .before .before .before in
+    let w4 = d .wide4 .ensures in
+    let w3 = d .before .before .wide3 .ensures in
+    let w2 = b .wide2 .ensures in
+    let w1 = b .before .before .wide .ensures in
+    (part-word _ _ _ _ _ _ _ (w1 .0) (w2 .0) (w3 .0) (w4 .0) (c .joined .ensures), omega arith)
 
 byte-requires : tie.Need-byte-requires
 byte-requires c κs = search needs
@@ -95,15 +106,16 @@ word-spec =
     (tie.spec
     mul-k
     add-if1
+    add-s
+    sub-s
+    part-s-start
+    part-s-end
     shared-slice-read-wide
     wide-requires
-    add-wide
     shared-slice-read-wide-2
     wide-requires-2
-    add-wide-2
     shared-slice-read-wide-3
     wide-requires-3
-    add-wide-3
     shared-slice-read-wide-4
     wide-requires-4
     joined-requires
