@@ -1,7 +1,7 @@
 // The rules of a stored image: their rows, numbers, weights, conditions and conclusions.
 ghost use mathlib.Core.Path.{_≡_};
 ghost use mathlib.Core.Bool.{true, _&&_, not};
-ghost use Prim.Native.Nat.{ℕ, _≤_, _<_};
+ghost use Prim.Native.Nat.{ℕ, _+_, _-_, _≤_, _<_};
 ghost use lib.Dec.{eqb};
 ghost use Rattle.model.specs.Basic.{all, between, distinct, isEmpty};
 ghost use Rattle.model.specs.Bounds.{ruleLimit, ruleNumberLeast, ruleNumberLimit};
@@ -19,7 +19,7 @@ use header::rule_row;
 use stored_conditions::StoredCondition;
 use words::word;
 
-// Rule numbers, and 0.
+// Above all rule numbers.
 const NUMBERS: usize = bounds::RULE_NUMBER + 1;
 
 pub fn number_ok(img: &[u8], h: Header, i: usize) -> bool
@@ -164,21 +164,50 @@ fn rows_ok(img: &[u8], h: Header, m: usize) -> bool
     k == h.conclusions
 }
 
-// From the last rule on, each number is marked; one that is marked already stands twice.
+// Whether no later rule has the number of rule i; none of theirs is below `least`.
+fn differs(img: &[u8], h: Header, i: usize, number: usize, least: usize) -> bool
+    requires { ⌜ Heads (wordAt (now img)) h × (h .rules ≤ ruleLimit) × (i < h .rules)
+        × ((j : ℕ) → i < j → j < h .rules → least ≤ ruleNumber (wordAt (now img)) j) ⌝ }
+    ensures { λ r. ⌜ r ≡ all (λ n. not (eqb number n))
+        (tab (ruleNumber (wordAt (now (img .entry)))) (h .rules - (i + 1)) (i + 1)) ⌝ }
+{
+    if number < least {
+        return true;
+    }
+    let e = h.rules;
+    let mut j = i + 1;
+    while j < e {
+        if number == word(img, rule_row(h, j)) {
+            return false;
+        }
+        j += 1;
+    }
+    true
+}
+
+fn lesser(a: usize, b: usize) -> usize
+    ensures { λ r. ⌜ (r ≤ a) × (r ≤ b) ⌝ }
+{
+    if a < b {
+        return a;
+    }
+    b
+}
+
+// From the last rule on: where the numbers rise, each is below all later ones, and nothing more is compared.
 fn numbers_distinct(img: &[u8], h: Header) -> bool
-    requires { ⌜ Heads (wordAt (now img)) h × (h .rules ≤ ruleLimit)
-        × ((i : ℕ) → i < h .rules → ruleNumber (wordAt (now img)) i ≤ ruleNumberLimit) ⌝ }
+    requires { ⌜ Heads (wordAt (now img)) h × (h .rules ≤ ruleLimit) ⌝ }
     ensures { λ r. ⌜ r ≡ distinct eqb (tab (ruleNumber (wordAt (now (img .entry)))) (h .rules) 0) ⌝ }
 {
-    let mut marked = [false; NUMBERS];
+    let mut least = NUMBERS;
     let mut i = h.rules;
     while 0 < i {
         i -= 1;
         let number = word(img, rule_row(h, i));
-        if marked[number] {
+        if !differs(img, h, i, number, least) {
             return false;
         }
-        marked[number] = true;
+        least = lesser(number, least);
     }
     true
 }
