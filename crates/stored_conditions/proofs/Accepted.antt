@@ -15,21 +15,38 @@ use Rattle.model.specs.WellFormed.{termsBelow}
 use Rattle.model.specs.Image.{postfix, treeOf}
 use Rattle.laws.proofs.Tests.{both, and-i, iff}
 use Rattle.laws.proofs.Places.{same-eq, same-refl}
-use Rattle.stored_conditions.specs.declared.Shape.{Shape}
-use Rattle.stored_conditions.specs.Shapes.{shape, negatedShape, joinedShape, shapes}
+use Rattle.stored_conditions.specs.Shapes.{shape, formOf, depthOf, negatedShape, joinedShape, shapes}
 use Rattle.stored_conditions.specs.Stored.{isCondition}
 use Rattle.stored_conditions.proofs.Trees.{tree-postfix}
-use Rattle.stored_conditions.proofs.Room.{opened-ge}
+use Rattle.stored_conditions.proofs.Room.{form-le, opened-ge}
 use Rattle.stored_conditions.proofs.Passes.{fold, pass, Allowed, allowed-fine, pass-postfix, pass-one}
+
+module _ (k d : ℕ) (h : k ≤ 4) where
+  pub form-shape : formOf (shape k d) ≡ k
+  form-shape = omega arith
+
+  pub depth-shape : depthOf (shape k d) ≡ d
+  depth-shape = omega arith
 
 fold-shape : (m : ℕ) (c : Condition) → fold (shapes m) c ≡ shape (form c) (depth c)
 unfolding fold negatedShape joinedShape form depth
 fold-shape m (term t) = refl
-fold-shape m (neg c) = ap negatedShape (fold-shape m c)
-fold-shape m (two o a b) = rw (fold-shape m a, fold-shape m b) refl
+fold-shape m (neg c) =
+    let f = form-shape (form c) (depth c) (form-le c) in
+    let d = depth-shape (form c) (depth c) (form-le c) in
+    rw (fold-shape m c, f, d) refl
+fold-shape m (two o a b) =
+    let fa = form-shape (form a) (depth a) (form-le a) in
+    let da = depth-shape (form a) (depth a) (form-le a) in
+    let fb = form-shape (form b) (depth b) (form-le b) in
+    let db = depth-shape (form b) (depth b) (form-le b) in
+    rw (fold-shape m a, fold-shape m b, fa, da, fb, db) refl
 
-fine-shape : (m : ℕ) (c : Condition) → depth c ≤ 8 → leb (fold (shapes m) c .depth) 8 ≡ true
-fine-shape m c d = rw (fold-shape m c) (le-leb (depth c) 8 d)
+fold-depth : (m : ℕ) (c : Condition) → depthOf (fold (shapes m) c) ≡ depth c
+fold-depth m c = ap depthOf (fold-shape m c) ∙ depth-shape (form c) (depth c) (form-le c)
+
+fine-shape : (m : ℕ) (c : Condition) → depth c ≤ 8 → leb (depthOf (fold (shapes m) c)) 8 ≡ true
+fine-shape m c d = rw (fold-depth m c) (le-leb (depth c) 8 d)
 
 allowed : (m : ℕ) (c : Condition) → termsBelow m c ≡ true → depth c ≤ 8 → Allowed (shapes m) c
 unfolding Allowed termsBelow depth
@@ -51,7 +68,7 @@ allowed-terms m (neg c) k = allowed-terms m c (k .0)
 allowed-terms m (two o a b) k = and-i _ _ (allowed-terms m a (k .0 .0)) (allowed-terms m b (k .0 .1))
 
 allowed-depth : (m : ℕ) (c : Condition) → Allowed (shapes m) c → leb (depth c) depthLimit ≡ true
-allowed-depth m c k = rw (fold-shape m c) at (allowed-fine (shapes m) c k)
+allowed-depth m c k = rw (fold-depth m c) at (allowed-fine (shapes m) c k)
 
 -- what isCondition says
 pub condition-in : (m : ℕ) (ws : List ℕ) → isCondition m ws ≡ true
@@ -94,7 +111,7 @@ condition-left m ws e =
     let r = condition-in m ws e in
     let c = treeOf ws in
     ap (λ (l : List ℕ). pass (shapes m) l (some [])) (r .0) ∙ pass-postfix (shapes m) c (allowed m c (r .1) (r .2)) (r .2)
-    ∙ ap (λ (x : Shape). some (x ∷ [])) (fold-shape m c)
+    ∙ ap (λ (x : ℕ). some (x ∷ [])) (fold-shape m c)
 
 accepts-out : (m : ℕ) (ws : List ℕ) → isCondition m ws ≡ true → accepts m ws ≡ true
 unfolding accepts

@@ -1,75 +1,121 @@
 -- The code's places against the machine on forms and depths.
 use mathlib.Core.Path.{_≡_, refl, sym, ap, _∙_}
 use mathlib.Core.List.{List}
-use mathlib.Core.Bool.{true, false}
+use mathlib.Core.Bool.{Bool, true, false}
 use mathlib.Core.Option.{none, some}
-use Prim.Native.Nat.{ℕ, zero, suc, _-_, _≤_, _<_, max}
+use Prim.Native.Nat.{ℕ, zero, suc, _+_, _-_, _/_, _≤_, _<_, max}
 use native.Mathlib.Omega.{arith}
-use borrow.Author.Tests.{ne-eqb, eqb-true}
-use lib.Dec.{eqb}
-use lib.ListN.{getD}
+use borrow.Author.Tests.{ne-eqb, eqb-true, lt-ltb, le-ltb, ltb-true, ltb-false, le-leb, lt-leb}
+use lib.Dec.{eqb, ltb, leb}
+use lib.ListN.{length, getD, set}
 use Rattle.model.specs.Block.{Op, and, or}
 use Rattle.model.specs.Parentheses.{rank, negatedForm, form, bareLeft, bareRight, opened, depth}
 use Rattle.model.specs.Image.{treeOf, tab}
-use Rattle.stored_conditions.specs.declared.Shape.{Shape}
-use Rattle.stored_conditions.specs.declared.Stack.{Stack}
-use Rattle.stored_conditions.specs.Machine.{added, unary, binary, stackOf}
-use Rattle.stored_conditions.specs.Shapes.{shape, shapes, negatedShape, joinedShape, shapeStack, view}
+use Rattle.stored_conditions.specs.Machine.{room, added, unary, binary, stackOf}
+use Rattle.stored_conditions.specs.Shapes.{shape, formOf, depthOf, shapes, negatedShape, joinedShape, view}
 use Rattle.stored_conditions.specs.Stored.{conditionStored}
-use Rattle.stored_conditions.proofs.Stacks.{stack-one, stack-two}
+use Rattle.stored_conditions.proofs.Room.{form-le}
+use Rattle.stored_conditions.proofs.Stacks.{length-stack, stack-push, stack-one, stack-two}
 use Rattle.stored_conditions.proofs.Passes.{Left, left-end, left-none}
-use Rattle.stored_conditions.proofs.Accepted.{isOne, accepts, accepts-is, condition-left}
+use Rattle.stored_conditions.proofs.Accepted.{form-shape, depth-shape, isOne, accepts, accepts-is, condition-left}
 
-abbrev at′ : List Shape → ℕ → Shape
-at′ l i = getD l i (shape 0 0)
+abbrev at′ : List ℕ → ℕ → ℕ
+at′ l i = getD l i 0
+
+-- where forms up to l stand bare, a looser one carries
+pub opening-is : (l s : ℕ) → l ≤ 4 → (s + 7 - l) / 8 ≡ opened l (formOf s) (depthOf s)
+opening-is l s h = go (ltb l (formOf s)) refl
+  where
+    go : (b : Bool) → ltb l (formOf s) ≡ b → (s + 7 - l) / 8 ≡ opened l (formOf s) (depthOf s)
+    go true e = let p = ltb-true l (formOf s) e in rw e (omega arith)
+    go false e = let p = ltb-false l (formOf s) e in rw e (omega arith)
 
 left-is : (o : Op) → bareLeft o ≡ rank o
 left-is and = refl
 left-is or = refl
 
-pub join-is : (m : ℕ) (o : Op) (l : List Shape) (n k r z : ℕ) → 2 ≤ n → k ≡ rank o → r ≡ bareRight o
-    → z ≡ max (opened k (at′ l (n - 2) .form) (at′ l (n - 2) .depth)) (opened r (at′ l (n - 1) .form) (at′ l (n - 1) .depth))
-    → added (shapes m) (shape k z) (shapeStack l (n - 2)) ≡ binary (shapes m) o (shapeStack l n)
-unfolding binary joinedShape
-join-is m o l n k r z h e f q = rw (stack-two (shape 0 0) l n h, left-is o, q, e, f) refl
+-- WHAT A STEP ANSWERS
+seen : (l : List ℕ) (n : ℕ) → 0 < n → view l n ≡ some (stackOf 0 l n)
+unfolding view
+seen l n h = simp (ne-eqb n 0 (λ e. omega arith))
 
-pub few-is : (m : ℕ) (o : Op) (l : List Shape) (n : ℕ) → n < 2 → none ≡ binary (shapes m) o (shapeStack l n)
+pub unseen : (l : List ℕ) → view l 0 ≡ none
+unfolding view
+unseen l = refl
+
+module _ (m : ℕ) (l : List ℕ) (n k d : ℕ) (h : k ≤ 4) where
+  pub pushed : d ≤ 8 → n < room → n < length l → view (set l n (shape k d)) (n + 1) ≡ added (shapes m) (shape k d) (stackOf 0 l n)
+  unfolding added
+  pushed low few fit =
+      let f : leb (depthOf (shape k d)) 8 ≡ true = ap (λ (x : ℕ). leb x 8) (depth-shape k d h) ∙ le-leb d 8 low in
+      seen (set l n (shape k d)) (n + 1) (omega arith)
+      ∙ simp (f, length-stack, lt-ltb n room few, stack-push 0 l n (shape k d) fit)
+
+  pub full : room ≤ n → none ≡ added (shapes m) (shape k d) (stackOf 0 l n)
+  unfolding added
+  full many = go (leb (depthOf (shape k d)) 8) refl
+    where
+      go : (b : Bool) → leb (depthOf (shape k d)) 8 ≡ b → none ≡ added (shapes m) (shape k d) (stackOf 0 l n)
+      go true e = simp (e, length-stack, le-ltb n room many)
+      go false e = simp e
+
+  pub deep : 8 < d → none ≡ added (shapes m) (shape k d) (stackOf 0 l n)
+  unfolding added
+  deep high =
+      let f : leb (depthOf (shape k d)) 8 ≡ false = ap (λ (x : ℕ). leb x 8) (depth-shape k d h) ∙ lt-leb d 8 high in
+      simp f
+
+pub join-is : (m : ℕ) (o : Op) (l : List ℕ) (n k r z : ℕ) → 2 ≤ n → k ≡ rank o → r ≡ bareRight o
+    → z ≡ max (opened k (formOf (at′ l (n - 2))) (depthOf (at′ l (n - 2)))) (opened r (formOf (at′ l (n - 1))) (depthOf (at′ l (n - 1))))
+    → added (shapes m) (shape k z) (stackOf 0 l (n - 2)) ≡ binary (shapes m) o (stackOf 0 l n)
+unfolding binary joinedShape
+join-is m o l n k r z h e f q = rw (stack-two 0 l n h, left-is o, q, e, f) refl
+
+pub few-is : (m : ℕ) (o : Op) (l : List ℕ) (n : ℕ) → n < 2 → none ≡ binary (shapes m) o (stackOf 0 l n)
 unfolding binary stackOf
 few-is m o l zero h = refl
 few-is m o l (suc zero) h = refl
 few-is m o l (suc (suc n)) h = absurd (omega arith)
 
-pub negate-is : (m : ℕ) (l : List Shape) (n k d : ℕ) → 0 < n → k ≡ negatedForm (at′ l (n - 1) .form)
-    → d ≡ opened 1 (at′ l (n - 1) .form) (at′ l (n - 1) .depth)
-    → added (shapes m) (shape k d) (shapeStack l (n - 1)) ≡ unary (shapes m) (shapeStack l n)
+pub negate-is : (m : ℕ) (l : List ℕ) (n k d : ℕ) → 0 < n → k ≡ negatedForm (formOf (at′ l (n - 1)))
+    → d ≡ opened 1 (formOf (at′ l (n - 1))) (depthOf (at′ l (n - 1)))
+    → added (shapes m) (shape k d) (stackOf 0 l (n - 1)) ≡ unary (shapes m) (stackOf 0 l n)
 unfolding unary negatedShape
-negate-is m l n k d h e q = rw (stack-one (shape 0 0) l n h, q, e) refl
+negate-is m l n k d h e q = rw (stack-one 0 l n h, q, e) refl
 
-one-stack : (l : List Shape) (n : ℕ) → isOne (some (shapeStack l n)) ≡ eqb n 1
+one-stack : (l : List ℕ) (n : ℕ) → isOne (some (stackOf 0 l n)) ≡ eqb n 1
 unfolding stackOf
 one-stack l zero = refl
 one-stack l (suc zero) = refl
 one-stack l (suc (suc n)) = sym (ne-eqb (suc (suc n)) 1 (λ e. omega arith))
 
-module _ (w : ℕ → ℕ) (d n m i : ℕ) (st : Stack) where
-  pub ends : n ≤ i → st .ok ≡ true → Left (shapes m) w d n i (view st) → eqb (st .height) 1 ≡ conditionStored w d n m
-  unfolding view accepts conditionStored
-  ends h e q =
-      let p : isOne (view st) ≡ eqb (st .height) 1 = rw e (one-stack (st .shapes) (st .height)) in
-      sym p ∙ ap isOne (left-end (shapes m) w d n i (view st) h q) ∙ accepts-is m (tab w n d)
+module _ (w : ℕ → ℕ) (d n m i : ℕ) (l : List ℕ) (k : ℕ) where
+  -- i words are read, and a step has answered k
+  pub goes-on : 0 < k → Left (shapes m) w d n i (view l k) → Left (shapes m) w d n i (some (stackOf 0 l k))
+  goes-on h q = rw (seen l k h) at q
 
-  pub fails : st .ok ≡ false → Left (shapes m) w d n i (view st) → false ≡ conditionStored w d n m
-  unfolding view accepts conditionStored
+  pub fails : k ≡ 0 → Left (shapes m) w d n i (view l k) → false ≡ conditionStored w d n m
+  unfolding accepts conditionStored view
   fails e q =
       let p : Left (shapes m) w d n i none = rw e at q in
       ap isOne (sym (left-none (shapes m) w d n i p)) ∙ accepts-is m (tab w n d)
 
-  -- the one that is left is that of the tree
-  pub left-shape : n ≤ i → st .ok ≡ true → Left (shapes m) w d n i (view st) → eqb (st .height) 1 ≡ true
-      → at′ (st .shapes) 0 ≡ shape (form (treeOf (tab w n d))) (depth (treeOf (tab w n d)))
-  unfolding view conditionStored stackOf
-  left-shape h e q k =
-      let p = left-end (shapes m) w d n i (view st) h q ∙ condition-left m (tab w n d) (sym (ends h e q) ∙ k) in
-      let one : st .height ≡ 1 = eqb-true (st .height) 1 k in
-      let r = rw (e, one) at p in
-      cc
+  module _ (h : n ≤ i) (q : Left (shapes m) w d n i (some (stackOf 0 l k))) where
+    pub ends : eqb k 1 ≡ conditionStored w d n m
+    unfolding accepts conditionStored
+    ends = sym (one-stack l k) ∙ ap isOne (left-end (shapes m) w d n i (some (stackOf 0 l k)) h q) ∙ accepts-is m (tab w n d)
+
+    -- the one that is left is that of the tree
+    left-shape : eqb k 1 ≡ true → at′ l 0 ≡ shape (form (treeOf (tab w n d))) (depth (treeOf (tab w n d)))
+    unfolding conditionStored stackOf
+    left-shape e =
+        let p = left-end (shapes m) w d n i (some (stackOf 0 l k)) h q ∙ condition-left m (tab w n d) (sym ends ∙ e) in
+        let one : k ≡ 1 = eqb-true k 1 e in
+        let r = rw one at p in
+        cc
+
+    pub left-tree : eqb k 1 ≡ true → (formOf (at′ l 0) ≡ form (treeOf (tab w n d))) × (depthOf (at′ l 0) ≡ depth (treeOf (tab w n d)))
+    left-tree e =
+        let c = treeOf (tab w n d) in
+        let q = left-shape e in
+        (ap formOf q ∙ form-shape (form c) (depth c) (form-le c), ap depthOf q ∙ depth-shape (form c) (depth c) (form-le c))

@@ -1,39 +1,41 @@
--- A helper: the machine that keeps of each subtree its form and depth, and the code's stack as that machine's. The law
--- `accepts-is` of proofs/Accepted ties what it accepts to model's `treeOf`, `termsBelow` and `depth`.
+-- A helper: the machine that keeps of each subtree its form and depth, in one number, and the code's stack as that
+-- machine's. The law `accepts-is` of proofs/Accepted ties what it accepts to model's `treeOf`, `termsBelow` and `depth`.
 use mathlib.Core.List.{List}
 use mathlib.Core.Option.{Option, none, some}
-use Prim.Native.Nat.{ℕ, max}
-use lib.Dec.{leb, ltb}
+use Prim.Native.Nat.{ℕ, _+_, _*_, _/_, _%_, max}
+use lib.Dec.{leb, ltb, eqb}
 use Rattle.model.specs.Basic.{if_then_else_}
 use Rattle.model.specs.Bounds.{depthLimit}
 use Rattle.model.specs.Block.{Op}
 use Rattle.model.specs.Parentheses.{rank, negatedForm, bareBehindNot, bareLeft, bareRight, opened}
 use Rattle.stored_conditions.specs.Machine.{Meaning, stackOf}
-use Rattle.stored_conditions.specs.declared.Shape.{Shape}
-use Rattle.stored_conditions.specs.declared.Stack.{Stack}
 
-abbrev pub shape : ℕ → ℕ → Shape
-shape k d = record { form = k; depth = d }
+-- the forms are below 8
+abbrev pub shape : ℕ → ℕ → ℕ
+shape k d = d * 8 + k
 
-unfoldable pub negatedShape : Shape → Shape
-negatedShape a = shape (negatedForm (a .form)) (opened bareBehindNot (a .form) (a .depth))
+abbrev pub formOf : ℕ → ℕ
+formOf s = s % 8
 
-unfoldable pub joinedShape : Op → Shape → Shape → Shape
+abbrev pub depthOf : ℕ → ℕ
+depthOf s = s / 8
+
+unfoldable pub negatedShape : ℕ → ℕ
+negatedShape a = shape (negatedForm (formOf a)) (opened bareBehindNot (formOf a) (depthOf a))
+
+unfoldable pub joinedShape : Op → ℕ → ℕ → ℕ
 joinedShape o a b =
-    shape (rank o) (max (opened (bareLeft o) (a .form) (a .depth)) (opened (bareRight o) (b .form) (b .depth)))
+    shape (rank o) (max (opened (bareLeft o) (formOf a) (depthOf a)) (opened (bareRight o) (formOf b) (depthOf b)))
 
-abbrev pub shapes : ℕ → Meaning Shape
+abbrev pub shapes : ℕ → Meaning ℕ
 shapes m = record {
   leaf = λ t. shape 0 0;
   no = negatedShape;
   join = joinedShape;
-  fine = λ a. leb (a .depth) depthLimit;
+  fine = λ a. leb (depthOf a) depthLimit;
   known = λ t. ltb t m;
 }
 
-abbrev pub shapeStack : List Shape → ℕ → List Shape
-shapeStack = stackOf (shape 0 0)
-
--- the stack of the code; none once it has failed
-unfoldable pub view : Stack → Option (List Shape)
-view st = if st .ok then some (shapeStack (st .shapes) (st .height)) else none
+-- what a step leaves in the code's array; none where it answers 0
+unfoldable pub view : List ℕ → ℕ → Option (List ℕ)
+view l n = if eqb n 0 then none else some (stackOf 0 l n)

@@ -1,13 +1,13 @@
 // Which words of an image are a condition: one pass with a stack of forms and depths.
 ghost use mathlib.Core.Path.{_≡_};
 ghost use mathlib.Core.Bool.{true};
-ghost use mathlib.Core.Option.{none};
 ghost use Prim.Native.Nat.{ℕ, _≤_};
+ghost use lib.ListN.{length};
 ghost use Rattle.model.specs.Block.{Op};
 ghost use Rattle.model.specs.Parentheses.{rank, negatedForm, form, bareRight, opened, depth};
 ghost use Rattle.model.specs.Image.{wordAt, tab, treeOf};
-ghost use Rattle.stored_conditions.specs.Machine.{added, unary, binary, turn, room};
-ghost use Rattle.stored_conditions.specs.Shapes.{shape, shapes, shapeStack, view};
+ghost use Rattle.stored_conditions.specs.Machine.{added, unary, binary, step, room, stackOf};
+ghost use Rattle.stored_conditions.specs.Shapes.{shape, formOf, depthOf, shapes, view};
 ghost use Rattle.stored_conditions.specs.Stored.{conditionStored};
 use bounds::DEPTH;
 use words::word;
@@ -35,17 +35,8 @@ pub const OR_FORM: u8 = 4;
 // Places for operands: no condition of eight parentheses needs more.
 pub const ROOM: usize = 19;
 
-// The form of a subtree, and the parentheses open at once in it.
-struct Shape {
-    form: u8,
-    depth: u8,
-}
-
-struct Stack {
-    ok: bool,
-    height: usize,
-    shapes: [Shape; ROOM],
-}
+// A subtree is kept as one number, its shape: eight times the parentheses open at once in it, and its form.
+const FORMS: u8 = 8;
 
 // Whether some words are a condition; of one that they are, its form and the parentheses open at once in it.
 pub struct StoredCondition {
@@ -54,18 +45,16 @@ pub struct StoredCondition {
     pub depth: u8,
 }
 
-// l: the loosest form that stands bare.
-fn opening(l: u8, form: u8, depth: u8) -> usize
-    ensures { λ r. ⌜ r ≡ opened l form depth ⌝ }
+// l: the loosest form that stands bare; a looser one carries into the depth.
+fn opening(l: u8, shape: u8) -> usize
+    requires { ⌜ l ≤ 4 ⌝ }
+    ensures { λ r. ⌜ r ≡ opened l (formOf shape) (depthOf shape) ⌝ }
 {
-    if l < form {
-        return depth as usize + 1;
-    }
-    depth as usize
+    (shape as usize + 7 - l as usize) / 8
 }
 
 fn negated_form(form: u8) -> u8
-    ensures { λ r. ⌜ r ≡ negatedForm form ⌝ }
+    ensures { λ r. ⌜ (r ≡ negatedForm form) × (r ≤ 2) ⌝ }
 {
     if form == TERM_FORM {
         return NOT_TERM_FORM;
@@ -73,93 +62,75 @@ fn negated_form(form: u8) -> u8
     NOT_FORM
 }
 
-fn fail(st: Stack) -> Stack
-    requires { ⌜ st .height ≤ room ⌝ }
-    ensures { λ r. ⌜ view r ≡ none ⌝ }
-    ensures small { λ r. ⌜ r .height ≤ room ⌝ }
-{
-    let mut r = st;
-    r.ok = false;
-    r
-}
-
-// One more on the first n.
-fn push(st: Stack, n: usize, form: u8, depth: usize) -> Stack
-    requires { ⌜ (st .height ≤ room) × (st .ok ≡ true) ⌝ }
-    ensures { λ r. ⌜ ((m : ℕ) → view r ≡ added (shapes m) (shape form depth) (shapeStack (st .shapes) n)) ⌝ }
-    ensures small { λ r. ⌜ r .height ≤ room ⌝ }
+// One more on the first n. Steps answer the height, and 0 where the words are no condition.
+fn push(stack: &mut [u8; ROOM], n: usize, form: u8, depth: usize) -> usize
+    requires { ⌜ (length (now stack) ≡ room) × (form ≤ 4) ⌝ }
+    ensures { λ r. ⌜ ((m : ℕ) → view (now (stack .exit)) r ≡ added (shapes m) (shape form depth) (stackOf 0 (now (stack .entry)) n)) ⌝ }
+    ensures small { λ r. ⌜ (r ≤ room) × (length (now (stack .exit)) ≡ room) ⌝ }
 {
     if depth <= DEPTH {
         if n < ROOM {
-            let mut r = st;
-            r.shapes[n] = Shape {
-                form: form,
-                depth: depth as u8,
-            };
-            r.height = n + 1;
-            return r;
+            stack[n] = depth as u8 * FORMS + form;
+            return n + 1;
         }
-        return fail(st);
+        return 0;
     }
-    fail(st)
+    0
 }
 
-fn negate(st: Stack) -> Stack
-    requires { ⌜ (st .height ≤ room) × (st .ok ≡ true) ⌝ }
-    ensures { λ r. ⌜ ((m : ℕ) → view r ≡ unary (shapes m) (shapeStack (st .shapes) (st .height))) ⌝ }
-    ensures small { λ r. ⌜ r .height ≤ room ⌝ }
+fn negate(stack: &mut [u8; ROOM], n: usize) -> usize
+    requires { ⌜ (length (now stack) ≡ room) × (n ≤ room) ⌝ }
+    ensures { λ r. ⌜ ((m : ℕ) → view (now (stack .exit)) r ≡ unary (shapes m) (stackOf 0 (now (stack .entry)) n)) ⌝ }
+    ensures small { λ r. ⌜ (r ≤ room) × (length (now (stack .exit)) ≡ room) ⌝ }
 {
-    let n = st.height;
     if n == 0 {
-        return fail(st);
+        return 0;
     }
-    let a = st.shapes[n - 1];
-    let depth = opening(NOT_TERM_FORM, a.form, a.depth);
-    push(st, n - 1, negated_form(a.form), depth)
+    let a = stack[n - 1];
+    let depth = opening(NOT_TERM_FORM, a);
+    push(stack, n - 1, negated_form(a % FORMS), depth)
 }
 
 // An operator of this form, right of which forms up to `right` stand bare; left of it those up to its own.
-fn join(st: Stack, form: u8, right: u8) -> Stack
-    requires { ⌜ (st .height ≤ room) × (st .ok ≡ true) ⌝ }
+fn join(stack: &mut [u8; ROOM], n: usize, form: u8, right: u8) -> usize
+    requires { ⌜ (length (now stack) ≡ room) × (n ≤ room) × (form ≤ 4) × (right ≤ 4) ⌝ }
     ensures { λ r. ⌜ ((m : ℕ) (o : Op) → form ≡ rank o → right ≡ bareRight o
-        → view r ≡ binary (shapes m) o (shapeStack (st .shapes) (st .height))) ⌝ }
-    ensures small { λ r. ⌜ r .height ≤ room ⌝ }
+        → view (now (stack .exit)) r ≡ binary (shapes m) o (stackOf 0 (now (stack .entry)) n)) ⌝ }
+    ensures small { λ r. ⌜ (r ≤ room) × (length (now (stack .exit)) ≡ room) ⌝ }
 {
-    let n = st.height;
     if n < 2 {
-        return fail(st);
+        return 0;
     }
-    let b = st.shapes[n - 1];
-    let a = st.shapes[n - 2];
-    let x = opening(form, a.form, a.depth);
-    let y = opening(right, b.form, b.depth);
+    let x = opening(form, stack[n - 2]);
+    let y = opening(right, stack[n - 1]);
     if x < y {
-        return push(st, n - 2, form, y);
+        return push(stack, n - 2, form, y);
     }
-    push(st, n - 2, form, x)
+    push(stack, n - 2, form, x)
 }
 
-fn step(st: Stack, m: usize, w: usize) -> Stack
-    requires { ⌜ (st .height ≤ room) × (st .ok ≡ true) ⌝ }
-    ensures { λ r. ⌜ view r ≡ turn (shapes m) w (view st) ⌝ }
-    ensures small { λ r. ⌜ r .height ≤ room ⌝ }
+// The word w on a stack of n, where there are m terms.
+fn step(stack: &mut [u8; ROOM], n: usize, m: usize, w: usize) -> usize
+    requires { ⌜ (length (now stack) ≡ room) × (n ≤ room) ⌝ }
+    ensures { λ r. ⌜ view (now (stack .exit)) r ≡ step (shapes m) w (stackOf 0 (now (stack .entry)) n) ⌝ }
+    ensures small { λ r. ⌜ (r ≤ room) × (length (now (stack .exit)) ≡ room) ⌝ }
 {
     if TERM_WORD <= w {
         if w - TERM_WORD < m {
-            return push(st, st.height, TERM_FORM, 0);
+            return push(stack, n, TERM_FORM, 0);
         }
-        return fail(st);
+        return 0;
     }
     if w == NOT_WORD {
-        return negate(st);
+        return negate(stack, n);
     }
     if w == AND_WORD {
-        return join(st, AND_FORM, NOT_FORM);
+        return join(stack, n, AND_FORM, NOT_FORM);
     }
     if w == OR_WORD {
-        return join(st, OR_FORM, AND_FORM);
+        return join(stack, n, OR_FORM, AND_FORM);
     }
-    fail(st)
+    0
 }
 
 // Whether the n words from place d on are a condition over the first m terms, with its form and depth.
@@ -169,18 +140,12 @@ pub fn stored_condition(img: &[u8], d: usize, n: usize, m: usize) -> StoredCondi
     ensures tree { λ r. ⌜ (r .ok ≡ true → (r .form ≡ form (treeOf (tab (wordAt (now (img .entry))) n d)))
         × (r .depth ≡ depth (treeOf (tab (wordAt (now (img .entry))) n d)))) ⌝ }
 {
-    let mut st = Stack {
-        ok: true,
-        height: 0,
-        shapes: [Shape {
-            form: TERM_FORM,
-            depth: 0,
-        }; ROOM],
-    };
+    let mut stack = [0; ROOM];
+    let mut height = 0;
     let mut i = 0;
     while i < n {
-        st = step(st, m, word(img, d + i));
-        if !st.ok {
+        height = step(&mut stack, height, m, word(img, d + i));
+        if height == 0 {
             return StoredCondition {
                 ok: false,
                 form: TERM_FORM,
@@ -189,10 +154,10 @@ pub fn stored_condition(img: &[u8], d: usize, n: usize, m: usize) -> StoredCondi
         }
         i += 1;
     }
-    let top = st.shapes[0];
+    let shape = stack[0];
     StoredCondition {
-        ok: st.height == 1,
-        form: top.form,
-        depth: top.depth,
+        ok: height == 1,
+        form: shape % FORMS,
+        depth: shape / FORMS,
     }
 }

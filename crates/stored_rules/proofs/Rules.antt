@@ -11,7 +11,7 @@ use Rattle.model.specs.Basic.{every, all, same, between, distinct, isEmpty}
 use Rattle.model.specs.Bounds.{ruleLimit, wordLimit, conclusionLimit, ruleNumberLeast, ruleNumberLimit}
 use Rattle.model.specs.Block.{Rule, size}
 use Rattle.model.specs.WellFormed.{unitOk, conditionOk, conclusionOk, ruleOk}
-use Rattle.model.specs.Image.{tab, postfix, treeOf, conclusionAt, ruleAt, decode}
+use Rattle.model.specs.Image.{tab, postfix, conclusionAt, ruleAt, decode}
 use Rattle.laws.proofs.Conditions.{length-postfix}
 use Rattle.laws.proofs.Lists.{map-tab}
 use Rattle.laws.proofs.Tests.{both, and-i, passed, pass, iff}
@@ -137,10 +137,6 @@ module _ (w : ℕ → ℕ) where
     pub condition-stored : (i d n : ℕ) → d ≡ w 14 + wordFirst w i → n ≡ wordCount w i → conditionStored w d n m ≡ condition-right i
     unfolding conditionStored conditionExact conditionOk ruleAt
     condition-stored i d n ed en = rw (ed, en) (λ j. isCondition ((terms ∙ sym (input-terms w frame)) j) (condition-words i j))
-
-    pub condition-tree : (i d n : ℕ) → d ≡ w 14 + wordFirst w i → n ≡ wordCount w i → treeOf (tab w n d) ≡ ruleAt w i .condition
-    unfolding ruleAt
-    condition-tree i d n ed en = rw (ed, en) (ap treeOf (condition-words i))
 
   -- THE WALK
   -- r rules from the i-th on, after n condition words and k conclusions

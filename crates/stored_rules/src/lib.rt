@@ -1,26 +1,32 @@
 // The rules of a stored image: their rows, numbers, weights, conditions and conclusions.
 ghost use mathlib.Core.Path.{_≡_};
 ghost use mathlib.Core.Bool.{true, _&&_, not};
-ghost use Prim.Native.Nat.{ℕ, _≤_, _<_};
-ghost use lib.Dec.{eqb};
-ghost use Rattle.model.specs.Basic.{all, between, distinct, isEmpty};
+ghost use Prim.Native.Nat.{ℕ, _+_, _-_, _≤_, _<_};
+ghost use lib.Dec.{leb, eqb};
+ghost use Rattle.model.specs.Basic.{all, between, distinct};
 ghost use Rattle.model.specs.Bounds.{ruleLimit, ruleNumberLeast, ruleNumberLimit};
-ghost use Rattle.model.specs.Parentheses.{form, depth};
-ghost use Rattle.model.specs.WellFormed.{unitOk, conditionOk, conclusionOk};
+ghost use Rattle.model.specs.WellFormed.{unitOk, conclusionOk};
 ghost use Rattle.model.specs.Image.{wordAt, tab, conclusionAt, ruleAt, decode};
 ghost use Rattle.header.specs.Header.{Heads};
-ghost use Rattle.layout.specs.Tables.{inputTermsIn, conditionExact};
+ghost use Rattle.layout.specs.Tables.{inputTermsIn};
 ghost use Rattle.layout.specs.Groups.{tablesOk, rulesOk};
-ghost use Rattle.stored_rules.specs.Walk.{ruleNumber, ruleStored, rowStored, rulesWalk};
+ghost use Rattle.stored_rules.specs.Walk.{PartsAt, ruleNumber, ruleStored, rowStored, rulesWalk};
 use header::Header;
 use header::conclusion_row;
 use header::output_row;
 use header::rule_row;
-use stored_conditions::StoredCondition;
 use words::word;
 
-// Rule numbers, and 0.
+// Above all rule numbers.
 const NUMBERS: usize = bounds::RULE_NUMBER + 1;
+
+// Which condition words and which conclusions of all are a rule's.
+struct Parts {
+    word_first: usize,
+    words: usize,
+    conclusion_first: usize,
+    conclusions: usize,
+}
 
 pub fn number_ok(img: &[u8], h: Header, i: usize) -> bool
     requires { ⌜ Heads (wordAt (now img)) h × (i ≤ ruleLimit) ⌝ }
@@ -61,16 +67,13 @@ fn conclusion_ok(img: &[u8], h: Header, i: usize) -> bool
     t < first + word(img, v + header::OUTPUT_TERMS)
 }
 
-// The conclusions of rule i: there are some, and each is right.
-pub fn conclusions_ok(img: &[u8], h: Header, i: usize) -> bool
-    requires { ⌜ (tablesOk (wordAt (now img)) ≡ true) × Heads (wordAt (now img)) h × (i ≤ ruleLimit) ⌝ }
-    ensures { λ r. ⌜ r ≡ not (isEmpty (ruleAt (wordAt (now (img .entry))) i .conclusions))
-        && all (conclusionOk (decode (wordAt (now (img .entry)))))
-        (ruleAt (wordAt (now (img .entry))) i .conclusions) ⌝ }
+// The k conclusions from the s-th on: there are some, and each is right.
+fn conclusions_ok(img: &[u8], h: Header, s: usize, k: usize) -> bool
+    requires { ⌜ (tablesOk (wordAt (now img)) ≡ true) × Heads (wordAt (now img)) h
+        × (s ≤ 4294967295) × (k ≤ 4294967295) ⌝ }
+    ensures { λ r. ⌜ r ≡ leb 1 k && all (conclusionOk (decode (wordAt (now (img .entry)))))
+        (tab (conclusionAt (wordAt (now (img .entry)))) k s) ⌝ }
 {
-    let o = rule_row(h, i);
-    let s = word(img, o + header::RULE_CONCLUSION_FIRST);
-    let k = word(img, o + header::RULE_CONCLUSIONS);
     let e = s + k;
     let mut j = s;
     while j < e {
@@ -82,32 +85,29 @@ pub fn conclusions_ok(img: &[u8], h: Header, i: usize) -> bool
     1 <= k
 }
 
-// The condition of rule i, where there are m input terms.
-pub fn rule_condition(img: &[u8], h: Header, m: usize, i: usize) -> StoredCondition
-    requires { ⌜ (tablesOk (wordAt (now img)) ≡ true) × Heads (wordAt (now img)) h
-        × (m ≡ inputTermsIn (wordAt (now img))) × (m ≤ 4294967295) × (i ≤ ruleLimit) ⌝ }
-    ensures { λ r. ⌜ r .ok ≡ conditionExact (wordAt (now (img .entry))) i
-        && conditionOk (decode (wordAt (now (img .entry)))) (ruleAt (wordAt (now (img .entry))) i .condition) ⌝ }
-    ensures tree { λ r. ⌜ (r .ok ≡ true → (r .form ≡ form (ruleAt (wordAt (now (img .entry))) i .condition))
-        × (r .depth ≡ depth (ruleAt (wordAt (now (img .entry))) i .condition))) ⌝ }
+fn parts_of(img: &[u8], h: Header, i: usize) -> Parts
+    requires { ⌜ Heads (wordAt (now img)) h × (i ≤ ruleLimit) ⌝ }
+    ensures { λ r. ⌜ PartsAt (wordAt (now (img .entry))) i r ⌝ }
 {
     let o = rule_row(h, i);
-    let first = word(img, o + header::RULE_WORD_FIRST);
-    let n = word(img, o + header::RULE_WORDS);
-    stored_conditions::stored_condition(img, h.word_table + first, n, m)
+    Parts {
+        word_first: word(img, o + header::RULE_WORD_FIRST),
+        words: word(img, o + header::RULE_WORDS),
+        conclusion_first: word(img, o + header::RULE_CONCLUSION_FIRST),
+        conclusions: word(img, o + header::RULE_CONCLUSIONS),
+    }
 }
 
 // Rule i. The limits of all rules together bound the loops over one.
-fn rule_ok(img: &[u8], h: Header, m: usize, i: usize) -> bool
+fn rule_ok(img: &[u8], h: Header, m: usize, i: usize, p: Parts) -> bool
     requires { ⌜ (tablesOk (wordAt (now img)) ≡ true) × Heads (wordAt (now img)) h
-        × (m ≡ inputTermsIn (wordAt (now img))) × (m ≤ 4294967295) × (i ≤ ruleLimit) ⌝ }
+        × (m ≡ inputTermsIn (wordAt (now img))) × (m ≤ 4294967295) × (i ≤ ruleLimit) × PartsAt (wordAt (now img)) i p ⌝ }
     ensures { λ r. ⌜ r ≡ ruleStored (wordAt (now (img .entry))) i ⌝ }
 {
-    let o = rule_row(h, i);
-    if bounds::WORDS < word(img, o + header::RULE_WORDS) {
+    if bounds::WORDS < p.words {
         return false;
     }
-    if bounds::CONCLUSIONS < word(img, o + header::RULE_CONCLUSIONS) {
+    if bounds::CONCLUSIONS < p.conclusions {
         return false;
     }
     if !number_ok(img, h, i) {
@@ -116,27 +116,26 @@ fn rule_ok(img: &[u8], h: Header, m: usize, i: usize) -> bool
     if !weight_ok(img, h, i) {
         return false;
     }
-    if !conclusions_ok(img, h, i) {
+    if !conclusions_ok(img, h, p.conclusion_first, p.conclusions) {
         return false;
     }
-    let c = rule_condition(img, h, m, i);
+    let c = stored_conditions::stored_condition(img, h.word_table + p.word_first, p.words, m);
     c.ok
 }
 
 // n condition words and k conclusions stand before the rule's.
-fn row_ok(img: &[u8], h: Header, m: usize, i: usize, n: usize, k: usize) -> bool
+fn row_ok(img: &[u8], h: Header, m: usize, i: usize, p: Parts, n: usize, k: usize) -> bool
     requires { ⌜ (tablesOk (wordAt (now img)) ≡ true) × Heads (wordAt (now img)) h
-        × (m ≡ inputTermsIn (wordAt (now img))) × (m ≤ 4294967295) × (i ≤ ruleLimit) ⌝ }
+        × (m ≡ inputTermsIn (wordAt (now img))) × (m ≤ 4294967295) × (i ≤ ruleLimit) × PartsAt (wordAt (now img)) i p ⌝ }
     ensures { λ r. ⌜ r ≡ rowStored (wordAt (now (img .entry))) i n k ⌝ }
 {
-    let o = rule_row(h, i);
-    if word(img, o + header::RULE_WORD_FIRST) != n {
+    if p.word_first != n {
         return false;
     }
-    if word(img, o + header::RULE_CONCLUSION_FIRST) != k {
+    if p.conclusion_first != k {
         return false;
     }
-    rule_ok(img, h, m, i)
+    rule_ok(img, h, m, i, p)
 }
 
 // All rules, whose condition words and conclusions add up to the header's totals.
@@ -150,12 +149,12 @@ fn rows_ok(img: &[u8], h: Header, m: usize) -> bool
     let mut k: usize = 0;
     let mut i: usize = 0;
     while i < e {
-        if !row_ok(img, h, m, i, n, k) {
+        let p = parts_of(img, h, i);
+        if !row_ok(img, h, m, i, p, n, k) {
             return false;
         }
-        let o = rule_row(h, i);
-        n += word(img, o + header::RULE_WORDS);
-        k += word(img, o + header::RULE_CONCLUSIONS);
+        n += p.words;
+        k += p.conclusions;
         i += 1;
     }
     if n != h.words {
@@ -164,21 +163,50 @@ fn rows_ok(img: &[u8], h: Header, m: usize) -> bool
     k == h.conclusions
 }
 
-// From the last rule on, each number is marked; one that is marked already stands twice.
+// Whether no later rule has the number of rule i; none of theirs is below `least`.
+fn differs(img: &[u8], h: Header, i: usize, number: usize, least: usize) -> bool
+    requires { ⌜ Heads (wordAt (now img)) h × (h .rules ≤ ruleLimit) × (i < h .rules)
+        × ((j : ℕ) → i < j → j < h .rules → least ≤ ruleNumber (wordAt (now img)) j) ⌝ }
+    ensures { λ r. ⌜ r ≡ all (λ n. not (eqb number n))
+        (tab (ruleNumber (wordAt (now (img .entry)))) (h .rules - (i + 1)) (i + 1)) ⌝ }
+{
+    if number < least {
+        return true;
+    }
+    let e = h.rules;
+    let mut j = i + 1;
+    while j < e {
+        if number == word(img, rule_row(h, j)) {
+            return false;
+        }
+        j += 1;
+    }
+    true
+}
+
+fn lesser(a: usize, b: usize) -> usize
+    ensures { λ r. ⌜ (r ≤ a) × (r ≤ b) ⌝ }
+{
+    if a < b {
+        return a;
+    }
+    b
+}
+
+// From the last rule on: where the numbers rise, each is below all later ones, and nothing more is compared.
 fn numbers_distinct(img: &[u8], h: Header) -> bool
-    requires { ⌜ Heads (wordAt (now img)) h × (h .rules ≤ ruleLimit)
-        × ((i : ℕ) → i < h .rules → ruleNumber (wordAt (now img)) i ≤ ruleNumberLimit) ⌝ }
+    requires { ⌜ Heads (wordAt (now img)) h × (h .rules ≤ ruleLimit) ⌝ }
     ensures { λ r. ⌜ r ≡ distinct eqb (tab (ruleNumber (wordAt (now (img .entry)))) (h .rules) 0) ⌝ }
 {
-    let mut marked = [false; NUMBERS];
+    let mut least = NUMBERS;
     let mut i = h.rules;
     while 0 < i {
         i -= 1;
         let number = word(img, rule_row(h, i));
-        if marked[number] {
+        if !differs(img, h, i, number, least) {
             return false;
         }
-        marked[number] = true;
+        least = lesser(number, least);
     }
     true
 }

@@ -7,18 +7,12 @@ use Rattle.stored_conditions.proofs.Steps as laws
 use Rattle.stored_conditions.proofs.negate.Statement.{statement}
 use Rattle.stored_conditions.proofs.negate.Tie as tie
 
-fail-requires : tie.Need-fail-requires
-fail-requires c κs = search needs
-
 returns : tie.Need-returns
 unfolding unary stackOf
-returns c = ((λ m. simp (c .before .if1 .taken) (c .fail .ensures .0)), search needs)
+returns c = ((λ m. laws.unseen _ ∙ simp (c .if1 .taken)), search needs)
 
 sub-a : tie.Need-sub-a
 sub-a c = search needs
-
-mul-a : tie.Need-mul-a
-mul-a c = search needs
 
 element-copy-out-a : tie.Need-element-copy-out-a
 element-copy-out-a c = search needs
@@ -33,23 +27,21 @@ negated-form-requires : tie.Need-negated-form-requires
 negated-form-requires c κs = search needs
 
 push-requires : tie.Need-push-requires
-push-requires c κs = search needs
+push-requires c κs = let k = c .negated-form .ensures .1 in omega arith
 
 returns-2 : tie.Need-returns-2
 returns-2 c =
-    let h : 0 < c .before .before .before .before .before .args .t1 .height = omega arith in
-    let f = c .before .negated-form .ensures in
-    let d = c .before .before .opening .ensures in
+    let h : 0 < c .before .before .before .before .before .before .args .n = omega arith in
+    let f = c .before .negated-form .ensures .0 in
+    let d = c .before .before .before .opening .ensures in
     ((λ m. c .push .ensures .0 m ∙ laws.negate-is m _ _ _ _ h f d), search needs)
 
 pub negate-spec : {M : Type 1} → statement M
 negate-spec =
     tie.close
     (tie.spec
-    fail-requires
     returns
     sub-a
-    mul-a
     element-copy-out-a
     opening-requires
     sub-push

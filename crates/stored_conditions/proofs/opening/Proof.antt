@@ -1,17 +1,16 @@
-use native.Mathlib.Omega.{arith}
-use borrow.Author.Tests.{lt-ltb, le-ltb}
 use borrow.Author.Needs.{needs}
+use Rattle.stored_conditions.proofs.Steps as laws
 use Rattle.stored_conditions.proofs.opening.Statement.{statement}
 use Rattle.stored_conditions.proofs.opening.Tie as tie
 
 add-result : tie.Need-add-result
 add-result c = search needs
 
-returns : tie.Need-returns
-returns c = simp (lt-ltb _ _ (c .if1 .taken)) (omega arith)
+sub-result : tie.Need-sub-result
+sub-result c = search needs
 
-returns-2 : tie.Need-returns-2
-returns-2 c = simp (le-ltb _ _ (c .if1 .left)) (omega arith)
+returns : tie.Need-returns
+returns c = laws.opening-is _ _ (c .pre)
 
 pub opening-spec : {M : Type 1} → statement M
-opening-spec = tie.close (tie.spec add-result returns returns-2)
+opening-spec = tie.close (tie.spec add-result sub-result returns)

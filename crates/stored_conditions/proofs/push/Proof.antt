@@ -1,68 +1,44 @@
-use native.Mathlib.Omega.{arith}
-use Prim.Native.Nat.{_<_}
-use lib.ListN.{length, length-map}
-use borrow.Author.Tests.{lt-ltb, le-ltb, le-leb, lt-leb}
+use mathlib.Core.Path.{_∙_}
 use borrow.Author.Needs.{needs}
-use Rattle.stored_conditions.specs.Machine.{added}
-use Rattle.stored_conditions.specs.Shapes.{shape, view}
-use Rattle.stored_conditions.proofs.Stacks.{length-stack, stack-push}
+use Rattle.stored_conditions.proofs.Steps as laws
 use Rattle.stored_conditions.proofs.push.Statement.{statement}
 use Rattle.stored_conditions.proofs.push.Tie as tie
 
-cast-t8 : tie.Need-cast-t8
-cast-t8 c = search needs
+cast-stack : tie.Need-cast-stack
+cast-stack c = search needs
 
-mul-t10 : tie.Need-mul-t10
-mul-t10 c = search needs
+mul-stack : tie.Need-mul-stack
+mul-stack c = search needs
 
-element-set-from-r : tie.Need-element-set-from-r
-element-set-from-r c = search needs
+add-stack : tie.Need-add-stack
+add-stack c = search needs
 
-add-r : tie.Need-add-r
-add-r c = search needs
+element-write-stack : tie.Need-element-write-stack
+element-write-stack c = search needs
+
+add-result : tie.Need-add-result
+add-result c = search needs
 
 returns : tie.Need-returns
-unfolding view added
 returns c =
-    let a = c .before .before .args in
-    let l = c .before .before .good .0 .1 .1 .1 .1 .0 .1 .0 .1 in
-    let h : a .n < length (a .st .shapes) = omega (arith, simp length-map at l) in (
-      (λ m. simp (
-        c .before .before .pre .1,
-        le-leb _ _ (c .before .if1 .taken),
-        length-stack,
-        lt-ltb _ _ (c .if2 .taken),
-        stack-push (shape 0 0) (a .st .shapes) (a .n) (shape (a .form) (a .depth)) h,
-      )),
-      search needs,
-    )
-
-fail-requires : tie.Need-fail-requires
-fail-requires c κs = search needs
+    let s = c .before .before in
+    ((λ m. laws.pushed m (s .args .stack .now) (s .args .n) _ _ (s .pre .1) (c .before .if1 .taken) (c .if2 .taken) (search needs)), search needs)
 
 returns-2 : tie.Need-returns-2
-unfolding view added
-returns-2 c =
-    let d = le-leb _ _ (c .before .before .if1 .taken) in
-    ((λ m. simp (d, length-stack, le-ltb _ _ (c .before .if2 .left)) (c .fail .ensures .0)), search needs)
-
-fail-requires-2 : tie.Need-fail-requires-2
-fail-requires-2 c κs = search needs
+returns-2 c = ((λ m. laws.unseen _ ∙ laws.full m _ _ _ _ (c .before .before .pre .1) (c .if2 .left)), search needs)
 
 returns-3 : tie.Need-returns-3
-unfolding view added
-returns-3 c = ((λ m. simp (lt-leb _ _ (c .before .if1 .left)) (c .fail2 .ensures .0)), search needs)
+returns-3 c = ((λ m. laws.unseen _ ∙ laws.deep m _ _ _ _ (c .before .pre .1) (c .if1 .left)), search needs)
 
 pub push-spec : {M : Type 1} → statement M
 push-spec =
     tie.close
     (tie.spec
-    cast-t8
-    mul-t10
-    element-set-from-r
-    add-r
+    cast-stack
+    mul-stack
+    add-stack
+    element-write-stack
+    add-result
     returns
-    fail-requires
     returns-2
-    fail-requires-2
     returns-3)

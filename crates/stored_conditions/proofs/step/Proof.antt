@@ -1,9 +1,9 @@
-use mathlib.Core.Path.{refl}
+use mathlib.Core.Path.{refl, _∙_}
 use borrow.Author.Tests.{le-ltb, lt-ltb, le-leb, lt-leb, eq-eqb, ne-eqb}
 use borrow.Author.Needs.{needs}
 use Rattle.model.specs.Block.{and, or}
-use Rattle.stored_conditions.specs.Machine.{step, turn}
-use Rattle.stored_conditions.specs.Shapes.{view}
+use Rattle.stored_conditions.specs.Machine.{step}
+use Rattle.stored_conditions.proofs.Steps as laws
 use Rattle.stored_conditions.proofs.step.Statement.{statement}
 use Rattle.stored_conditions.proofs.step.Tie as tie
 
@@ -11,77 +11,56 @@ push-requires : tie.Need-push-requires
 push-requires c κs = search needs
 
 returns : tie.Need-returns
-unfolding view turn step
+unfolding step
 returns c =
     let p = c .before .before in
-    (simp (p .before .pre .1, le-leb _ _ (p .if1 .taken), lt-ltb _ _ (c .before .if2 .taken)) (c .push .ensures .0 _), search needs)
-
-fail-requires : tie.Need-fail-requires
-fail-requires c κs = search needs
+    (simp (le-leb _ _ (p .before .if1 .taken), lt-ltb _ _ (p .if2 .taken)) (c .push .ensures .0 _), search needs)
 
 returns-2 : tie.Need-returns-2
-unfolding view turn step
+unfolding step
 returns-2 c =
-    let p = c .before .before in
-    (simp (p .before .pre .1, le-leb _ _ (p .if1 .taken), le-ltb _ _ (c .before .if2 .left)) (c .fail .ensures .0), search needs)
+    (laws.unseen _ ∙ simp (le-leb _ _ (c .before .if1 .taken), le-ltb _ _ (c .if2 .left)), search needs)
 
 negate-requires : tie.Need-negate-requires
 negate-requires c κs = search needs
 
 returns-3 : tie.Need-returns-3
-unfolding view turn step
+unfolding step
 returns-3 c =
     let p = c .before .before in
-    (simp (p .before .pre .1, lt-leb _ _ (p .if1 .left), eq-eqb _ _ (c .before .if3 .taken)) (c .negate .ensures .0 _), search needs)
+    (simp (lt-leb _ _ (p .before .if1 .left), eq-eqb _ _ (p .if3 .taken)) (c .negate .ensures .0 _), search needs)
 
 join-requires : tie.Need-join-requires
 join-requires c κs = search needs
 
 returns-4 : tie.Need-returns-4
-unfolding view turn step
+unfolding step
 returns-4 c =
     let p = c .before .before in
-    let q = p .before in (
-      simp (q .before .pre .1, lt-leb _ _ (q .if1 .left), ne-eqb _ _ (p .if3 .left), eq-eqb _ _ (c .before .if4 .taken))
-          (c .join .ensures .0 _ and refl refl),
-      search needs,
-    )
+    let q = p .before in
+    (simp (lt-leb _ _ (q .before .if1 .left), ne-eqb _ _ (q .if3 .left), eq-eqb _ _ (p .if4 .taken)) (c .join .ensures .0 _ and refl refl), search needs)
 
 join-requires-2 : tie.Need-join-requires-2
 join-requires-2 c κs = search needs
 
 returns-5 : tie.Need-returns-5
-unfolding view turn step
+unfolding step
 returns-5 c =
     let p = c .before .before in
     let q = p .before in
     let s = q .before in (
-      simp (
-        s .before .pre .1,
-        lt-leb _ _ (s .if1 .left),
-        ne-eqb _ _ (q .if3 .left),
-        ne-eqb _ _ (p .if4 .left),
-        eq-eqb _ _ (c .before .if5 .taken),
-      ) (c .join2 .ensures .0 _ or refl refl),
+      simp (lt-leb _ _ (s .before .if1 .left), ne-eqb _ _ (s .if3 .left), ne-eqb _ _ (q .if4 .left), eq-eqb _ _ (p .if5 .taken))
+          (c .join2 .ensures .0 _ or refl refl),
       search needs,
     )
 
-fail-requires-2 : tie.Need-fail-requires-2
-fail-requires-2 c κs = search needs
-
 returns-6 : tie.Need-returns-6
-unfolding view turn step
+unfolding step
 returns-6 c =
-    let p = c .before .before in
-    let q = p .before in
+    let q = c .before in
     let s = q .before in (
-      simp (
-        s .before .pre .1,
-        lt-leb _ _ (s .if1 .left),
-        ne-eqb _ _ (q .if3 .left),
-        ne-eqb _ _ (p .if4 .left),
-        ne-eqb _ _ (c .before .if5 .left),
-      ) (c .fail2 .ensures .0),
+      laws.unseen _
+          ∙ simp (lt-leb _ _ (s .before .if1 .left), ne-eqb _ _ (s .if3 .left), ne-eqb _ _ (q .if4 .left), ne-eqb _ _ (c .if5 .left)),
       search needs,
     )
 
@@ -91,7 +70,6 @@ step-spec =
     (tie.spec
     push-requires
     returns
-    fail-requires
     returns-2
     negate-requires
     returns-3
@@ -99,5 +77,4 @@ step-spec =
     returns-4
     join-requires-2
     returns-5
-    fail-requires-2
     returns-6)

@@ -1,37 +1,31 @@
 use borrow.Author.Needs.{needs}
-use mathlib.Core.Path.{_≡_, sym, ap, _∙_, subst}
-use mathlib.Core.Bool.{true, false}
+use mathlib.Core.Path.{_≡_, sym, ap, _∙_}
+use mathlib.Core.Bool.{true, not}
 use Prim.Native.Nat.{ℕ, _+_, _-_, _≤_, _<_}
 use native.Mathlib.Omega.{arith}
 use native.Mathlib.Nat.{sub-zero}
+use borrow.Author.Tests.{not-true, not-false}
 use lib.Dec.{eqb}
-use lib.ListN.{length, getD, set, length-set}
-use Rattle.model.specs.Basic.{distinct}
+use Rattle.model.specs.Basic.{all, distinct}
 use Rattle.model.specs.Image.{wordAt, tab}
-use Rattle.laws.proofs.Places.{distinct-end}
+use Rattle.laws.proofs.Places.{distinct-more, distinct-stop, distinct-end}
 use Rattle.stored_rules.specs.Walk.{ruleNumber}
-use Rattle.stored_rules.proofs.Numbers.{Marks, marks-none, marks-more, met, unmet}
+use Rattle.stored_rules.proofs.Numbers.{From, from-more, distinct-less}
 use Rattle.stored_rules.proofs.numbers_distinct.Statement.{statement}
 use Rattle.stored_rules.proofs.numbers_distinct.Tie as tie
 
 abbrev Inv-loop : tie.InvT-loop
-Inv-loop img h marked₀ i₀ marked i =
-    (i ≤ h .rules) × (length marked ≡ 65536)
-    × (distinct eqb (tab (ruleNumber (wordAt img)) (h .rules - i) i) ≡ true) × Marks (ruleNumber (wordAt img)) (h .rules) i marked
+Inv-loop img h least₀ i₀ least i =
+    (i ≤ h .rules) × (distinct eqb (tab (ruleNumber (wordAt img)) (h .rules - i) i) ≡ true) × From (ruleNumber (wordAt img)) (h .rules) i least
 
 abbrev μ-loop : tie.MeasureT-loop
-μ-loop img h marked₀ i₀ marked i = i
+μ-loop img h least₀ i₀ least i = i
 
 inside : (c : tie.In-loop Inv-loop μ-loop) → c .before .loop .i - 1 < c .before .before .before .args .h .rules
 inside c = omega (arith, c .before .loop .inv .0)
 
 back : (c : tie.In-loop Inv-loop μ-loop) → c .before .loop .i - 1 + 1 ≡ c .before .loop .i
 back c = omega arith
-
-marks-here : (c : tie.In-loop Inv-loop μ-loop) →
-    let a = c .before .before .before .args in
-    Marks (ruleNumber (wordAt (a .img .now))) (a .h .rules) (c .before .loop .i - 1 + 1) (c .before .loop .marked)
-marks-here c = rw (back c) (c .before .loop .inv .3)
 
 number-is : (c : tie.After-word Inv-loop μ-loop) →
     let l = c .before .before .before in
@@ -41,16 +35,25 @@ number-is c =
     let w = wordAt (s .args .img .now) in
     c .word .ensures .0 ∙ ap w (c .before .rule-row .ensures .0 w (s .pre .0))
 
-number-small : (c : tie.After-word Inv-loop μ-loop) → c .word .result < 65536
-number-small c =
-    let l = c .before .before in
-    omega (arith, number-is c, l .before .before .before .pre .2 (l .before .loop .i - 1) (inside l))
+-- the test of one number
+told : (c : tie.After-differs Inv-loop μ-loop) →
+    let l = c .before .before .before .before in
+    let a = l .before .before .args in
+    let f = ruleNumber (wordAt (a .img .now)) in
+    let i = l .loop .i - 1 in
+    c .differs .result ≡ all (λ n. not (eqb (f i) n)) (tab f (a .h .rules - (i + 1)) (i + 1))
+told c =
+    let l = c .before .before .before .before in
+    let a = l .before .before .args in
+    let f = ruleNumber (wordAt (a .img .now)) in
+    let i = l .loop .i - 1 in
+    c .differs .ensures ∙ ap (λ (x : ℕ). all (λ n. not (eqb x n)) (tab f (a .h .rules - (i + 1)) (i + 1))) (number-is (c .before))
 
 loop-holds : tie.Need-loop-holds Inv-loop μ-loop
 loop-holds c =
     let a = c .before .args in
     let f = ruleNumber (wordAt (a .img .now)) in
-    (search needs, search needs, distinct-end eqb f (a .h .rules) (a .h .rules) (omega arith), marks-none f (a .h .rules) 65536)
+    (search needs, distinct-end eqb f (a .h .rules) (a .h .rules) (omega arith), λ j low high. absurd (omega arith))
 
 sub-i : tie.Need-sub-i Inv-loop μ-loop
 sub-i c = search needs
@@ -64,45 +67,47 @@ rule-row-requires c κs =
 word-requires : tie.Need-word-requires Inv-loop μ-loop
 word-requires c κs = search needs
 
-array-read-if1 : tie.Need-array-read-if1 Inv-loop μ-loop
-array-read-if1 c = number-small c
+differs-requires : tie.Need-differs-requires Inv-loop μ-loop
+differs-requires c κs =
+    let l = c .before .before .before in
+    let s = l .before .before in
+    (s .pre .0, s .pre .1, inside (c .before .before), λ j low high. l .loop .inv .2 j (omega arith) high)
 
 returns : tie.Need-returns Inv-loop μ-loop
 returns c =
-    let t = c .before .before .before in
+    let t = c .before .before .before .before in
     let a = t .before .before .before .args in
-    let l = t .before .loop in
-    let m = ap (λ (x : ℕ). getD (l .marked) x false) (sym (number-is (c .before))) ∙ c .if1 .taken in
-    sym (met (ruleNumber (wordAt (a .img .now))) (a .h .rules) (l .i - 1) (l .marked) (inside t) (marks-here t) m)
+    let f = ruleNumber (wordAt (a .img .now)) in
+    let i = t .before .loop .i - 1 in
+    let q = distinct-stop eqb f (a .h .rules) i (inside t) (sym (told (c .before)) ∙ not-true _ (c .if1 .taken)) in
+    sym (distinct-less f (a .h .rules) i (omega (arith, inside t)) q)
 
-array-write-marked : tie.Need-array-write-marked Inv-loop μ-loop
-array-write-marked c = number-small (c .before)
+lesser-requires : tie.Need-lesser-requires Inv-loop μ-loop
+lesser-requires c κs = search needs
 
 loop-less : tie.Need-loop-less Inv-loop μ-loop
 loop-less c = search needs
 
 loop-again : tie.Need-loop-again Inv-loop μ-loop
 loop-again c =
-    let t = c .before .before .before in
+    let d = c .before .before in
+    let t = d .before .before .before in
     let a = t .before .before .before .args in
     let f = ruleNumber (wordAt (a .img .now)) in
-    let e = a .h .rules in
     let l = t .before .loop in
-    let h = inside t in
-    let m = marks-here t in
-    let q = number-is (c .before) in (
-      omega (arith, h),
-      length-set (l .marked) _ _ ∙ l .inv .1,
-      unmet f e (l .i - 1) (l .marked) h m (ap (λ (x : ℕ). getD (l .marked) x false) (sym q) ∙ c .if1 .left) ∙ rw (back t) (l .inv .2),
-      subst (λ (x : ℕ). Marks f e (l .i - 1) (set (l .marked) x true)) (sym q)
-          (marks-more f e (l .i - 1) (l .marked) h (omega (arith, q, number-small (c .before), l .inv .1)) m),
+    let i = l .i - 1 in
+    let n = number-is (d .before) in
+    let q = distinct-more eqb f (a .h .rules) i (inside t) (sym (told d) ∙ not-false _ (c .before .if1 .left)) in (
+      omega (arith, inside t),
+      q ∙ rw (back t) (l .inv .1),
+      from-more f (a .h .rules) i (l .least) _ (omega (arith, n, c .lesser .ensures .0)) (c .lesser .ensures .1) (rw (back t) (l .inv .2)),
     )
 
 returns-2 : tie.Need-returns-2 Inv-loop μ-loop
 returns-2 c =
     let l = c .before .loop in
     let e : l .i ≡ 0 = omega arith in
-    sym (rw (e, sub-zero) at (l .inv .2))
+    sym (rw (e, sub-zero) at (l .inv .1))
 
 pub numbers-distinct-spec : {M : Type 1} → statement M
 numbers-distinct-spec =
@@ -114,9 +119,9 @@ numbers-distinct-spec =
     sub-i
     rule-row-requires
     word-requires
-    array-read-if1
+    differs-requires
     returns
-    array-write-marked
+    lesser-requires
     loop-less
     loop-again
     returns-2)

@@ -5,7 +5,6 @@ use mathlib.Core.Path.{_≡_, sym, _∙_}
 use Prim.Native.Nat.{_*_, _-_, _≤_}
 use borrow.Author.Tests.{eq-eqb, ne-eqb, not-true, not-false}
 use Rattle.model.specs.Image.{wordAt}
-use Rattle.laws.proofs.Places.{field}
 use Rattle.stored_rules.specs.Walk.{rulesWalk}
 use Rattle.stored_rules.proofs.Loops.{walk-more, walk-stop, walk-end}
 use Rattle.stored_rules.proofs.rows_ok.Statement.{statement}
@@ -21,40 +20,25 @@ abbrev μ-loop : tie.MeasureT-loop
 loop-holds : tie.Need-loop-holds Inv-loop μ-loop
 loop-holds c = (search needs, search needs, rw sub-zero)
 
+parts-of-requires : tie.Need-parts-of-requires Inv-loop μ-loop
+parts-of-requires c κs = search needs
+
 row-ok-requires : tie.Need-row-ok-requires Inv-loop μ-loop
 row-ok-requires c κs = search needs
 
 returns : tie.Need-returns Inv-loop μ-loop
 returns c =
-    let l = c .before .before .before .loop in
-    let a = c .before .before .before .before .before .args in
+    let l = c .before .before .before .before .loop in
+    let a = c .before .before .before .before .before .before .args in
     let w = wordAt (a .img .now) in
     let f = sym (c .before .row-ok .ensures) ∙ not-true _ (c .if1 .taken) in
     sym (walk-stop w (a .h .rules) (l .i) (l .n) (l .k) (omega arith) f) ∙ l .inv .2
 
-rule-row-requires : tie.Need-rule-row-requires Inv-loop μ-loop
-rule-row-requires c κs =
-    let s = c .before .before .before .before .before in
-    let hd = s .pre .1 in
-    omega (arith, hd .rule-table, hd .fits 13, s .pre .4)
-
-add-word : tie.Need-add-word Inv-loop μ-loop
-add-word c = search needs
-
-word-requires : tie.Need-word-requires Inv-loop μ-loop
-word-requires c κs = search needs
-
 add-n : tie.Need-add-n Inv-loop μ-loop
-add-n c = search needs
-
-add-word-2 : tie.Need-add-word-2 Inv-loop μ-loop
-add-word-2 c = search needs
-
-word-requires-2 : tie.Need-word-requires-2 Inv-loop μ-loop
-word-requires-2 c κs = search needs
+add-n c = let q = c .before .before .before .parts-of .ensures .fits .1 in omega arith
 
 add-k : tie.Need-add-k Inv-loop μ-loop
-add-k c = search needs
+add-k c = let q = c .before .before .before .before .parts-of .ensures .fits .3 in omega arith
 
 add-i : tie.Need-add-i Inv-loop μ-loop
 add-i c = search needs
@@ -64,17 +48,16 @@ loop-less c = search needs
 
 loop-again : tie.Need-loop-again Inv-loop μ-loop
 loop-again c =
-    let p = c .before .before in
-    let r = p .before .before in
-    let l = r .before .before .loop in
-    let s = r .before .before .before .before in
-    let a = s .args in
+    let e = c .before .before in
+    let p = e .before .before .parts-of .ensures in
+    let l = e .before .before .before .before .loop in
+    let a = e .before .before .before .before .before .before .args in
     let w = wordAt (a .img .now) in
-    let o = p .rule-row .ensures .0 w (s .pre .1) in
-    let n = field w _ _ 2 _ (c .before .word .ensures .0) o in
-    let k = field w _ _ 4 _ (c .word2 .ensures .0) o in
-    let t = sym (r .row-ok .ensures) ∙ not-false _ (p .before .if1 .left) in
-    (search needs, search needs, sym (walk-more w (a .h .rules) (l .i) (l .n) (l .k) _ _ n k (omega arith) t) ∙ l .inv .2)
+    let t = sym (e .before .row-ok .ensures) ∙ not-false _ (e .if1 .left) in (
+      omega (arith, p .fits .1),
+      omega (arith, p .fits .3),
+      sym (walk-more w (a .h .rules) (l .i) (l .n) (l .k) _ _ (p .words) (p .conclusions) (omega arith) t) ∙ l .inv .2,
+    )
 
 returns-2 : tie.Need-returns-2 Inv-loop μ-loop
 returns-2 c =
@@ -101,14 +84,10 @@ rows-ok-spec =
     Inv-loop
     μ-loop
     loop-holds
+    parts-of-requires
     row-ok-requires
     returns
-    rule-row-requires
-    add-word
-    word-requires
     add-n
-    add-word-2
-    word-requires-2
     add-k
     add-i
     loop-less

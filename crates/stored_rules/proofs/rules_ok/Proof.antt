@@ -7,7 +7,6 @@ use Rattle.model.specs.Basic.{every}
 use Rattle.model.specs.Image.{wordAt}
 use Rattle.layout.specs.Groups.{rulesOk}
 use Rattle.laws.proofs.Tests.{both, one-fails, last-decides}
-use Rattle.stored_rules.proofs.Numbers.{walk-numbers}
 use Rattle.stored_rules.proofs.Rules.{tests, rules-words}
 use borrow.Author.Needs.{needs}
 use Rattle.stored_rules.proofs.rules_ok.Statement.{statement}
@@ -53,10 +52,8 @@ returns-4 c =
 
 numbers-distinct-requires : tie.Need-numbers-distinct-requires
 numbers-distinct-requires c κs =
-    let r = c .before in
-    let p = r .before .before .before .before .before in
-    let s = p .before .before .before in
-    (s .pre .1, few p, walk-numbers (wordAt (s .args .img .now)) (s .args .h .rules) (sym (r .rows-ok .ensures) ∙ not-false _ (c .if4 .left)))
+    let p = c .before .before .before .before .before .before in
+    (p .before .before .before .pre .1, few p)
 
 returns-5 : tie.Need-returns-5
 returns-5 c =

@@ -1,0 +1,98 @@
+use borrow.Author.Needs.{needs}
+use native.Mathlib.Omega.{arith}
+use mathlib.Core.Path.{_≡_, sym, ap, _∙_}
+use mathlib.Core.Bool.{not}
+use Prim.Native.Nat.{ℕ, _+_, _-_}
+use borrow.Author.Tests.{eq-eqb, ne-eqb}
+use lib.Dec.{eqb}
+use Rattle.model.specs.Basic.{all}
+use Rattle.model.specs.Image.{wordAt, tab}
+use Rattle.laws.proofs.Places.{all-more, all-stop, all-end}
+use Rattle.stored_rules.specs.Walk.{ruleNumber}
+use Rattle.stored_rules.proofs.Numbers.{lower}
+use Rattle.stored_rules.proofs.differs.Statement.{statement}
+use Rattle.stored_rules.proofs.differs.Tie as tie
+
+abbrev Inv-loop : tie.InvT-loop
+Inv-loop img h i number least e j₀ j =
+    all (λ n. not (eqb number n)) (tab (ruleNumber (wordAt img)) (e - j) j)
+    ≡ all (λ n. not (eqb number n)) (tab (ruleNumber (wordAt img)) (e - (i + 1)) (i + 1))
+
+abbrev μ-loop : tie.MeasureT-loop
+μ-loop img h i number least e j₀ j = e - j
+
+returns : tie.Need-returns Inv-loop μ-loop
+returns c =
+    let s = c .before .before in
+    let a = s .args in
+    sym (lower (ruleNumber (wordAt (a .img .now))) (a .h .rules) (a .number) (a .least) (a .i + 1) (c .if1 .taken) (λ j low high. s .pre .3 j (omega arith) high))
+
+add-j : tie.Need-add-j Inv-loop μ-loop
+add-j c = search needs
+
+loop-holds : tie.Need-loop-holds Inv-loop μ-loop
+loop-holds c = search needs
+
+rule-row-requires : tie.Need-rule-row-requires Inv-loop μ-loop
+rule-row-requires c κs =
+    let s = c .before .before .before .before in
+    let hd = s .pre .0 in
+    omega (arith, hd .rule-table, hd .fits 13, s .pre .1)
+
+word-requires : tie.Need-word-requires Inv-loop μ-loop
+word-requires c κs = search needs
+
+-- the number of rule j
+read : (c : tie.After-word Inv-loop μ-loop) →
+    let l = c .before .before .before in
+    c .word .result ≡ ruleNumber (wordAt (l .before .before .before .args .img .now)) (l .loop .j)
+read c =
+    let s = c .before .before .before .before .before .before in
+    let w = wordAt (s .args .img .now) in
+    c .word .ensures .0 ∙ ap w (c .before .rule-row .ensures .0 w (s .pre .0))
+
+returns-2 : tie.Need-returns-2 Inv-loop μ-loop
+returns-2 c =
+    let l = c .before .before .before .before in
+    let a = l .before .before .before .args in
+    let f = ruleNumber (wordAt (a .img .now)) in
+    let q = ap not (eq-eqb (a .number) (f (l .loop .j)) (c .if2 .taken ∙ read (c .before))) in
+    sym (all-stop (λ (n : ℕ). not (eqb (a .number) n)) f (a .h .rules) (l .loop .j) (omega arith) q) ∙ l .loop .inv
+
+add-j-2 : tie.Need-add-j-2 Inv-loop μ-loop
+add-j-2 c = search needs
+
+loop-less : tie.Need-loop-less Inv-loop μ-loop
+loop-less c = search needs
+
+loop-again : tie.Need-loop-again Inv-loop μ-loop
+loop-again c =
+    let l = c .before .before .before .before in
+    let a = l .before .before .before .args in
+    let f = ruleNumber (wordAt (a .img .now)) in
+    let q = ap not (ne-eqb (a .number) (f (l .loop .j)) (λ e. c .if2 .left (e ∙ sym (read (c .before))))) in
+    sym (all-more (λ (n : ℕ). not (eqb (a .number) n)) f (a .h .rules) (l .loop .j) (omega arith) q) ∙ l .loop .inv
+
+returns-3 : tie.Need-returns-3 Inv-loop μ-loop
+returns-3 c =
+    let l = c .before in
+    let a = l .before .before .before .args in
+    let f = ruleNumber (wordAt (a .img .now)) in
+    sym (all-end (λ (n : ℕ). not (eqb (a .number) n)) f (a .h .rules) (l .loop .j) (c .loop-test .left)) ∙ l .loop .inv
+
+pub differs-spec : {M : Type 1} → statement M
+differs-spec =
+    tie.close
+    (tie.spec
+    Inv-loop
+    μ-loop
+    returns
+    add-j
+    loop-holds
+    rule-row-requires
+    word-requires
+    returns-2
+    add-j-2
+    loop-less
+    loop-again
+    returns-3)
