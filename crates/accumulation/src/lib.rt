@@ -44,50 +44,32 @@ fn stored_accumulation(img: &[u8]) -> Accumulation
     }
 }
 
-// The degree of rule i: of its condition, times its weight.
-fn rule_degree(img: &[u8], h: Header, i: usize, ds: [Degree; INPUT_TERMS]) -> Degree
-    requires { ⌜ Sound (wordAt (now img)) × Heads (wordAt (now img)) h × (i < h .rules) × Low (numbers ds) ⌝ }
-    ensures { λ r. ⌜ (r .0 ≡ ruleDegree (decode (wordAt (now (img .entry)))) (numbers ds)
+fn millionths(ds: [Degree; INPUT_TERMS]) -> [u32; INPUT_TERMS]
+    ensures { λ r. ⌜ r ≡ numbers ds ⌝ }
+{
+    let mut r = [0u32; INPUT_TERMS];
+    let mut i = 0;
+    while i < INPUT_TERMS {
+        let d = ds[i];
+        r[i] = d.0;
+        i += 1;
+    }
+    r
+}
+
+// The degree of rule i: of its condition, by the stored pair and the degrees of the input terms, times its weight.
+fn rule_degree(img: &[u8], h: Header, i: usize, ds: &[u32], p: Pair) -> Degree
+    requires { ⌜ Sound (wordAt (now img)) × Heads (wordAt (now img)) h × (i < h .rules) × Low (now ds)
+        × (p ≡ pairOf (wordAt (now img) PAIR-WORD)) ⌝ }
+    ensures { λ r. ⌜ (r .0 ≡ ruleDegree (decode (wordAt (now (img .entry)))) (now (ds .entry))
         (ruleAt (wordAt (now (img .entry))) i)) × (r .0 ≤ M) ⌝ }
 {
     let o = rule_row(h, i);
     let first = word(img, o + header::RULE_WORD_FIRST);
     let n = word(img, o + header::RULE_WORDS);
-    let d = condition_degree(img, h.word_table + first, n, ds, stored_pair(img));
+    let d = condition_degree(img, h.word_table + first, n, ds, p);
     let weight = word(img, o + header::RULE_WEIGHT) as u32;
     prod(d, Degree(weight))
-}
-
-// Each conclusion of rule i accumulates d into the height of its term. hs holds the heights of the output terms, the
-// first of which is m.
-fn conclude(
-    img: &[u8],
-    h: Header,
-    i: usize,
-    m: usize,
-    d: Degree,
-    hs: [Degree; OUTPUT_TERMS],
-) -> [Degree; OUTPUT_TERMS]
-    requires { ⌜ Sound (wordAt (now img)) × Heads (wordAt (now img)) h × (i < h .rules)
-        × (m ≡ inputTermsIn (wordAt (now img))) × (d .0 ≤ M) × Low (numbers hs) ⌝ }
-    ensures { λ r. ⌜ ((p : ℕ) → getD (numbers r) p 0
-        ≡ afterConclusions (accuOf (wordAt (now (img .entry)) ACCU-WORD)) (d .0) (m + p)
-        (ruleAt (wordAt (now (img .entry))) i .conclusions) (getD (numbers hs) p 0)) ⌝ }
-    ensures small { λ r. ⌜ Low (numbers r) ⌝ }
-{
-    let o = rule_row(h, i);
-    let first = word(img, o + header::RULE_CONCLUSION_FIRST);
-    let n = word(img, o + header::RULE_CONCLUSIONS);
-    let k = stored_accumulation(img);
-    let mut r = hs;
-    let mut j = 0;
-    while j < n {
-        let t = word(img, conclusion_row(h, first + j) + header::CONCLUSION_TERM) - m;
-        let old = r[t];
-        r[t] = accumulate(k, old, d);
-        j += 1;
-    }
-    r
 }
 
 // The heights of the output terms, of which m is the first, by the degrees of the input terms.
@@ -99,11 +81,23 @@ pub fn heights(img: &[u8], h: Header, ds: [Degree; INPUT_TERMS], m: usize) -> [D
     ensures small { λ r. ⌜ Low (numbers r) ⌝ }
 {
     let n = h.rules;
+    let degrees = millionths(ds);
+    let pair = stored_pair(img);
+    let accu = stored_accumulation(img);
     let mut hs = [Degree(0); OUTPUT_TERMS];
     let mut i = 0;
     while i < n {
-        let next = conclude(img, h, i, m, rule_degree(img, h, i, ds), hs);
-        hs = next;
+        let d = rule_degree(img, h, i, &degrees, pair);
+        let o = rule_row(h, i);
+        let first = word(img, o + header::RULE_CONCLUSION_FIRST);
+        let count = word(img, o + header::RULE_CONCLUSIONS);
+        let mut j = 0;
+        while j < count {
+            let t = word(img, conclusion_row(h, first + j) + header::CONCLUSION_TERM) - m;
+            let old = hs[t];
+            hs[t] = accumulate(accu, old, d);
+            j += 1;
+        }
         i += 1;
     }
     hs

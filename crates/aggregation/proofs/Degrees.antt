@@ -3,7 +3,7 @@ use mathlib.Core.Path.{_≡_, sym}
 use mathlib.Core.List.{List}
 use Prim.Native.Nat.{ℕ, _≤_}
 use native.Mathlib.Omega.{arith}
-use lib.ListN.{length, getD, set, replicate, List·getD-map, List·getD-eq-default, length-map}
+use lib.ListN.{getD, set, replicate, List·getD-map}
 use Rattle.model.specs.declared.Degree.{Degree}
 use Rattle.model.specs.Bounds.{M}
 use Rattle.degrees.specs.Tables.{numbers, Low}
@@ -23,6 +23,3 @@ numbers-zeros n = map-replicate (λ (d : Degree). d .0) n (record { 0 = 0 })
 
 pub number-at : (ds : List Degree) (t : ℕ) → getD ds t (record { 0 = 0 }) .0 ≡ getD (numbers ds) t 0
 number-at ds t = sym (List·getD-map (λ (x : Degree). x .0) ds t (record { 0 = 0 }))
-
-pub number-past : (ds : List Degree) (t : ℕ) → length ds ≤ t → getD (numbers ds) t 0 ≡ 0
-number-past ds t h = List·getD-eq-default (numbers ds) 0 (rw length-map h)

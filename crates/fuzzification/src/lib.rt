@@ -11,11 +11,9 @@ use words::word;
 ghost use mathlib.Core.Path.{_≡_};
 ghost use mathlib.Core.Bool.{true};
 ghost use mathlib.Core.List.{map};
-ghost use Prim.Native.Nat.{_+_, _≤_};
+ghost use Prim.Native.Nat.{_≤_};
 ghost use lib.IntN.{pos};
 ghost use lib.ListN.{length};
-ghost use lib.Seq.{sets};
-ghost use Rattle.model.specs.Basic.{all};
 ghost use Rattle.model.specs.Bounds.{M, inputLimit, pointLimit, inputTermLimit};
 ghost use Rattle.model.specs.Degrees.{termDegree};
 ghost use Rattle.model.specs.Evaluation.{termDegrees};
@@ -70,30 +68,6 @@ fn input_term_degree(img: &[u8], h: Header, t: usize, x: Crisp) -> Degree
     terms::term_degree(ps, n, x)
 }
 
-// The degrees of the n terms from the first on, each at its own place.
-fn with_terms(
-    img: &[u8],
-    h: Header,
-    ds: [Degree; bounds::INPUT_TERMS],
-    first: usize,
-    n: usize,
-    x: Crisp,
-) -> [Degree; bounds::INPUT_TERMS]
-    requires { ⌜ Heads (wordAt (now img)) h × (first + n ≤ inputTermLimit) × InCrisp (x .0) × Low (numbers ds) ⌝ }
-    requires { ⌜ all termOk (tab (termAt (wordAt (now img))) n first) ≡ true ⌝ }
-    ensures { λ r. ⌜ numbers r ≡ sets (numbers ds) first
-        (map (λ t. termDegree (t .points) (x .0)) (tab (termAt (wordAt (now (img .entry)))) n first)) ⌝ }
-    ensures low { λ r. ⌜ Low (numbers r) ⌝ }
-{
-    let mut r = ds;
-    let mut k = 0;
-    while k < n {
-        r[first + k] = input_term_degree(img, h, first + k, x);
-        k += 1;
-    }
-    r
-}
-
 // The degrees of all input terms at the inputs' values.
 pub fn term_degrees(
     img: &[u8],
@@ -112,8 +86,11 @@ pub fn term_degrees(
     while i < n {
         let count = word(img, header::input_row(h, i) + header::INPUT_TERMS);
         let x = xs[i];
-        let more = with_terms(img, h, ds, first, count, x);
-        ds = more;
+        let mut k = 0;
+        while k < count {
+            ds[first + k] = input_term_degree(img, h, first + k, x);
+            k += 1;
+        }
         first += count;
         i += 1;
     }

@@ -1,68 +1,241 @@
 use borrow.Author.Needs.{needs}
-use mathlib.Core.Path.{_≡_, sym, _∙_}
-use Prim.Native.Nat.{ℕ, _+_, _-_, _≤_}
+use mathlib.Core.Path.{_≡_, refl, sym, ap, subst, _∙_}
+use mathlib.Core.List.{List}
+use Prim.Native.Nat.{ℕ, _+_, _-_, _≤_, _<_}
 use native.Mathlib.Omega.{arith}
-use lib.ListN.{getD}
+use lib.ListN.{length, getD}
 use Rattle.model.specs.Evaluation.{height}
-use Rattle.model.specs.Image.{wordAt, tab, decode, ruleAt}
+use Rattle.model.specs.Image.{wordAt, tab, decode, rulePlace, ruleAt, conclusionAt}
+use Rattle.laws.proofs.Places.{field}
+use Rattle.layout.proofs.Rules.{rules-few, rule-conclusions}
+use Rattle.aggregation.proofs.Degrees.{number-at}
 use Rattle.degrees.specs.Tables.{numbers, Low}
-use Rattle.accumulation.proofs.Steps.{afterRules, zeros, rules-start, rule-turn, rules-end}
+use Rattle.accumulation.specs.Heights.{afterConclusions}
+use Rattle.accumulation.proofs.Steps.{conclusion-turn, conclusions-start, conclusions-end, low-turn, afterRules, zeros, rules-start, rule-turn, rules-end}
+use Rattle.accumulation.proofs.Rules.{term-read}
 use Rattle.accumulation.proofs.heights.Statement.{statement}
 use Rattle.accumulation.proofs.heights.Tie as tie
 
+-- what is left of the conclusions of rule i from the j-th on, and of the rules from the i-th on
+abbrev Inv-loop2 : tie.InvT-loop2
+Inv-loop2 img h m n degrees pair accu hs₀ i d o first count j₀ hs j =
+    (j ≤ count) × (length hs ≡ 42) × Low (numbers hs)
+    × ((p : ℕ) → afterConclusions accu (d .0) (m + p) (tab (conclusionAt (wordAt img)) (count - j) (first + j)) (getD (numbers hs) p 0)
+    ≡ afterConclusions accu (d .0) (m + p) (tab (conclusionAt (wordAt img)) count first) (getD (numbers hs₀) p 0))
+
+abbrev μ-loop2 : tie.MeasureT-loop2
+μ-loop2 img h m n degrees pair accu hs₀ i d o first count j₀ hs j = count - j
+
 abbrev Inv-loop : tie.InvT-loop
-Inv-loop img h ds m n hs₀ i₀ hs i =
-    (i ≤ n) × Low (numbers hs)
-    × ((p : ℕ) → afterRules (decode (wordAt img)) (numbers ds) (m + p) (tab (ruleAt (wordAt img)) (n - i) i) (getD (numbers hs) p 0)
-    ≡ height (decode (wordAt img)) (numbers ds) (m + p))
+Inv-loop img h m n degrees pair accu hs₀ i₀ hs i =
+    (i ≤ n) × (length hs ≡ 42) × Low (numbers hs)
+    × ((p : ℕ) → afterRules (decode (wordAt img)) degrees (m + p) (tab (ruleAt (wordAt img)) (n - i) i) (getD (numbers hs) p 0)
+    ≡ height (decode (wordAt img)) degrees (m + p))
 
 abbrev μ-loop : tie.MeasureT-loop
-μ-loop img h ds m n hs₀ i₀ hs i = n - i
+μ-loop img h m n degrees pair accu hs₀ i₀ hs i = n - i
 
-loop-holds : tie.Need-loop-holds Inv-loop μ-loop
+abbrev Place : Type 0
+Place = tie.After-word2 Inv-loop2 μ-loop2 Inv-loop μ-loop
+
+abbrev start : Place → tie.Start Inv-loop2 μ-loop2 Inv-loop μ-loop
+start c = c .before .before .before .before .before .before .before .before .before .before .before
+
+inside : (c : Place) → c .before .before .before .before .before .before .loop .i < wordAt (start c .args .img .now) 6
+inside c = omega (arith, c .before .before .before .before .before .loop-test .taken, start c .pre .1 .rules)
+
+-- the first conclusion and how many there are
+read : (c : Place) →
+    let w = wordAt (start c .args .img .now) in
+    let o = rulePlace w (c .before .before .before .before .before .before .loop .i) in
+    (c .before .word .result ≡ w (o + 3)) × (c .word2 .result ≡ w (o + 4))
+read c =
+    let w = wordAt (start c .args .img .now) in
+    let o = c .before .before .rule-row .ensures .0 w (start c .pre .1) in
+    (field w _ _ 3 _ (c .before .word .ensures .0) o, field w _ _ 4 _ (c .word2 .ensures .0) o)
+
+-- the term that a turn reads
+here : (c : tie.After-word3 Inv-loop2 μ-loop2 Inv-loop μ-loop) →
+    let l = c .before .before .before in
+    let a = start (l .before) .args in
+    let t = c .word3 .result in
+    (t ≡ conclusionAt (wordAt (a .img .now)) (l .before .before .word .result + l .loop2 .j) .term) × (a .m ≤ t) × (t < a .m + length (l .loop2 .hs))
+here c =
+    let l = c .before .before .before in
+    let q = l .before in
+    let s = start q in
+    let w = wordAt (s .args .img .now) in
+    let k = read q in
+    let e = field w _ _ 1 _ (c .word3 .ensures .0) (c .before .conclusion-row .ensures .0 w (s .pre .1)) in
+    let r = term-read w (s .pre .0) _ (inside q) _ _ (l .loop2 .j) _ (k .0) (k .1) (omega arith) e in
+    (r .0, omega (arith, r .1, s .pre .2), omega (arith, r .2, s .pre .2, l .loop2 .inv .1))
+
+millionths-requires : tie.Need-millionths-requires Inv-loop2 μ-loop2 Inv-loop μ-loop
+millionths-requires c κs = search needs
+
+stored-pair-requires : tie.Need-stored-pair-requires Inv-loop2 μ-loop2 Inv-loop μ-loop
+stored-pair-requires c κs = search needs
+
+stored-accumulation-requires : tie.Need-stored-accumulation-requires Inv-loop2 μ-loop2 Inv-loop μ-loop
+stored-accumulation-requires c κs = search needs
+
+loop-holds : tie.Need-loop-holds Inv-loop2 μ-loop2 Inv-loop μ-loop
 loop-holds c =
-    (search needs, (λ k. omega (arith, zeros 42 k)), λ p. rules-start _ _ _ _ _ (c .before .pre .1 .rules) (zeros 42 p))
+    let s = c .before .before .before .before in
+    (search needs, search needs, (λ k. omega (arith, zeros 42 k)), λ p. rules-start _ _ _ _ _ (s .pre .1 .rules) (zeros 42 p))
 
-rule-degree-requires : tie.Need-rule-degree-requires Inv-loop μ-loop
+slice-aggregate-rule-degree : tie.Need-slice-aggregate-rule-degree Inv-loop2 μ-loop2 Inv-loop μ-loop
+slice-aggregate-rule-degree c = search needs
+
+rule-degree-requires : tie.Need-rule-degree-requires Inv-loop2 μ-loop2 Inv-loop μ-loop
 rule-degree-requires c κs =
-    let s = c .before .before .before in
-    (s .pre .0, s .pre .1, omega arith, s .pre .3)
+    let s = c .before .before .before .before .before .before .before in
+    (s .pre .0, s .pre .1, omega arith, subst Low (sym (c .before .before .before .before .before .millionths .ensures)) (s .pre .3), c .before .before .before .before .stored-pair .ensures)
 
-conclude-requires : tie.Need-conclude-requires Inv-loop μ-loop
-conclude-requires c κs =
-    let l = c .before .before in
-    let s = l .before .before in
-    (s .pre .0, s .pre .1, omega arith, s .pre .2, c .rule-degree .ensures .1, l .loop .inv .1)
+rule-row-requires : tie.Need-rule-row-requires Inv-loop2 μ-loop2 Inv-loop μ-loop
+rule-row-requires c κs =
+    let s = c .before .before .before .before .before .before .before .before in
+    let hd = s .pre .1 in
+    omega (arith, hd .rule-table, hd .fits 13, hd .rules, rules-few _ (s .pre .0))
 
-add-i : tie.Need-add-i Inv-loop μ-loop
+add-word : tie.Need-add-word Inv-loop2 μ-loop2 Inv-loop μ-loop
+add-word c = search needs
+
+word-requires : tie.Need-word-requires Inv-loop2 μ-loop2 Inv-loop μ-loop
+word-requires c κs = search needs
+
+add-word-2 : tie.Need-add-word-2 Inv-loop2 μ-loop2 Inv-loop μ-loop
+add-word-2 c = search needs
+
+word-requires-2 : tie.Need-word-requires-2 Inv-loop2 μ-loop2 Inv-loop μ-loop
+word-requires-2 c κs = search needs
+
+loop2-holds : tie.Need-loop2-holds Inv-loop2 μ-loop2 Inv-loop μ-loop
+loop2-holds c =
+    let l = c .before .before .before .before .before .before .loop in
+    (search needs, l .inv .1, l .inv .2, λ p. conclusions-start _ _ _ _ _ 0 _ _)
+
+add-conclusion-row : tie.Need-add-conclusion-row Inv-loop2 μ-loop2 Inv-loop μ-loop
+add-conclusion-row c = search needs
+
+conclusion-row-requires : tie.Need-conclusion-row-requires Inv-loop2 μ-loop2 Inv-loop μ-loop
+conclusion-row-requires c κs =
+    let hd = start (c .before .before) .pre .1 in
+    omega (arith, hd .conclusion-table, hd .fits 15)
+
+add-word-3 : tie.Need-add-word-3 Inv-loop2 μ-loop2 Inv-loop μ-loop
+add-word-3 c = search needs
+
+word-requires-3 : tie.Need-word-requires-3 Inv-loop2 μ-loop2 Inv-loop μ-loop
+word-requires-3 c κs = search needs
+
+sub-t : tie.Need-sub-t Inv-loop2 μ-loop2 Inv-loop μ-loop
+sub-t c = omega (arith, here c)
+
+mul-old : tie.Need-mul-old Inv-loop2 μ-loop2 Inv-loop μ-loop
+mul-old c = omega (arith, here c)
+
+array-copy-out-old : tie.Need-array-copy-out-old Inv-loop2 μ-loop2 Inv-loop μ-loop
+array-copy-out-old c = omega (arith, here c)
+
+accumulate-requires : tie.Need-accumulate-requires Inv-loop2 μ-loop2 Inv-loop μ-loop
+accumulate-requires c κs =
+    let l = c .before .before .before .before in
+    let q = l .before in
+    let t = c .before .word3 .result - start q .args .m in
+    omega (arith, number-at (l .loop2 .hs) t, l .loop2 .inv .2 t, q .before .before .before .rule-degree .ensures .1)
+
+mul-hs : tie.Need-mul-hs Inv-loop2 μ-loop2 Inv-loop μ-loop
+mul-hs c = omega (arith, here (c .before .before))
+
+array-set-from-hs : tie.Need-array-set-from-hs Inv-loop2 μ-loop2 Inv-loop μ-loop
+array-set-from-hs c = omega (arith, here (c .before .before))
+
+add-j : tie.Need-add-j Inv-loop2 μ-loop2 Inv-loop μ-loop
+add-j c = search needs
+
+loop2-less : tie.Need-loop2-less Inv-loop2 μ-loop2 Inv-loop μ-loop
+loop2-less c = search needs
+
+loop2-again : tie.Need-loop2-again Inv-loop2 μ-loop2 Inv-loop μ-loop
+loop2-again c =
+    let l = c .before .before .before .before .before .loop2 in
+    let a = start (c .before .before .before .before .before .before) .args in
+    let k = here (c .before .before) in
+    let f = conclusionAt (wordAt (a .img .now)) in
+    let new = c .accumulate in (
+      search needs,
+      search needs,
+      low-turn (l .hs) _ (new .result) (l .inv .2) (new .ensures .1),
+      λ p. conclusion-turn _ _ f _ _ (l .j) (a .m) (l .hs) _ (new .result) (search needs) (k .0) (k .1) (k .2) (new .ensures .0) p ∙ l .inv .3 p,
+    )
+
+add-i : tie.Need-add-i Inv-loop2 μ-loop2 Inv-loop μ-loop
 add-i c = search needs
 
-loop-less : tie.Need-loop-less Inv-loop μ-loop
+loop-less : tie.Need-loop-less Inv-loop2 μ-loop2 Inv-loop μ-loop
 loop-less c = search needs
 
-loop-again : tie.Need-loop-again Inv-loop μ-loop
+loop-again : tie.Need-loop-again Inv-loop2 μ-loop2 Inv-loop μ-loop
 unfolding decode
 loop-again c =
-    let l = c .before .before .before .loop in
-    let d = c .before .rule-degree .ensures .0 in
-    (search needs, c .conclude .ensures .1, λ p. rule-turn _ _ _ _ (l .i) _ _ _ _ (search needs) d (c .conclude .ensures .0 p) ∙ l .inv .2 p)
+    let q = c .before .before in
+    let s = start q in
+    let a = s .args in
+    let w = wordAt (a .img .now) in
+    let g = c .before .loop2 in
+    let l = q .before .before .before .before .before .before .loop in
+    let d = q .before .before .before .rule-degree in
+    let k = read q in
+    let ks = rule-conclusions w (s .pre .0) (l .i) (inside q) (rulePlace w (l .i)) _ _ refl (k .0) (k .1) in
+    let given : (p : ℕ) → getD (numbers (g .hs)) p 0 ≡ afterConclusions (decode w .accu) (d .result .0) (a .m + p) (ruleAt w (l .i) .conclusions) (getD (numbers (l .hs)) p 0) =
+    λ p. sym (conclusions-end _ (d .result .0) (conclusionAt w) _ _ (g .j) (a .m + p) _ (c .loop2-test .left)) ∙ g .inv .3 p
+    ∙ (λ j. afterConclusions (q .before .before .before .before .before .before .before .stored-accumulation .ensures j) (d .result .0) (a .m + p) (ks j) (getD (numbers (l .hs)) p 0)) in
+    (search needs, g .inv .1, g .inv .2, λ p. rule-turn _ _ _ _ (l .i) _ _ _ _ (search needs) (d .ensures .0) (given p) ∙ l .inv .3 p)
 
-returns : tie.Need-returns Inv-loop μ-loop
+returns : tie.Need-returns Inv-loop2 μ-loop2 Inv-loop μ-loop
 returns c =
     let l = c .before .loop in
-    let a = c .before .before .before .args in
+    let a = c .before .before .before .before .before .before .args in
     let w = wordAt (a .img .now) in
-    ((λ p. sym (rules-end (decode w) (numbers (a .ds)) (ruleAt w) _ (l .i) (a .m + p) _ (c .loop-test .left)) ∙ l .inv .2 p), l .inv .1)
+    let e = c .before .before .before .before .millionths .ensures in (
+      (λ p. sym (rules-end (decode w) _ (ruleAt w) _ (l .i) (a .m + p) _ (c .loop-test .left)) ∙ l .inv .3 p ∙ ap (λ (ds : List ℕ). height (decode w) ds (a .m + p)) e),
+      l .inv .2,
+    )
 
 pub heights-spec : {M : Type 1} → statement M
 heights-spec =
     tie.close
     (tie.spec
+    Inv-loop2
+    μ-loop2
     Inv-loop
     μ-loop
+    millionths-requires
+    stored-pair-requires
+    stored-accumulation-requires
     loop-holds
+    slice-aggregate-rule-degree
     rule-degree-requires
-    conclude-requires
+    rule-row-requires
+    add-word
+    word-requires
+    add-word-2
+    word-requires-2
+    loop2-holds
+    add-conclusion-row
+    conclusion-row-requires
+    add-word-3
+    word-requires-3
+    sub-t
+    mul-old
+    array-copy-out-old
+    accumulate-requires
+    mul-hs
+    array-set-from-hs
+    add-j
+    loop2-less
+    loop2-again
     add-i
     loop-less
     loop-again

@@ -3,7 +3,6 @@ use Prim.Native.Nat.{_+_, _<_}
 use native.Mathlib.Omega.{arith}
 use Rattle.model.specs.Image.{wordAt, rulePlace}
 use Rattle.laws.proofs.Places.{field}
-use Rattle.degrees.specs.Tables.{numbers}
 use Rattle.accumulation.proofs.Rules.{weight-small, rule-degree-is}
 use Rattle.layout.proofs.Rules.{rules-few}
 use borrow.Author.Needs.{needs}
@@ -15,7 +14,7 @@ inside s = omega (arith, s .pre .2, s .pre .1 .rules)
 
 rule-row-requires : tie.Need-rule-row-requires
 rule-row-requires c κs =
-    let s = c .before in
+    let s = c .before .before in
     let hd = s .pre .1 in
     omega (arith, hd .rule-table, hd .fits 13, hd .rules, rules-few _ (s .pre .0))
 
@@ -33,11 +32,8 @@ word-requires-2 c κs = search needs
 
 add-condition-degree : tie.Need-add-condition-degree
 add-condition-degree c =
-    let hd = c .before .before .before .before .before .pre .1 in
+    let hd = c .before .before .before .before .before .before .pre .1 in
     omega (arith, hd .word-table, hd .fits 14)
-
-stored-pair-requires : tie.Need-stored-pair-requires
-stored-pair-requires c κs = search needs
 
 condition-degree-requires : tie.Need-condition-degree-requires
 condition-degree-requires c κs =
@@ -56,8 +52,8 @@ cast-weight c = search needs
 
 prod-requires : tie.Need-prod-requires
 prod-requires c κs =
-    let p = c .before .before .before .before .before in
-    let s = p .before .before .before in
+    let p = c .before .before .before .before in
+    let s = p .before .before .before .before in
     let hd = s .pre .1 in
     let w = wordAt (s .args .img .now) in
     let e = field w _ _ 5 _ (c .word3 .ensures .0) (p .before .rule-row .ensures .0 w hd) in
@@ -66,18 +62,18 @@ prod-requires c κs =
 returns : tie.Need-returns
 returns c =
     let d = c .before .before in
-    let p = d .before .before .before .before in
-    let s = p .before .before .before in
+    let p = d .before .before .before in
+    let s = p .before .before .before .before in
     let hd = s .pre .1 in
     let w = wordAt (s .args .img .now) in
     let o = p .before .rule-row .ensures .0 w hd in
     let first = field w _ _ 1 _ (p .word .ensures .0) o in
-    let n = field w _ _ 2 _ (d .before .before .before .word2 .ensures .0) o in
+    let n = field w _ _ 2 _ (d .before .before .word2 .ensures .0) o in
     let weight = field w _ _ 5 _ (c .before .word3 .ensures .0) o in
     let at : s .args .h .«word_table» + p .word .result ≡ w 14 + w (rulePlace w (s .args .i) + 1) = λ j. hd .word-table j + first j in (
       c .prod .ensures .0
-          ∙ rule-degree-is w (s .pre .0) (s .args .i) (inside s) (numbers (s .args .ds)) _ _ _ _ _
-          (d .before .stored-pair .ensures) at n weight (d .condition-degree .ensures .0),
+          ∙ rule-degree-is w (s .pre .0) (s .args .i) (inside s) (s .args .ds .now) _ _ _ _ _
+          (s .pre .4) at n weight (d .condition-degree .ensures .0),
       c .prod .ensures .1,
     )
 
@@ -91,7 +87,6 @@ rule-degree-spec =
     add-word-2
     word-requires-2
     add-condition-degree
-    stored-pair-requires
     condition-degree-requires
     add-word-3
     word-requires-3

@@ -2,22 +2,22 @@ use Prim.Native.Nat.{_-_, _≤_}
 use borrow.Author.Needs.{needs}
 use Rattle.model.specs.Image.{wordAt}
 use Rattle.stored_conditions.specs.Machine.{stackOf}
-use Rattle.degrees.specs.Tables.{numbers}
-use Rattle.aggregation.specs.Stacks.{byDegrees, onStack, Small}
+use Rattle.aggregation.specs.Stacks.{byDegrees, Small}
 use Rattle.aggregation.proofs.Steps as laws
 use Rattle.aggregation.proofs.Degrees.{low-zeros}
 use Rattle.aggregation.proofs.condition_degree.Statement.{statement}
 use Rattle.aggregation.proofs.condition_degree.Tie as tie
 
 abbrev Inv-loop : tie.InvT-loop
-Inv-loop img d n ds p st₀ i₀ st i = (i ≤ n) × Small st × laws.Follows (byDegrees p (numbers ds)) (wordAt img) d n i (onStack st)
+Inv-loop img d n ds p stack₀ height₀ i₀ stack height i =
+    (i ≤ n) × Small stack height × laws.Follows (byDegrees p ds) (wordAt img) d n i (stackOf 0 stack height)
 
 abbrev μ-loop : tie.MeasureT-loop
-μ-loop img d n ds p st₀ i₀ st i = n - i
+μ-loop img d n ds p stack₀ height₀ i₀ stack height i = n - i
 
 loop-holds : tie.Need-loop-holds Inv-loop μ-loop
 unfolding stackOf
-loop-holds c = (search needs, (search needs, low-zeros 19), laws.follows-start _ _ _ _)
+loop-holds c = (search needs, (search needs, low-zeros 19, search needs), laws.follows-start _ _ _ _)
 
 add-word : tie.Need-add-word Inv-loop μ-loop
 add-word c = search needs
@@ -26,7 +26,7 @@ word-requires : tie.Need-word-requires Inv-loop μ-loop
 word-requires c κs = search needs
 
 step-requires : tie.Need-step-requires Inv-loop μ-loop
-step-requires c κs = (c .before .before .loop .inv .1, c .before .before .before .before .pre .2)
+step-requires c κs = (c .before .before .before .loop .inv .1, c .before .before .before .before .before .before .pre .2)
 
 add-i : tie.Need-add-i Inv-loop μ-loop
 add-i c = search needs
@@ -36,21 +36,21 @@ loop-less c = search needs
 
 loop-again : tie.Need-loop-again Inv-loop μ-loop
 loop-again c =
-    let l = c .before .before .before .loop in
-    let a = c .before .before .before .before .before .args in
-    let g = byDegrees (a .p) (numbers (a .ds)) in (
+    let l = c .before .before .before .before .loop in
+    let a = c .before .before .before .before .before .before .before .args in
+    let g = byDegrees (a .p) (a .ds .now) in (
       search needs,
       c .step .ensures .1,
       laws.follows-turn g (wordAt (a .img .now)) (a .d) (a .n) (l .i) _ _ _ (search needs) (c .before .word .ensures .0) (c .step .ensures .0) (l .inv .2),
     )
 
-element-copy-out-t16 : tie.Need-element-copy-out-t16 Inv-loop μ-loop
-element-copy-out-t16 c = search needs
+array-read-t15 : tie.Need-array-read-t15 Inv-loop μ-loop
+array-read-t15 c = search needs
 
 returns : tie.Need-returns Inv-loop μ-loop
 returns c =
-    let l = c .before .before .loop in
-    (laws.ends _ _ _ _ _ (l .i) (l .st .degrees) (l .st .height) (c .before .loop-test .left) (l .inv .2), l .inv .1 .1 0)
+    let l = c .before .loop in
+    (laws.ends _ _ _ _ _ (l .i) (l .stack) (l .height) (c .loop-test .left) (l .inv .2), l .inv .1 .1 0)
 
 pub condition-degree-spec : {M : Type 1} → statement M
 condition-degree-spec =
@@ -65,5 +65,5 @@ condition-degree-spec =
     add-i
     loop-less
     loop-again
-    element-copy-out-t16
+    array-read-t15
     returns)

@@ -1,111 +1,175 @@
 use borrow.Author.Needs.{needs}
 use mathlib.Core.Path.{_≡_, refl, sym, ap, subst, _∙_}
+use mathlib.Core.Bool.{true}
+use mathlib.Core.List.{List}
 use Prim.Native.Nat.{ℕ, _+_, _*_, _-_, _≤_, _<_}
 use native.Mathlib.Omega.{arith}
 use lib.IntN.{pos}
-use lib.ListN.{length-map, replicate, List·getD-map}
+use lib.ListN.{length, getD, length-map, length-set, replicate, List·getD-map}
 use lib.Seq.{sets}
 use Rattle.model.specs.Bounds.{M}
 use Rattle.model.specs.declared.Crisp.{Crisp}
+use Rattle.model.specs.declared.Degree.{Degree}
+use Rattle.model.specs.Basic.{all}
+use Rattle.model.specs.Degrees.{termDegree}
 use Rattle.model.specs.Evaluation.{termDegrees}
-use Rattle.model.specs.Image.{wordAt, tab, inputAt, decode}
-use Rattle.laws.proofs.Arrays.{each-start}
+use Rattle.model.specs.Image.{wordAt, tab, termAt, inputAt, decode}
+use Rattle.model.specs.WellFormed.{termOk}
+use Rattle.laws.proofs.Arrays.{each-start, each-set, map-set}
+use Rattle.laws.proofs.Lists.{all-at}
 use Rattle.crisp.specs.Crisp.{InCrisp}
 use Rattle.layout.specs.Tables.{sums, inputCount}
 use Rattle.degrees.specs.Tables.{numbers, Low}
 use Rattle.fuzzification.specs.Filled.{filled, figures}
-use Rattle.fuzzification.proofs.Fill.{filled-sets}
+use Rattle.fuzzification.proofs.Fill.{filled-sets, one-more}
 use Rattle.fuzzification.proofs.Entries.{input-limit, accepted-terms, sums-last}
-use Rattle.fuzzification.proofs.Degrees.{length-degrees, input-more}
+use Rattle.fuzzification.proofs.Degrees.{degreesAt, length-at, term-more, length-degrees, input-more}
 use Rattle.fuzzification.proofs.term_degrees.Statement.{statement}
 use Rattle.fuzzification.proofs.term_degrees.Tie as tie
+
+-- the first k terms of input i, and those of the first i inputs
+abbrev Inv-loop2 : tie.InvT-loop2
+Inv-loop2 img h xs n ds₀ first i count x k₀ ds k =
+    (k ≤ count) × (length ds ≡ 56) × (numbers ds ≡ sets (numbers ds₀) first (degreesAt (x .0) (tab (termAt (wordAt img)) k first))) × Low (numbers ds)
+
+abbrev μ-loop2 : tie.MeasureT-loop2
+μ-loop2 img h xs n ds₀ first i count x k₀ ds k = count - k
 
 abbrev Inv-loop : tie.InvT-loop
 Inv-loop img h xs n ds₀ first₀ i₀ ds first i =
     (i ≤ n) × (n ≤ 8) × (first ≡ sums (inputCount (wordAt img)) i 0) × (first ≤ 7 * i)
-    × (numbers ds ≡ sets (replicate 56 0) 0 (termDegrees (tab (inputAt (wordAt img)) i 0) (figures xs))) × Low (numbers ds)
+    × (numbers ds ≡ sets (replicate 56 0) 0 (termDegrees (tab (inputAt (wordAt img)) i 0) (figures xs))) × Low (numbers ds) × (length ds ≡ 56)
 
 abbrev μ-loop : tie.MeasureT-loop
 μ-loop img h xs n ds₀ first₀ i₀ ds first i = n - i
 
-below : (c : tie.In-loop Inv-loop μ-loop) → c .before .loop .i < wordAt (c .before .before .before .args .img .now) 2
-below c = omega (arith, c .before .before .before .pre .1 .inputs)
+abbrev start : tie.After-word Inv-loop2 μ-loop2 Inv-loop μ-loop → tie.Start Inv-loop2 μ-loop2 Inv-loop μ-loop
+start c = c .before .before .before .before .before
 
-count : (c : tie.After-word Inv-loop μ-loop) →
-    let l = c .before .before .before in
-    c .word .result ≡ inputCount (wordAt (l .before .before .args .img .now)) (l .loop .i)
+below : (c : tie.After-word Inv-loop2 μ-loop2 Inv-loop μ-loop) → c .before .before .before .loop .i < wordAt (start c .args .img .now) 2
+below c = omega (arith, c .before .before .loop-test .taken, start c .pre .1 .inputs)
+
+count : (c : tie.After-word Inv-loop2 μ-loop2 Inv-loop μ-loop) → c .word .result ≡ inputCount (wordAt (start c .args .img .now)) (c .before .before .before .loop .i)
 count c =
-    let row = c .before in
-    let s = row .before .before .before .before in
-    let w = wordAt (s .args .img .now) in
-    c .word .ensures .0 ∙ ap (λ (o : ℕ). w (o + 6)) (row .input-row .ensures .0 w (s .pre .1))
+    let w = wordAt (start c .args .img .now) in
+    c .word .ensures .0 ∙ ap (λ (o : ℕ). w (o + 6)) (c .before .input-row .ensures .0 w (start c .pre .1))
 
-loop-holds : tie.Need-loop-holds Inv-loop μ-loop
+-- the terms of an input: few, and in order
+accepted : (c : tie.After-word Inv-loop2 μ-loop2 Inv-loop μ-loop) →
+    let l = c .before .before .before .loop in
+    (c .word .result ≤ 7) × (all termOk (tab (termAt (wordAt (start c .args .img .now))) (c .word .result) (l .first)) ≡ true)
+accepted c =
+    let l = c .before .before .before .loop in
+    accepted-terms (wordAt (start c .args .img .now)) (l .i) (l .first) (c .word .result) (start c .pre .0) (below c) (l .inv .2) (count c)
+
+loop-holds : tie.Need-loop-holds Inv-loop2 μ-loop2 Inv-loop μ-loop
 unfolding tab termDegrees sums
 loop-holds c =
     let s = c .before in
     let few = input-limit (wordAt (s .args .img .now)) (s .pre .0) in
-    (search needs, omega (arith, s .pre .1 .inputs, few), refl, search needs, refl, each-start (λ (n : ℕ). n ≤ M) 0 56 (omega arith))
+    (search needs, omega (arith, s .pre .1 .inputs, few), refl, search needs, refl, each-start (λ (n : ℕ). n ≤ M) 0 56 (omega arith), search needs)
 
-input-row-requires : tie.Need-input-row-requires Inv-loop μ-loop
+input-row-requires : tie.Need-input-row-requires Inv-loop2 μ-loop2 Inv-loop μ-loop
 input-row-requires c κs = let h = c .before .before .before .pre .1 in omega (arith, h .input-table, h .fits 9, c .before .loop .inv)
 
-add-word : tie.Need-add-word Inv-loop μ-loop
+add-word : tie.Need-add-word Inv-loop2 μ-loop2 Inv-loop μ-loop
 add-word c = search needs
 
-word-requires : tie.Need-word-requires Inv-loop μ-loop
+word-requires : tie.Need-word-requires Inv-loop2 μ-loop2 Inv-loop μ-loop
 word-requires c κs = search needs
 
-mul-x : tie.Need-mul-x Inv-loop μ-loop
+mul-x : tie.Need-mul-x Inv-loop2 μ-loop2 Inv-loop μ-loop
 mul-x c = search needs
 
-array-copy-out-x : tie.Need-array-copy-out-x Inv-loop μ-loop
+array-copy-out-x : tie.Need-array-copy-out-x Inv-loop2 μ-loop2 Inv-loop μ-loop
 array-copy-out-x c = search needs
 
-with-terms-requires : tie.Need-with-terms-requires Inv-loop μ-loop
-with-terms-requires c κs =
-    let i = c .before .before .before in
-    let l = i .before .loop in
-    let s = i .before .before .before in
-    let w = wordAt (s .args .img .now) in
-    let t = accepted-terms w (l .i) (l .first) (c .before .word .result) (s .pre .0) (below i) (l .inv .2) (count (c .before)) in
+loop2-holds : tie.Need-loop2-holds Inv-loop2 μ-loop2 Inv-loop μ-loop
+unfolding tab
+loop2-holds c =
+    let l = c .before .before .before .before .loop in
+    (search needs, l .inv .6, refl, l .inv .5)
+
+add-input-term-degree : tie.Need-add-input-term-degree Inv-loop2 μ-loop2 Inv-loop μ-loop
+add-input-term-degree c = search needs
+
+input-term-degree-requires : tie.Need-input-term-degree-requires Inv-loop2 μ-loop2 Inv-loop μ-loop
+input-term-degree-requires c κs =
+    let r = c .before .before .before in
+    let l = r .before .before .before .loop in
+    let s = start r in
+    let t = accepted r in
+    let ok = all-at termOk (termAt (wordAt (s .args .img .now))) _ (l .first) (c .before .loop2 .k) (omega arith) (t .1) in
     let x = subst InCrisp (List·getD-map (λ (y : Crisp). y .0) (s .args .t3) (l .i) (record { 0 = pos 0 })) (s .pre .2 (l .i)) in
-    ((s .pre .1, omega (arith, t .0, l .inv .3), x, l .inv .5), t .1)
+    ((s .pre .1, omega (arith, t .0, l .inv)), (x, ok))
 
-add-first : tie.Need-add-first Inv-loop μ-loop
-add-first c = search needs
+add-ds : tie.Need-add-ds Inv-loop2 μ-loop2 Inv-loop μ-loop
+add-ds c = search needs
 
-add-i : tie.Need-add-i Inv-loop μ-loop
+mul-ds : tie.Need-mul-ds Inv-loop2 μ-loop2 Inv-loop μ-loop
+mul-ds c = omega (arith, accepted (c .before .before .before .before), c .before .before .before .before .before .before .before .loop .inv)
+
+array-set-from-ds : tie.Need-array-set-from-ds Inv-loop2 μ-loop2 Inv-loop μ-loop
+array-set-from-ds c = omega (arith, accepted (c .before .before .before .before), c .before .before .before .before .before .before .before .loop .inv)
+
+add-k : tie.Need-add-k Inv-loop2 μ-loop2 Inv-loop μ-loop
+add-k c = search needs
+
+loop2-less : tie.Need-loop2-less Inv-loop2 μ-loop2 Inv-loop μ-loop
+loop2-less c = search needs
+
+loop2-again : tie.Need-loop2-again Inv-loop2 μ-loop2 Inv-loop μ-loop
+loop2-again c =
+    let g = c .before .before .loop2 in
+    let r = c .before .before .before .before in
+    let l = r .before .before .before .loop in
+    let f = termAt (wordAt (start r .args .img .now)) in
+    let x = getD (start r .args .t3) (l .i) (record { 0 = pos 0 }) .0 in
+    let v = c .input-term-degree .result in
+    let q = l .first + g .k in
+    let low = each-set (λ (n : ℕ). n ≤ M) 0 (numbers (g .ds)) q (v .0) (g .inv .3) (c .input-term-degree .ensures .1) in (
+      search needs,
+      length-set (g .ds) q v ∙ g .inv .1,
+      one-more (λ (d : Degree). d .0) (g .ds) (numbers (l .ds)) (l .first) q (degreesAt x (tab f (g .k) (l .first))) v (termDegree (f q .points) x)
+          (g .inv .2) (omega (arith, length-at x f (g .k) (l .first))) (c .input-term-degree .ensures .0)
+          ∙ ap (λ (ys : List ℕ). sets (numbers (l .ds)) (l .first) ys) (sym (term-more x f (g .k) (l .first))),
+      subst Low (sym (map-set (λ (d : Degree). d .0) (g .ds) q v)) low,
+    )
+
+add-first : tie.Need-add-first Inv-loop2 μ-loop2 Inv-loop μ-loop
+add-first c = omega (arith, accepted (c .before .before .before), c .before .before .before .before .before .before .loop .inv)
+
+add-i : tie.Need-add-i Inv-loop2 μ-loop2 Inv-loop μ-loop
 add-i c = search needs
 
-loop-less : tie.Need-loop-less Inv-loop μ-loop
+loop-less : tie.Need-loop-less Inv-loop2 μ-loop2 Inv-loop μ-loop
 loop-less c = search needs
 
-loop-again : tie.Need-loop-again Inv-loop μ-loop
+loop-again : tie.Need-loop-again Inv-loop2 μ-loop2 Inv-loop μ-loop
 loop-again c =
-    let read = c .before .before in
-    let test = read .before .before in
-    let l = test .before .loop in
-    let s = test .before .before .before in
+    let g = c .before .loop2 in
+    let r = c .before .before .before in
+    let l = r .before .before .before .loop in
+    let s = start r in
     let w = wordAt (s .args .img .now) in
     let xs = figures (s .args .t3) in
     let i = l .i in
-    let h = below test in
-    let e = count read in
+    let e = count r in
     let ex = sym (List·getD-map (λ (x : Crisp). x .0) (s .args .t3) i (record { 0 = pos 0 })) in
-    let few = accepted-terms w i (l .first) (read .word .result) (s .pre .0) h (l .inv .2) e in
     let n = length-map (s .args .t3) (λ (x : Crisp). x .0) in
-    let q : 0 + i ≡ i = omega arith in (
+    let q : 0 + i ≡ i = omega arith in
+    let all-read : g .k ≡ r .word .result = omega arith in (
       search needs,
       search needs,
       omega (arith, l .inv .2, e, sums-last (inputCount w) i 0, ap (inputCount w) q),
-      omega (arith, l .inv .3, few .0),
-      input-more w i (l .first) (read .word .result) _ xs (replicate 56 0) (numbers (l .ds)) (numbers (c .with-terms .result)) (s .pre .0) h
-          (omega (arith, s .good, n)) (l .inv .2) e ex (l .inv .4) (c .with-terms .ensures .0),
-      c .with-terms .ensures .1,
+      omega (arith, l .inv .3, accepted r .0),
+      input-more w i (l .first) (g .k) _ xs (replicate 56 0) (numbers (l .ds)) (numbers (g .ds)) (s .pre .0) (below r)
+          (omega (arith, s .good, n)) (l .inv .2) (all-read ∙ e) ex (l .inv .4) (g .inv .2),
+      g .inv .3,
+      g .inv .1,
     )
 
-returns : tie.Need-returns Inv-loop μ-loop
+returns : tie.Need-returns Inv-loop2 μ-loop2 Inv-loop μ-loop
 unfolding decode
 returns c =
     let l = c .before .loop in
@@ -125,6 +189,8 @@ pub term-degrees-spec : {M : Type 1} → statement M
 term-degrees-spec =
     tie.close
     (tie.spec
+    Inv-loop2
+    μ-loop2
     Inv-loop
     μ-loop
     loop-holds
@@ -133,7 +199,15 @@ term-degrees-spec =
     word-requires
     mul-x
     array-copy-out-x
-    with-terms-requires
+    loop2-holds
+    add-input-term-degree
+    input-term-degree-requires
+    add-ds
+    mul-ds
+    array-set-from-ds
+    add-k
+    loop2-less
+    loop2-again
     add-first
     add-i
     loop-less
