@@ -4,16 +4,14 @@ ghost use mathlib.Core.List.{List};
 ghost use Prim.Native.Nat.{ℕ, _+_, _*_, _≤_, _<_};
 ghost use lib.ListN.{length, getD};
 ghost use lib.Seq.{slice};
-ghost use Rattle.model.specs.Bounds.{inputLimit, outputLimit, termLimit, pointLimit, inputTermLimit};
+ghost use Rattle.model.specs.Bounds.{inputLimit, termLimit, pointLimit, inputTermLimit};
 ghost use Rattle.model.specs.Block.{withName};
-ghost use Rattle.model.specs.Declarations.{addInput, addOutput, intFrom, addTerm, addPoint};
+ghost use Rattle.model.specs.Declarations.{addTerm, addPoint};
 ghost use Rattle.block_tables.specs.View.{inputRow, Holds};
 ghost use Rattle.block_updates.specs.Changes.{Changes, LastTerm, Typed};
 use block_tables::Input;
-use block_tables::Output;
 use block_tables::Point;
 use block_tables::Tables;
-use model::Crisp;
 
 pub fn set_name(t: Tables, start: usize, end: usize) -> Tables
     ensures { λ r. ⌜ ((s : List ℕ) → Holds s t → start ≤ end → end ≤ length s
@@ -25,26 +23,8 @@ pub fn set_name(t: Tables, start: usize, end: usize) -> Tables
     r
 }
 
-pub fn add_input(t: Tables, start: usize, end: usize) -> Tables
-    requires { ⌜ t .«input_count» < inputLimit ⌝ }
-    ensures { λ r. ⌜ ((s : List ℕ) → Holds s t → start ≤ end → end ≤ length s
-        → Changes s t r (addInput (slice start end s))) ⌝ }
-{
-    let n = t.input_count;
-    let v = Input {
-        int: false,
-        terms: 0,
-    };
-    let mut r = t;
-    r.names[n] = start;
-    r.names[lookup::ENDS + n] = end;
-    r.inputs[n] = v;
-    r.input_count = n + 1;
-    r
-}
-
 // These rows, INT from one on up to another.
-fn typed(rows: [Input; bounds::INPUTS], from: usize, to: usize) -> [Input; bounds::INPUTS]
+pub fn typed(rows: [Input; bounds::INPUTS], from: usize, to: usize) -> [Input; bounds::INPUTS]
     requires { ⌜ to ≤ inputLimit ⌝ }
     ensures { λ r. ⌜ (length rows ≡ inputLimit → Typed rows from to r) ⌝ }
 {
@@ -56,41 +36,6 @@ fn typed(rows: [Input; bounds::INPUTS], from: usize, to: usize) -> [Input; bound
         r[i] = v;
         i += 1;
     }
-    r
-}
-
-// INT for the inputs from n on.
-pub fn set_int(t: Tables, n: usize) -> Tables
-    requires { ⌜ t .«input_count» ≤ inputLimit ⌝ }
-    ensures { λ r. ⌜ ((s : List ℕ) → Holds s t → Changes s t r (intFrom n)) ⌝ }
-{
-    let rows = t.inputs;
-    let next = typed(rows, n, t.input_count);
-    let mut r = t;
-    r.inputs = next;
-    r
-}
-
-pub fn add_output(t: Tables, start: usize, end: usize) -> Tables
-    requires { ⌜ t .«output_count» < outputLimit ⌝ }
-    ensures { λ r. ⌜ ((s : List ℕ) → Holds s t → start ≤ end → end ≤ length s
-        → Changes s t r (addOutput (slice start end s))) ⌝ }
-{
-    let n = t.output_count;
-    let z = Crisp(0);
-    let v = Output {
-        terms: 0,
-        ranged: false,
-        least: z,
-        most: z,
-        numbered: false,
-        default: z,
-    };
-    let mut r = t;
-    r.names[lookup::FIRST_OUTPUT + n] = start;
-    r.names[lookup::ENDS + (lookup::FIRST_OUTPUT + n)] = end;
-    r.outputs[n] = v;
-    r.output_count = n + 1;
     r
 }
 

@@ -13,6 +13,10 @@ use Rattle.model.specs.Parse.{Parse, Checks, text, aName}
 use Rattle.model.specs.Declarations.{inputOf, outputOf, isInput, isOutput}
 use Rattle.model.specs.Image.{tab}
 use Rattle.lookup.specs.Names.{nameOf}
+use Rattle.block_tables.specs.declared.Tables.{Tables}
+use Rattle.parse_state.specs.declared.ParseState.{ParseState}
+use Rattle.declaration_text.specs.declared.DeclaredInputs.{DeclaredInputs}
+use Rattle.declaration_text.specs.declared.DeclaredOutputs.{DeclaredOutputs}
 
 -- block b has m inputs and n outputs of these names
 pub record Declares (s names : List ℕ) (m n : ℕ) (b : Block) : Type 0 where
@@ -24,3 +28,39 @@ pub record Declares (s names : List ℕ) (m n : ℕ) (b : Block) : Type 0 where
 -- what a new variable is checked for, where there is room or not
 abbrev pub newChecks : Parse → Bool → Checks
 newChecks r room = aName r ((not (isInput (text r) (r .block) || isOutput (text r) (r .block)), 4) ∷ (room, 6) ∷ [])
+
+-- the inputs p with their names and m outputs, in the tables t
+abbrev pub withInputs : ℕ → List ℕ → DeclaredInputs → Tables → ParseState
+withInputs m names p t = record {
+  cursor = p .cursor;
+  tables = record {
+    start = t .start;
+    end = t .end;
+    «input_count» = p .count;
+    «output_count» = m;
+    names = names;
+    inputs = p .rows;
+    outputs = t .outputs;
+    counts = t .counts;
+    points = t .points;
+    singletons = t .singletons;
+  };
+}
+
+-- the outputs p with their names and m inputs, in the tables t
+abbrev pub withOutputs : ℕ → List ℕ → DeclaredOutputs → Tables → ParseState
+withOutputs m names p t = record {
+  cursor = p .cursor;
+  tables = record {
+    start = t .start;
+    end = t .end;
+    «input_count» = m;
+    «output_count» = p .count;
+    names = names;
+    inputs = t .inputs;
+    outputs = p .rows;
+    counts = t .counts;
+    points = t .points;
+    singletons = t .singletons;
+  };
+}

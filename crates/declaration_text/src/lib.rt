@@ -1,6 +1,7 @@
 // VAR_INPUT and VAR_OUTPUT: names with commas, a colon, the type, a semicolon.
 ghost use mathlib.Core.Path.{_≡_};
 ghost use mathlib.Core.Bool.{true};
+ghost use mathlib.Core.List.{List};
 ghost use Prim.Native.Nat.{ℕ, _≤_, _<_};
 ghost use Rattle.model.specs.Block.{Block, withName};
 ghost use Rattle.model.specs.Parse.{ownName, listed, repeated};
@@ -10,10 +11,28 @@ ghost use Rattle.model.specs.Declarations.{variable, addInput, addOutput, input
 ghost use Rattle.lookup.specs.Names.{Placed};
 ghost use Rattle.cursor.specs.View.{seen, Fits, Moves, fault};
 ghost use Rattle.parse_state.specs.Reads.{Good, Reads};
-ghost use Rattle.declaration_text.specs.Declares.{Declares, newChecks};
+ghost use Rattle.parse_state.specs.Beside.{Ready, Collects};
+ghost use Rattle.declaration_text.specs.Declares.{Declares, newChecks, withInputs, withOutputs};
+use block_tables::Input;
+use block_tables::Output;
 use cursor::Cursor;
 use lookup::Names;
+use model::Crisp;
 use parse_state::ParseState;
+
+// A reading among inputs: how many there are, and their rows, beside the tables' names.
+struct DeclaredInputs {
+    cursor: Cursor,
+    count: usize,
+    rows: [Input; bounds::INPUTS],
+}
+
+// A reading among outputs, likewise.
+struct DeclaredOutputs {
+    cursor: Cursor,
+    count: usize,
+    rows: [Output; bounds::OUTPUTS],
+}
 
 // The block's name.
 pub fn block_name(s: &[u8], p: ParseState) -> ParseState
@@ -60,114 +79,130 @@ fn new_fault(s: &[u8], names: &Names, inputs: usize, outputs: usize, room: bool,
     6
 }
 
-// One input more.
-fn input(s: &[u8], p: ParseState) -> ParseState
-    requires { ⌜ Good (now s) p ⌝ }
-    ensures { λ r. ⌜ Reads (variable addInput inputCount inputLimit) (now (s .entry)) p r ⌝ }
+// One input more, beside m outputs.
+fn input(s: &[u8], names: &mut Names, p: DeclaredInputs, m: usize) -> DeclaredInputs
+    requires { ⌜ Ready (now s) (withInputs m (now names) p) ⌝ }
+    ensures { λ r. ⌜ Collects (variable addInput inputCount inputLimit) (now (s .entry)) (withInputs m (now (names .entry)) p)
+        (withInputs m (now (names .exit)) r) ⌝ }
     ensures moves { λ r. ⌜ Moves (now (s .entry)) (p .cursor) (r .cursor) ⌝ }
 {
     let c = p.cursor;
-    let t = p.tables;
-    let n = t.input_count;
-    let w = new_fault(s, &t.names, n, t.output_count, n < bounds::INPUTS, c);
+    let n = p.count;
+    let w = new_fault(s, names, n, m, n < bounds::INPUTS, c);
+    let mut r = p;
     if w != 0 {
         let d = cursor::refuse(c, w);
-        return ParseState {
-            cursor: d,
-            tables: t,
-        };
+        r.cursor = d;
+        return r;
     }
-    let u = block_updates::add_input(t, c.start, c.end);
+    let v = Input {
+        int: false,
+        terms: 0,
+    };
+    names[n] = c.start;
+    names[lookup::ENDS + n] = c.end;
+    r.rows[n] = v;
+    r.count = n + 1;
     let d = cursor::advance(s, c);
-    ParseState {
-        cursor: d,
-        tables: u,
-    }
+    r.cursor = d;
+    r
 }
 
-// One output more.
-fn output(s: &[u8], p: ParseState) -> ParseState
-    requires { ⌜ Good (now s) p ⌝ }
-    ensures { λ r. ⌜ Reads (variable addOutput outputCount outputLimit) (now (s .entry)) p r ⌝ }
+// One output more, beside m inputs.
+fn output(s: &[u8], names: &mut Names, p: DeclaredOutputs, m: usize) -> DeclaredOutputs
+    requires { ⌜ Ready (now s) (withOutputs m (now names) p) ⌝ }
+    ensures { λ r. ⌜ Collects (variable addOutput outputCount outputLimit) (now (s .entry)) (withOutputs m (now (names .entry)) p)
+        (withOutputs m (now (names .exit)) r) ⌝ }
     ensures moves { λ r. ⌜ Moves (now (s .entry)) (p .cursor) (r .cursor) ⌝ }
 {
     let c = p.cursor;
-    let t = p.tables;
-    let n = t.output_count;
-    let w = new_fault(s, &t.names, t.input_count, n, n < bounds::OUTPUTS, c);
+    let n = p.count;
+    let w = new_fault(s, names, m, n, n < bounds::OUTPUTS, c);
+    let mut r = p;
     if w != 0 {
         let d = cursor::refuse(c, w);
-        return ParseState {
-            cursor: d,
-            tables: t,
-        };
+        r.cursor = d;
+        return r;
     }
-    let u = block_updates::add_output(t, c.start, c.end);
+    let z = Crisp(0);
+    let v = Output {
+        terms: 0,
+        ranged: false,
+        least: z,
+        most: z,
+        numbered: false,
+        default: z,
+    };
+    names[lookup::FIRST_OUTPUT + n] = c.start;
+    names[lookup::ENDS + (lookup::FIRST_OUTPUT + n)] = c.end;
+    r.rows[n] = v;
+    r.count = n + 1;
     let d = cursor::advance(s, c);
-    ParseState {
-        cursor: d,
-        tables: u,
-    }
+    r.cursor = d;
+    r
 }
 
-fn inputs(s: &[u8], p: ParseState) -> ParseState
-    requires { ⌜ Good (now s) p ⌝ }
-    ensures { λ r. ⌜ Reads (listed (variable addInput inputCount inputLimit)) (now (s .entry)) p r ⌝ }
+fn inputs(s: &[u8], names: &mut Names, p: DeclaredInputs, m: usize) -> DeclaredInputs
+    requires { ⌜ Ready (now s) (withInputs m (now names) p) ⌝ }
+    ensures { λ r. ⌜ Collects (listed (variable addInput inputCount inputLimit)) (now (s .entry)) (withInputs m (now (names .entry)) p)
+        (withInputs m (now (names .exit)) r) ⌝ }
     ensures moves { λ r. ⌜ Moves (now (s .entry)) (p .cursor) (r .cursor) ⌝ }
 {
-    let mut q = input(s, p);
+    let mut q = input(s, names, p, m);
     while q.cursor.kind == token_kinds::COMMA {
         let c = q.cursor;
         let d = cursor::advance(s, c);
         q.cursor = d;
-        q = input(s, q);
+        q = input(s, names, q, m);
     }
     q
 }
 
-fn outputs(s: &[u8], p: ParseState) -> ParseState
-    requires { ⌜ Good (now s) p ⌝ }
-    ensures { λ r. ⌜ Reads (listed (variable addOutput outputCount outputLimit)) (now (s .entry)) p r ⌝ }
+fn outputs(s: &[u8], names: &mut Names, p: DeclaredOutputs, m: usize) -> DeclaredOutputs
+    requires { ⌜ Ready (now s) (withOutputs m (now names) p) ⌝ }
+    ensures { λ r. ⌜ Collects (listed (variable addOutput outputCount outputLimit)) (now (s .entry)) (withOutputs m (now (names .entry)) p)
+        (withOutputs m (now (names .exit)) r) ⌝ }
     ensures moves { λ r. ⌜ Moves (now (s .entry)) (p .cursor) (r .cursor) ⌝ }
 {
-    let mut q = output(s, p);
+    let mut q = output(s, names, p, m);
     while q.cursor.kind == token_kinds::COMMA {
         let c = q.cursor;
         let d = cursor::advance(s, c);
         q.cursor = d;
-        q = output(s, q);
+        q = output(s, names, q, m);
     }
     q
 }
 
 // REAL, or INT for the inputs from n on.
-fn input_type(s: &[u8], p: ParseState, n: usize) -> ParseState
-    requires { ⌜ Good (now s) p ⌝ }
-    ensures { λ r. ⌜ Reads (inputType n) (now (s .entry)) p r ⌝ }
+fn input_type(s: &[u8], p: DeclaredInputs, n: usize) -> DeclaredInputs
+    requires { ⌜ ((m : ℕ) × (names : List ℕ) × Ready (now s) (withInputs m names p)) ⌝ }
+    ensures { λ r. ⌜ ((m : ℕ) (names : List ℕ)
+        → Collects (inputType n) (now (s .entry)) (withInputs m names p) (withInputs m names r)) ⌝ }
 {
     let c = p.cursor;
+    let mut r = p;
     if c.kind == token_kinds::INT {
-        let t = p.tables;
-        let u = block_updates::set_int(t, n);
+        let rows = p.rows;
+        let next = block_updates::typed(rows, n, p.count);
         let d = cursor::advance(s, c);
-        return ParseState {
-            cursor: d,
-            tables: u,
-        };
+        r.rows = next;
+        r.cursor = d;
+        return r;
     }
     let d = cursor::expect(s, c, token_kinds::REAL);
-    let mut r = p;
     r.cursor = d;
     r
 }
 
-fn input_declaration(s: &[u8], p: ParseState) -> ParseState
-    requires { ⌜ Good (now s) p ⌝ }
-    ensures { λ r. ⌜ Reads inputDeclaration (now (s .entry)) p r ⌝ }
+fn input_declaration(s: &[u8], names: &mut Names, p: DeclaredInputs, m: usize) -> DeclaredInputs
+    requires { ⌜ Ready (now s) (withInputs m (now names) p) ⌝ }
+    ensures { λ r. ⌜ Collects (inputDeclaration) (now (s .entry)) (withInputs m (now (names .entry)) p)
+        (withInputs m (now (names .exit)) r) ⌝ }
     ensures moves { λ r. ⌜ Moves (now (s .entry)) (p .cursor) (r .cursor) ⌝ }
 {
-    let n = p.tables.input_count;
-    let mut q = inputs(s, p);
+    let n = p.count;
+    let mut q = inputs(s, names, p, m);
     let c = q.cursor;
     let d = cursor::expect(s, c, token_kinds::COLON);
     q.cursor = d;
@@ -178,12 +213,13 @@ fn input_declaration(s: &[u8], p: ParseState) -> ParseState
     r
 }
 
-fn output_declaration(s: &[u8], p: ParseState) -> ParseState
-    requires { ⌜ Good (now s) p ⌝ }
-    ensures { λ r. ⌜ Reads outputDeclaration (now (s .entry)) p r ⌝ }
+fn output_declaration(s: &[u8], names: &mut Names, p: DeclaredOutputs, m: usize) -> DeclaredOutputs
+    requires { ⌜ Ready (now s) (withOutputs m (now names) p) ⌝ }
+    ensures { λ r. ⌜ Collects (outputDeclaration) (now (s .entry)) (withOutputs m (now (names .entry)) p)
+        (withOutputs m (now (names .exit)) r) ⌝ }
     ensures moves { λ r. ⌜ Moves (now (s .entry)) (p .cursor) (r .cursor) ⌝ }
 {
-    let mut q = outputs(s, p);
+    let mut q = outputs(s, names, p, m);
     let c = q.cursor;
     let d = cursor::expect(s, c, token_kinds::COLON);
     let e = cursor::expect(s, d, token_kinds::REAL);
@@ -192,24 +228,84 @@ fn output_declaration(s: &[u8], p: ParseState) -> ParseState
     q
 }
 
+fn all_inputs(s: &[u8], names: &mut Names, p: DeclaredInputs, m: usize) -> DeclaredInputs
+    requires { ⌜ Ready (now s) (withInputs m (now names) p) ⌝ }
+    ensures { λ r. ⌜ Collects (λ q. repeated NAME inputDeclaration (inputDeclaration q)) (now (s .entry)) (withInputs m (now (names .entry)) p)
+        (withInputs m (now (names .exit)) r) ⌝ }
+{
+    let mut q = input_declaration(s, names, p, m);
+    while q.cursor.kind == token_kinds::NAME {
+        q = input_declaration(s, names, q, m);
+    }
+    q
+}
+
+fn all_outputs(s: &[u8], names: &mut Names, p: DeclaredOutputs, m: usize) -> DeclaredOutputs
+    requires { ⌜ Ready (now s) (withOutputs m (now names) p) ⌝ }
+    ensures { λ r. ⌜ Collects (λ q. repeated NAME outputDeclaration (outputDeclaration q)) (now (s .entry)) (withOutputs m (now (names .entry)) p)
+        (withOutputs m (now (names .exit)) r) ⌝ }
+{
+    let mut q = output_declaration(s, names, p, m);
+    while q.cursor.kind == token_kinds::NAME {
+        q = output_declaration(s, names, q, m);
+    }
+    q
+}
+
 pub fn input_declarations(s: &[u8], p: ParseState) -> ParseState
     requires { ⌜ Good (now s) p ⌝ }
     ensures { λ r. ⌜ Reads (λ q. repeated NAME inputDeclaration (inputDeclaration q)) (now (s .entry)) p r ⌝ }
 {
-    let mut q = input_declaration(s, p);
-    while q.cursor.kind == token_kinds::NAME {
-        q = input_declaration(s, q);
+    let c = p.cursor;
+    let mut t = p.tables;
+    let rows = t.inputs;
+    let n = t.input_count;
+    let m = t.output_count;
+    let q = all_inputs(
+        s,
+        &mut t.names,
+        DeclaredInputs {
+            cursor: c,
+            count: n,
+            rows: rows,
+        },
+        m,
+    );
+    let d = q.cursor;
+    let next = q.rows;
+    t.inputs = next;
+    t.input_count = q.count;
+    ParseState {
+        cursor: d,
+        tables: t,
     }
-    q
 }
 
 pub fn output_declarations(s: &[u8], p: ParseState) -> ParseState
     requires { ⌜ Good (now s) p ⌝ }
     ensures { λ r. ⌜ Reads (λ q. repeated NAME outputDeclaration (outputDeclaration q)) (now (s .entry)) p r ⌝ }
 {
-    let mut q = output_declaration(s, p);
-    while q.cursor.kind == token_kinds::NAME {
-        q = output_declaration(s, q);
+    let c = p.cursor;
+    let mut t = p.tables;
+    let rows = t.outputs;
+    let n = t.output_count;
+    let m = t.input_count;
+    let q = all_outputs(
+        s,
+        &mut t.names,
+        DeclaredOutputs {
+            cursor: c,
+            count: n,
+            rows: rows,
+        },
+        m,
+    );
+    let d = q.cursor;
+    let next = q.rows;
+    t.outputs = next;
+    t.output_count = q.count;
+    ParseState {
+        cursor: d,
+        tables: t,
     }
-    q
 }

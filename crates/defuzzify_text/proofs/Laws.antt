@@ -15,10 +15,10 @@ use Rattle.model.specs.Image.{tab}
 use Rattle.model.specs.Block.{Block, Output, inRange, singletonsOf, rangeOf, withRange, withSingleton, withDefault}
 use Rattle.model.specs.Keywords.{NUMBER, ASSIGN, DOTS, OPEN, CLOSE, SEMICOLON, TERM}
 use Rattle.model.specs.Tokens.{valueOf, sameName}
-use Rattle.model.specs.Parse.{Parse, Part, Checks, text, is, refuse, advance, change, expect, repeated, aName, aCrisp, valueHere}
+use Rattle.model.specs.Parse.{Parse, Checks, text, is, refuse, advance, change, expect, aName, aCrisp, valueHere}
 use Rattle.model.specs.Declarations.{singletonOf, isSingleton, isOutput, outputOf, lowerEnd, upperEnd, rangeBody, rangePart, figure, singletonBody, outputTerm, defaultValue, defuzzifyOf, defuzzifyVariable, changeOutput}
 use Rattle.cursor.specs.declared.Cursor.{Cursor}
-use Rattle.cursor.specs.View.{seen, textOf, Fits, left, Step, fault}
+use Rattle.cursor.specs.View.{seen, textOf, Fits, Step, fault}
 use Rattle.cursor.proofs.Laws.{text-seen, block-seen, fault-bad, fault-good, numbered, lost-expect, lost-judged}
 use Rattle.lookup.specs.Names.{nameOf}
 use Rattle.block_tables.specs.declared.Tables.{Tables}
@@ -29,8 +29,7 @@ use Rattle.block_updates.proofs.Lookups as lookups
 use Rattle.parse_state.specs.declared.ParseState.{ParseState}
 use Rattle.parse_state.specs.Reads.{view, Good, Reads}
 use Rattle.parse_state.proofs.Laws as reading
-use Rattle.defuzzify_text.specs.declared.Outputs.{Outputs}
-use Rattle.defuzzify_text.specs.Output.{beside, Ready, ReadsFor, Collects, HasSingletons, figureChecks, termChecks, methodText, partText}
+use Rattle.defuzzify_text.specs.Output.{HasSingletons, figureChecks, termChecks, methodText, partText}
 
 outputs-are : (s : List ℕ) (t : Tables) → blockView s t .outputs ≡ outputsView s t
 unfolding blockView
@@ -66,12 +65,12 @@ module _ (s : List ℕ) (c d : Cursor) (t : Tables) (o : ℕ) where
 
   module _ (x : ℤ) where
     upper-bad : (w : ℕ) → fault (aCrisp r ((ltZ x (valueHere r), 7) ∷ [])) ≡ w → (w ≡ 0 → ⊥) → Holds s t → Step (refuse w) s c d
-        → ReadsFor (upperEnd o x) s (reading.at c t) (reading.at d t)
+        → Reads (upperEnd o x) s (reading.at c t) (reading.at d t)
     unfolding upperEnd
-    upper-bad w e h g q = record { reads = reading.refuses (aCrisp r ((ltZ x (valueHere r), 7) ∷ [])) _ refl w e h g q; count = refl }
+    upper-bad w e h g q = reading.refuses (aCrisp r ((ltZ x (valueHere r), 7) ∷ [])) _ refl w e h g q
 
     pub upper-none : (w : ℕ) → w ≡ fault (aCrisp (seen s c (blockView s t) 0) []) → (w ≡ 0 → ⊥) → Holds s t → Step (refuse w) s c d
-        → ReadsFor (upperEnd o x) s (reading.at c t) (reading.at d t)
+        → Reads (upperEnd o x) s (reading.at c t) (reading.at d t)
     unfolding view
     upper-none w e h g q = upper-bad w (crisp-bad r (ltZ x (valueHere r)) w e h) h g q
 
@@ -82,38 +81,32 @@ module _ (s : List ℕ) (c d : Cursor) (t : Tables) (o : ℕ) where
           crisp-good r (ltZ x (valueHere r)) e
           ∙ ap (λ (z : Bool). if z then 0 else 7) (ap (λ (w : List ℕ). ltZ x (valueOf w)) (text-seen s c (blockView s t) 0) ∙ ap (ltZ x) (sym v) ∙ q)
 
-      pub upper-low : ltZ x y ≡ false → Holds s t → Step (refuse 7) s c d → ReadsFor (upperEnd o x) s (reading.at c t) (reading.at d t)
+      pub upper-low : ltZ x y ≡ false → Holds s t → Step (refuse 7) s c d → Reads (upperEnd o x) s (reading.at c t) (reading.at d t)
       upper-low q g p = upper-bad 7 (above false q) (λ z. omega arith) g p
 
       pub upper-set : (u : Tables) → ltZ x y ≡ true → Fits s c → (c .kind ≡ 0 → ⊥)
-          → Changes s t u (changeOutput (withRange (record { least = x; most = y })) o) → u .«output_count» ≡ t .«output_count» → Step advance s c d
-          → ReadsFor (upperEnd o x) s (reading.at c t) (reading.at d u)
+          → Changes s t u (changeOutput (withRange (record { least = x; most = y })) o) → Step advance s c d
+          → Reads (upperEnd o x) s (reading.at c t) (reading.at d u)
       unfolding upperEnd numbered
-      upper-set u q g k z n p = record {
-        reads = reading.passes (aCrisp r ((ltZ x (valueHere r), 7) ∷ [])) _ refl refl (above true q)
-            (reading.next (reading.changes s c t u _ g k z) (reading.step u (z .holds) p))
-            (ap (λ (m : ℤ). advance (change (changeOutput (withRange (record { least = x; most = m })) o) r))
-            (v ∙ ap valueOf (sym (reading.text-view s (reading.at c t)))));
-        count = n;
-      }
+      upper-set u q g k z p = reading.passes (aCrisp r ((ltZ x (valueHere r), 7) ∷ [])) _ refl refl (above true q)
+          (reading.next (reading.changes s c t u _ g k z) (reading.step u (z .holds) p))
+          (ap (λ (m : ℤ). advance (change (changeOutput (withRange (record { least = x; most = m })) o) r))
+          (v ∙ ap valueOf (sym (reading.text-view s (reading.at c t)))))
 
   -- after a refusal nothing follows
   pub range-lost : (w : ℕ) → w ≡ fault (aCrisp (seen s c (blockView s t) 0) []) → (w ≡ 0 → ⊥) → Holds s t → (d .why ≡ 0 → ⊥) → Step (refuse w) s c d
-      → ReadsFor (rangeBody o) s (reading.at c t) (reading.at d t)
+      → Reads (rangeBody o) s (reading.at c t) (reading.at d t)
   unfolding rangeBody lowerEnd upperEnd view
   range-lost w e h g l q =
       let b : Block = blockView s t in
       let x = reading.refuses {part = lowerEnd} (aCrisp r []) (advance r) refl w (sym e) h g q in
       let ok = q .fits in
-      record {
-        reads = reading.also x
-            (sym (ap (λ (z : Parse). expect SEMICOLON (expect CLOSE (upperEnd o (valueHere r) (expect DOTS z)))) (sym (x .reads))
-            ∙ ap (λ (z : Parse). expect SEMICOLON (expect CLOSE (upperEnd o (valueHere r) z))) (lost-expect s d ok l b 0 DOTS (λ z. omega arith))
-            ∙ ap (λ (z : Parse). expect SEMICOLON (expect CLOSE z)) (lost-judged s d ok l b 0 NUMBER _ _ (λ z. omega arith))
-            ∙ ap (expect SEMICOLON) (lost-expect s d ok l b 0 CLOSE (λ z. omega arith))
-            ∙ lost-expect s d ok l b 0 SEMICOLON (λ z. omega arith) ∙ x .reads));
-        count = refl;
-      }
+      reading.also x
+      (sym (ap (λ (z : Parse). expect SEMICOLON (expect CLOSE (upperEnd o (valueHere r) (expect DOTS z)))) (sym (x .reads))
+      ∙ ap (λ (z : Parse). expect SEMICOLON (expect CLOSE (upperEnd o (valueHere r) z))) (lost-expect s d ok l b 0 DOTS (λ z. omega arith))
+      ∙ ap (λ (z : Parse). expect SEMICOLON (expect CLOSE z)) (lost-judged s d ok l b 0 NUMBER _ _ (λ z. omega arith))
+      ∙ ap (expect SEMICOLON) (lost-expect s d ok l b 0 CLOSE (λ z. omega arith))
+      ∙ lost-expect s d ok l b 0 SEMICOLON (λ z. omega arith) ∙ x .reads))
 
   pub is-crisp : 0 ≡ fault (aCrisp (seen s c (blockView s t) 0) []) → Holds s t → Step advance s c d → Reads lowerEnd s (reading.at c t) (reading.at d t)
   unfolding lowerEnd view numbered
@@ -128,25 +121,19 @@ module _ (s : List ℕ) (c d : Cursor) (t : Tables) (o : ℕ) where
 
     pub figure-none : (w : ℕ) → w ≡ fault (figureChecks (rangeView (outputRow t o)) (seen s c (blockView s t) 0)) → (w ≡ 0 → ⊥) → Holds s t
         → Step (refuse w) s c d
-        → ReadsFor (figure with o) s (reading.at c t) (reading.at d t)
+        → Reads (figure with o) s (reading.at c t) (reading.at d t)
     unfolding figure
-    figure-none w e h g q = record {
-      reads = reading.refuses (aCrisp r ((inRange (rangeOf o (r .block)) (valueHere r), 7) ∷ [])) _ refl w
-          (ap fault checks ∙ sym e) h g q;
-      count = refl;
-    }
+    figure-none w e h g q = reading.refuses (aCrisp r ((inRange (rangeOf o (r .block)) (valueHere r), 7) ∷ [])) _ refl w
+        (ap fault checks ∙ sym e) h g q
 
     pub figure-set : (u : Tables) (y : ℤ) → 0 ≡ fault (figureChecks (rangeView (outputRow t o)) (seen s c (blockView s t) 0))
         → y ≡ valueOf (textOf s c) → Fits s c → (c .kind ≡ 0 → ⊥)
-        → Changes s t u (changeOutput (with y) o) → u .«output_count» ≡ t .«output_count» → Step advance s c d
-        → ReadsFor (figure with o) s (reading.at c t) (reading.at d u)
+        → Changes s t u (changeOutput (with y) o) → Step advance s c d
+        → Reads (figure with o) s (reading.at c t) (reading.at d u)
     unfolding figure numbered
-    figure-set u y e v g k z n p = record {
-      reads = reading.passes (aCrisp r ((inRange (rangeOf o (r .block)) (valueHere r), 7) ∷ [])) _ refl refl (ap fault checks ∙ sym e)
-          (reading.next (reading.changes s c t u _ g k z) (reading.step u (z .holds) p))
-          (ap (λ (m : ℤ). advance (change (changeOutput (with m) o) r)) (v ∙ ap valueOf (sym (reading.text-view s (reading.at c t)))));
-      count = n;
-    }
+    figure-set u y e v g k z p = reading.passes (aCrisp r ((inRange (rangeOf o (r .block)) (valueHere r), 7) ∷ [])) _ refl refl (ap fault checks ∙ sym e)
+        (reading.next (reading.changes s c t u _ g k z) (reading.step u (z .holds) p))
+        (ap (λ (m : ℤ). advance (change (changeOutput (with m) o) r)) (v ∙ ap valueOf (sym (reading.text-view s (reading.at c t)))))
 
 pub range-is : (s : List ℕ) (p : ParseState) (o : ℕ) (x : ℤ) → x ≡ valueOf (textOf s (p .cursor))
     → expect SEMICOLON (expect CLOSE (upperEnd o x (expect DOTS (lowerEnd (view s p))))) ≡ rangeBody o (view s p)
@@ -184,20 +171,17 @@ module _ (s : List ℕ) (c : Cursor) (t : Tables) (o : ℕ) where
   q = view s (reading.at c t)
 
   pub named-none : (d : Cursor) (w : ℕ) → w ≡ fault (termChecks o (seen s c (blockView s t) 0)) → (w ≡ 0 → ⊥) → Holds s t → Step (refuse w) s c d
-      → ReadsFor (singletonBody o) s (reading.at c t) (reading.at d t)
+      → Reads (singletonBody o) s (reading.at c t) (reading.at d t)
   unfolding singletonBody view
-  named-none d w e h g p = record { reads = reading.refuses (termChecks o q) _ refl w (sym e) h g p; count = refl }
+  named-none d w e h g p = reading.refuses (termChecks o q) _ refl w (sym e) h g p
 
   pub named-some : (r : ParseState) → 0 ≡ fault (termChecks o (seen s c (blockView s t) 0))
-      → ReadsFor (λ z. expect SEMICOLON (figure (λ x. withSingleton (record { name = textOf s c; at = x })) o (expect ASSIGN (advance z)))) s
-      (reading.at c t) r → ReadsFor (singletonBody o) s (reading.at c t) r
+      → Reads (λ z. expect SEMICOLON (figure (λ x. withSingleton (record { name = textOf s c; at = x })) o (expect ASSIGN (advance z)))) s
+      (reading.at c t) r → Reads (singletonBody o) s (reading.at c t) r
   unfolding singletonBody view numbered
-  named-some r e x = record {
-    reads = reading.passes (termChecks o q) _ refl refl (sym e) (x .reads)
-        (ap (λ (w : List ℕ). expect SEMICOLON (figure (λ z. withSingleton (record { name = w; at = z })) o (expect ASSIGN (advance q))))
-        (sym (reading.text-view s (reading.at c t))));
-    count = x .count;
-  }
+  named-some r e x = reading.passes (termChecks o q) _ refl refl (sym e) x
+      (ap (λ (w : List ℕ). expect SEMICOLON (figure (λ z. withSingleton (record { name = w; at = z })) o (expect ASSIGN (advance q))))
+      (sym (reading.text-view s (reading.at c t))))
 
   abbrev termGiven : Checks
   termGiven = (is TERM q, 2) ∷ (ltb (length (singletonsOf o (q .block))) 7, 6) ∷ []
@@ -213,49 +197,40 @@ module _ (s : List ℕ) (c : Cursor) (t : Tables) (o : ℕ) where
       (ap (λ (n : ℕ). if ltb n 7 then 0 else 6) (ap (λ (z : Block). length (singletonsOf o z)) (reading.block-view s (reading.at c t))
       ∙ singletons s t o b .count) ∙ ap (λ (z : Bool). if z then 0 else 6) e)
 
-  pub term-not : (d : Cursor) → (c .kind ≡ 163 → ⊥) → Holds s t → Step (refuse 2) s c d → ReadsFor (outputTerm o) s (reading.at c t) (reading.at d t)
+  pub term-not : (d : Cursor) → (c .kind ≡ 163 → ⊥) → Holds s t → Step (refuse 2) s c d → Reads (outputTerm o) s (reading.at c t) (reading.at d t)
   unfolding outputTerm
-  term-not d h g p = record { reads = reading.refuses termGiven _ refl 2 (given-not h) (λ z. omega arith) g p; count = refl }
+  term-not d h g p = reading.refuses termGiven _ refl 2 (given-not h) (λ z. omega arith) g p
 
   pub term-full : (d : Cursor) → c .kind ≡ 163 → o < t .«output_count» → 7 ≤ outputRow t o .terms → Holds s t → Step (refuse 6) s c d
-      → ReadsFor (outputTerm o) s (reading.at c t) (reading.at d t)
+      → Reads (outputTerm o) s (reading.at c t) (reading.at d t)
   unfolding outputTerm
-  term-full d h b l g p = record { reads = reading.refuses termGiven _ refl 6 (given-so h b false (le-ltb _ _ l)) (λ z. omega arith) g p; count = refl }
+  term-full d h b l g p = reading.refuses termGiven _ refl 6 (given-so h b false (le-ltb _ _ l)) (λ z. omega arith) g p
 
   pub term-more : (d : Cursor) (r : ParseState) → c .kind ≡ 163 → o < t .«output_count» → outputRow t o .terms < 7 → Holds s t → Step advance s c d
-      → ReadsFor (singletonBody o) s (reading.at d t) r → ReadsFor (outputTerm o) s (reading.at c t) r
+      → Reads (singletonBody o) s (reading.at d t) r → Reads (outputTerm o) s (reading.at c t) r
   unfolding outputTerm numbered
-  term-more d r h b l g p x = record {
-    reads = reading.passes termGiven _ refl refl (given-so h b true (lt-ltb _ _ l)) (reading.next (reading.step t g p) (x .reads)) refl;
-    count = x .count;
-  }
+  term-more d r h b l g p x = reading.passes termGiven _ refl refl (given-so h b true (lt-ltb _ _ l)) (reading.next (reading.step t g p) x) refl
 
   -- DEFAULT
-  pub default-nc : (d : Cursor) → c .kind ≡ 153 → Holds s t → Step advance s c d → ReadsFor (defaultValue o) s (reading.at c t) (reading.at d t)
+  pub default-nc : (d : Cursor) → c .kind ≡ 153 → Holds s t → Step advance s c d → Reads (defaultValue o) s (reading.at c t) (reading.at d t)
   unfolding defaultValue
-  default-nc d h g p = record { reads = reading.also (reading.step t g p) (sym (simp (reading.kind-view s (reading.at c t), eq-eqb _ _ h) refl)); count = refl }
+  default-nc d h g p = reading.also (reading.step t g p) (sym (simp (reading.kind-view s (reading.at c t), eq-eqb _ _ h) refl))
 
-  pub default-given : (r : ParseState) → (c .kind ≡ 153 → ⊥) → ReadsFor (figure withDefault o) s (reading.at c t) r
-      → ReadsFor (defaultValue o) s (reading.at c t) r
+  pub default-given : (r : ParseState) → (c .kind ≡ 153 → ⊥) → Reads (figure withDefault o) s (reading.at c t) r
+      → Reads (defaultValue o) s (reading.at c t) r
   unfolding defaultValue
-  default-given r h x = record { reads = reading.also (x .reads) (sym (simp (reading.kind-view s (reading.at c t), ne-eqb _ _ h) refl)); count = x .count }
+  default-given r h x = reading.also x (sym (simp (reading.kind-view s (reading.at c t), ne-eqb _ _ h) refl))
 
   -- RANGE, or none
-  pub range-not : (c .kind ≡ 159 → ⊥) → Good s (reading.at c t) → ReadsFor (rangePart o) s (reading.at c t) (reading.at c t)
+  pub range-not : (c .kind ≡ 159 → ⊥) → Good s (reading.at c t) → Reads (rangePart o) s (reading.at c t) (reading.at c t)
   unfolding rangePart
-  range-not h g = record {
-    reads = reading.also (reading.none s (reading.at c t) g)
-        (sym (simp (reading.kind-view s (reading.at c t), ne-eqb _ _ h) refl));
-    count = refl;
-  }
+  range-not h g = reading.also (reading.none s (reading.at c t) g)
+      (sym (simp (reading.kind-view s (reading.at c t), ne-eqb _ _ h) refl))
 
   pub range-given : (d : Cursor) (r : ParseState) → c .kind ≡ 159 → Holds s t → Step (λ z. expect OPEN (advance z)) s c d
-      → ReadsFor (rangeBody o) s (reading.at d t) r → ReadsFor (rangePart o) s (reading.at c t) r
+      → Reads (rangeBody o) s (reading.at d t) r → Reads (rangePart o) s (reading.at c t) r
   unfolding rangePart
-  range-given d r h g p x = record {
-    reads = reading.also (reading.next (reading.step t g p) (x .reads)) (sym (simp (reading.kind-view s (reading.at c t), eq-eqb _ _ h) refl));
-    count = x .count;
-  }
+  range-given d r h g p x = reading.also (reading.next (reading.step t g p) x) (sym (simp (reading.kind-view s (reading.at c t), eq-eqb _ _ h) refl))
 
 -- THE PART OF AN OUTPUT
 empty-at : {A : Type 0} (l : List A) → length l ≡ 0 → isEmpty l ≡ true
@@ -326,33 +301,3 @@ module _ (s : List ℕ) (c : Cursor) (t : Tables) where
 pub output-found : (s w : List ℕ) (t : Tables) (j : ℕ) → j ≡ indexOf (sameName w) (tab (nameOf s (t .names)) (t .«output_count») 8)
     → j ≡ outputOf w (blockView s t)
 output-found s w t j e = e ∙ sym (lookups.output-of s t (blockView s t) (outputs-are s t) w)
-
--- AGAIN AND AGAIN, whatever the rest of the tables
-pub record Gathering (k : ℕ) (part : Part) (s names₀ names : List ℕ) (q₀ q : Outputs) : Type 0 where
-  pub from : Ready s names₀ q₀
-  pub going : (t : Tables) → Good s (beside t names₀ q₀) → reading.Going k part s (beside t names₀ q₀) (beside t names q)
-  pub count : q .count ≡ q₀ .count
-
-pub gather-begins : {k : ℕ} {part : Part} {s names : List ℕ} {q : Outputs} → Ready s names q → Gathering k part s names names q q
-gather-begins {k} {part} {s} {names} {q} r = record { from = r; going = λ t g. reading.begins k part s (beside t names q) g; count = refl }
-
-module _ {k : ℕ} {part : Part} {s names₀ names : List ℕ} {q₀ q : Outputs} (g : Gathering k part s names₀ names q₀ q) where
-  pub gathered : Ready s names q
-  gathered = record { tables = g .from .tables; good = g .going (g .from .tables) (g .from .good) .1 }
-
-  pub gather-goes : {names′ : List ℕ} {r : Outputs} → q .cursor .kind ≡ k → Collects part s names names′ q r
-      → left s (r .cursor) < left s (q .cursor) → Gathering k part s names₀ names′ q₀ r
-  gather-goes {names′} {r} h x m = record {
-    from = g .from;
-    going = λ t y. let z = g .going t y in
-        reading.goes k part s (beside t names₀ q₀) (beside t names q) (beside t names′ r) z h (x t (z .1) .reads) m;
-    count = x (gathered .tables) (gathered .good) .count ∙ g .count;
-  }
-
-  pub gather-leaves : {names₁ : List ℕ} {p : Outputs} → Collects part s names₁ names₀ p q₀ → (q .cursor .kind ≡ k → ⊥)
-      → Collects (λ r. repeated k part (part r)) s names₁ names p q
-  gather-leaves {names₁} {p} x h = λ t y. let w = x t y in
-      record {
-        reads = reading.next (w .reads) (reading.leaves k part s (beside t names₀ q₀) (beside t names q) (g .going t (w .reads .good)) h);
-        count = g .count ∙ w .count;
-      }

@@ -19,15 +19,14 @@ use Rattle.block_tables.specs.declared.Output.{Output as Row}
 use Rattle.block_tables.specs.declared.Tables.{Tables}
 use Rattle.block_tables.specs.View.{no-output}
 use Rattle.parse_state.specs.declared.ParseState.{ParseState}
-use Rattle.parse_state.specs.Reads.{Good, Reads}
 use Rattle.defuzzify_text.specs.declared.Outputs.{Outputs}
 
 abbrev pub rowOf : Outputs → ℕ → Row
 rowOf p o = getD (p .rows) o no-output
 
--- p beside these names in the tables t
-abbrev pub beside : Tables → List ℕ → Outputs → ParseState
-beside t names p = record {
+-- the outputs p with their names, in the tables t
+abbrev pub withOutputs : List ℕ → Outputs → Tables → ParseState
+withOutputs names p t = record {
   cursor = p .cursor;
   tables = record {
     start = t .start;
@@ -42,21 +41,6 @@ beside t names p = record {
     singletons = p .singletons;
   };
 }
-
--- in some tables p is a good reading
-pub record Ready (s names : List ℕ) (p : Outputs) : Type 0 where
-  pub tables : Tables
-  pub good : Good s (beside tables names p)
-
--- a part is read, and there are as many outputs as before
-pub record ReadsFor (part : Part) (s : List ℕ) (p r : ParseState) : Type 0 where
-  pub reads : Reads part s p r
-  pub count : r .tables .«output_count» ≡ p .tables .«output_count»
-
--- a part is read, whatever the rest of the tables
-abbrev pub Collects : Part → List ℕ → List ℕ → List ℕ → Outputs → Outputs → Type 0
-Collects part s names names′ p r = (t : Tables) → Good s (beside t names p)
-    → ReadsFor part s (beside t names p) (beside t names′ r)
 
 -- a number inside a RANGE
 abbrev pub figureChecks : Option Range → Parse → Checks

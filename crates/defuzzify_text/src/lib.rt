@@ -14,7 +14,8 @@ ghost use Rattle.cursor.specs.View.{seen, textOf, Fits, Step, Moves, fault};
 ghost use Rattle.lookup.specs.Names.{Placed};
 ghost use Rattle.block_tables.specs.View.{rangeView};
 ghost use Rattle.parse_state.specs.Reads.{Good, Reads};
-ghost use Rattle.defuzzify_text.specs.Output.{rowOf, Ready, Collects, HasSingletons, figureChecks, termChecks, methodText, partText};
+ghost use Rattle.parse_state.specs.Beside.{Ready, Collects};
+ghost use Rattle.defuzzify_text.specs.Output.{rowOf, withOutputs, HasSingletons, figureChecks, termChecks, methodText, partText};
 use block_tables::Output;
 use cursor::Cursor;
 use lookup::Names;
@@ -32,8 +33,10 @@ struct Outputs {
 
 // The upper end of the RANGE of output o, above its lower end x.
 fn upper_end(s: &[u8], p: Outputs, o: usize, x: Crisp) -> Outputs
-    requires { ⌜ ((names : List ℕ) × Ready (now s) names p) × (o < p .count) ⌝ }
-    ensures { λ r. ⌜ ((names : List ℕ) → Collects (upperEnd o (x .0)) (now (s .entry)) names names p r) ⌝ }
+    requires { ⌜ ((names : List ℕ) × Ready (now s) (withOutputs names p)) × (o < p .count) ⌝ }
+    ensures { λ r. ⌜ ((names : List ℕ) → Collects (upperEnd o (x .0)) (now (s .entry))
+        (withOutputs names p) (withOutputs names r)) ⌝ }
+    ensures count { λ r. ⌜ r .count ≡ p .count ⌝ }
 {
     let c = p.cursor;
     let y = number_tokens::crisp_here(s, c);
@@ -68,8 +71,10 @@ fn upper_end(s: &[u8], p: Outputs, o: usize, x: Crisp) -> Outputs
 
 // min..max); of output o
 fn range_from(s: &[u8], p: Outputs, o: usize) -> Outputs
-    requires { ⌜ ((names : List ℕ) × Ready (now s) names p) × (o < p .count) ⌝ }
-    ensures { λ r. ⌜ ((names : List ℕ) → Collects (rangeBody o) (now (s .entry)) names names p r) ⌝ }
+    requires { ⌜ ((names : List ℕ) × Ready (now s) (withOutputs names p)) × (o < p .count) ⌝ }
+    ensures { λ r. ⌜ ((names : List ℕ) → Collects (rangeBody o) (now (s .entry))
+        (withOutputs names p) (withOutputs names r)) ⌝ }
+    ensures count { λ r. ⌜ r .count ≡ p .count ⌝ }
 {
     let c = p.cursor;
     let v = number_tokens::crisp_here(s, c);
@@ -93,8 +98,10 @@ fn range_from(s: &[u8], p: Outputs, o: usize) -> Outputs
 }
 
 fn optional_range(s: &[u8], p: Outputs, o: usize) -> Outputs
-    requires { ⌜ ((names : List ℕ) × Ready (now s) names p) × (o < p .count) ⌝ }
-    ensures { λ r. ⌜ ((names : List ℕ) → Collects (rangePart o) (now (s .entry)) names names p r) ⌝ }
+    requires { ⌜ ((names : List ℕ) × Ready (now s) (withOutputs names p)) × (o < p .count) ⌝ }
+    ensures { λ r. ⌜ ((names : List ℕ) → Collects (rangePart o) (now (s .entry))
+        (withOutputs names p) (withOutputs names r)) ⌝ }
+    ensures count { λ r. ⌜ r .count ≡ p .count ⌝ }
 {
     let c = p.cursor;
     if c.kind != token_kinds::RANGE {
@@ -143,11 +150,13 @@ fn singleton_at(
     start: usize,
     end: usize,
 ) -> Outputs
-    requires { ⌜ Ready (now s) (now names) p × (o < p .count) × (rowOf p o .terms < termLimit) × (start ≤ end)
+    requires { ⌜ Ready (now s) (withOutputs (now names) p) × (o < p .count) × (rowOf p o .terms < termLimit) × (start ≤ end)
         × (end ≤ length (now s)) ⌝ }
     ensures { λ r. ⌜ Collects
         (figure (λ x. withSingleton (record { name = slice start end (now (s .entry)); at = x })) o)
-        (now (s .entry)) (now (names .entry)) (now (names .exit)) p r ⌝ }
+        (now (s .entry)) (withOutputs (now (names .entry)) p)
+        (withOutputs (now (names .exit)) r) ⌝ }
+    ensures count { λ r. ⌜ r .count ≡ p .count ⌝ }
 {
     let c = p.cursor;
     let mut v = p.rows[o];
@@ -174,8 +183,10 @@ fn singleton_at(
 
 // A number as the DEFAULT of output o.
 fn default_number(s: &[u8], p: Outputs, o: usize) -> Outputs
-    requires { ⌜ ((names : List ℕ) × Ready (now s) names p) × (o < p .count) ⌝ }
-    ensures { λ r. ⌜ ((names : List ℕ) → Collects (figure withDefault o) (now (s .entry)) names names p r) ⌝ }
+    requires { ⌜ ((names : List ℕ) × Ready (now s) (withOutputs names p)) × (o < p .count) ⌝ }
+    ensures { λ r. ⌜ ((names : List ℕ) → Collects (figure withDefault o) (now (s .entry))
+        (withOutputs names p) (withOutputs names r)) ⌝ }
+    ensures count { λ r. ⌜ r .count ≡ p .count ⌝ }
 {
     let c = p.cursor;
     let v = p.rows[o];
@@ -232,8 +243,10 @@ fn term_fault(s: &[u8], names: &Names, o: usize, terms: usize, c: Cursor) -> u8
 
 // name := number ; as a term of output o
 fn singleton_named(s: &[u8], names: &mut Names, p: Outputs, o: usize) -> Outputs
-    requires { ⌜ Ready (now s) (now names) p × (o < p .count) × (rowOf p o .terms < termLimit) ⌝ }
-    ensures { λ r. ⌜ Collects (singletonBody o) (now (s .entry)) (now (names .entry)) (now (names .exit)) p r ⌝ }
+    requires { ⌜ Ready (now s) (withOutputs (now names) p) × (o < p .count) × (rowOf p o .terms < termLimit) ⌝ }
+    ensures { λ r. ⌜ Collects (singletonBody o) (now (s .entry)) (withOutputs (now (names .entry)) p)
+        (withOutputs (now (names .exit)) r) ⌝ }
+    ensures count { λ r. ⌜ r .count ≡ p .count ⌝ }
 {
     let c = p.cursor;
     let v = p.rows[o];
@@ -255,8 +268,10 @@ fn singleton_named(s: &[u8], names: &mut Names, p: Outputs, o: usize) -> Outputs
 }
 
 fn output_term(s: &[u8], names: &mut Names, p: Outputs, o: usize) -> Outputs
-    requires { ⌜ Ready (now s) (now names) p × (o < p .count) ⌝ }
-    ensures { λ r. ⌜ Collects (outputTerm o) (now (s .entry)) (now (names .entry)) (now (names .exit)) p r ⌝ }
+    requires { ⌜ Ready (now s) (withOutputs (now names) p) × (o < p .count) ⌝ }
+    ensures { λ r. ⌜ Collects (outputTerm o) (now (s .entry)) (withOutputs (now (names .entry)) p)
+        (withOutputs (now (names .exit)) r) ⌝ }
+    ensures count { λ r. ⌜ r .count ≡ p .count ⌝ }
     ensures moves { λ r. ⌜ Moves (now (s .entry)) (p .cursor) (r .cursor) ⌝ }
 {
     let c = p.cursor;
@@ -278,9 +293,11 @@ fn output_term(s: &[u8], names: &mut Names, p: Outputs, o: usize) -> Outputs
 }
 
 fn output_terms(s: &[u8], names: &mut Names, p: Outputs, o: usize) -> Outputs
-    requires { ⌜ Ready (now s) (now names) p × (o < p .count) ⌝ }
+    requires { ⌜ Ready (now s) (withOutputs (now names) p) × (o < p .count) ⌝ }
     ensures { λ r. ⌜ Collects (λ q. repeated TERM (outputTerm o) (outputTerm o q))
-        (now (s .entry)) (now (names .entry)) (now (names .exit)) p r ⌝ }
+        (now (s .entry)) (withOutputs (now (names .entry)) p)
+        (withOutputs (now (names .exit)) r) ⌝ }
+    ensures count { λ r. ⌜ r .count ≡ p .count ⌝ }
 {
     let mut q = output_term(s, names, p, o);
     while q.cursor.kind == token_kinds::TERM {
@@ -304,8 +321,10 @@ fn method(s: &[u8], c: Cursor) -> Cursor
 
 // A number or NC for output o.
 fn default_value(s: &[u8], p: Outputs, o: usize) -> Outputs
-    requires { ⌜ ((names : List ℕ) × Ready (now s) names p) × (o < p .count) ⌝ }
-    ensures { λ r. ⌜ ((names : List ℕ) → Collects (defaultValue o) (now (s .entry)) names names p r) ⌝ }
+    requires { ⌜ ((names : List ℕ) × Ready (now s) (withOutputs names p)) × (o < p .count) ⌝ }
+    ensures { λ r. ⌜ ((names : List ℕ) → Collects (defaultValue o) (now (s .entry))
+        (withOutputs names p) (withOutputs names r)) ⌝ }
+    ensures count { λ r. ⌜ r .count ≡ p .count ⌝ }
 {
     let c = p.cursor;
     if c.kind != token_kinds::NC {
@@ -319,8 +338,10 @@ fn default_value(s: &[u8], p: Outputs, o: usize) -> Outputs
 
 // The part of output o, from behind its name on.
 fn output_part(s: &[u8], names: &mut Names, p: Outputs, o: usize) -> Outputs
-    requires { ⌜ Ready (now s) (now names) p × (o < p .count) ⌝ }
-    ensures { λ r. ⌜ Collects (partText o) (now (s .entry)) (now (names .entry)) (now (names .exit)) p r ⌝ }
+    requires { ⌜ Ready (now s) (withOutputs (now names) p) × (o < p .count) ⌝ }
+    ensures { λ r. ⌜ Collects (partText o) (now (s .entry)) (withOutputs (now (names .entry)) p)
+        (withOutputs (now (names .exit)) r) ⌝ }
+    ensures count { λ r. ⌜ r .count ≡ p .count ⌝ }
 {
     let a = optional_range(s, p, o);
     let mut b = output_terms(s, names, a, o);
@@ -336,8 +357,10 @@ fn output_part(s: &[u8], names: &mut Names, p: Outputs, o: usize) -> Outputs
 }
 
 fn defuzzify_named(s: &[u8], names: &mut Names, p: Outputs) -> Outputs
-    requires { ⌜ Ready (now s) (now names) p ⌝ }
-    ensures { λ r. ⌜ Collects defuzzifyVariable (now (s .entry)) (now (names .entry)) (now (names .exit)) p r ⌝ }
+    requires { ⌜ Ready (now s) (withOutputs (now names) p) ⌝ }
+    ensures { λ r. ⌜ Collects defuzzifyVariable (now (s .entry)) (withOutputs (now (names .entry)) p)
+        (withOutputs (now (names .exit)) r) ⌝ }
+    ensures count { λ r. ⌜ r .count ≡ p .count ⌝ }
 {
     let c = p.cursor;
     let w = cursor::name_fault(c);
@@ -366,8 +389,10 @@ fn defuzzify_named(s: &[u8], names: &mut Names, p: Outputs) -> Outputs
 }
 
 fn defuzzify_part(s: &[u8], names: &mut Names, p: Outputs) -> Outputs
-    requires { ⌜ Ready (now s) (now names) p ⌝ }
-    ensures { λ r. ⌜ Collects defuzzify (now (s .entry)) (now (names .entry)) (now (names .exit)) p r ⌝ }
+    requires { ⌜ Ready (now s) (withOutputs (now names) p) ⌝ }
+    ensures { λ r. ⌜ Collects defuzzify (now (s .entry)) (withOutputs (now (names .entry)) p)
+        (withOutputs (now (names .exit)) r) ⌝ }
+    ensures count { λ r. ⌜ r .count ≡ p .count ⌝ }
     ensures moves { λ r. ⌜ Moves (now (s .entry)) (p .cursor) (r .cursor) ⌝ }
 {
     let c = p.cursor;
@@ -378,9 +403,11 @@ fn defuzzify_part(s: &[u8], names: &mut Names, p: Outputs) -> Outputs
 }
 
 fn parts(s: &[u8], names: &mut Names, p: Outputs) -> Outputs
-    requires { ⌜ Ready (now s) (now names) p ⌝ }
+    requires { ⌜ Ready (now s) (withOutputs (now names) p) ⌝ }
     ensures { λ r. ⌜ Collects (λ q. repeated DEFUZZIFY defuzzify (defuzzify q))
-        (now (s .entry)) (now (names .entry)) (now (names .exit)) p r ⌝ }
+        (now (s .entry)) (withOutputs (now (names .entry)) p)
+        (withOutputs (now (names .exit)) r) ⌝ }
+    ensures count { λ r. ⌜ r .count ≡ p .count ⌝ }
 {
     let mut q = defuzzify_part(s, names, p);
     while q.cursor.kind == token_kinds::DEFUZZIFY {

@@ -1,49 +1,19 @@
-use native.Mathlib.Omega.{arith}
-use Rattle.model.specs.Declarations.{inputDeclaration}
-use Rattle.cursor.specs.View.{left}
-use Rattle.parse_state.proofs.Laws as reading
 use Rattle.declaration_text.proofs.input_declarations.Statement.{statement}
 use Rattle.declaration_text.proofs.input_declarations.Tie as tie
 
-abbrev Inv-loop : tie.InvT-loop
-Inv-loop s q₀ q = reading.Going 2 inputDeclaration s q₀ q
+all-inputs-requires : tie.Need-all-inputs-requires
+all-inputs-requires c κs =
+    let c5 = c .before .before .before .before .before in
+    record { tables = c5 .args .p .tables; good = c5 .pre }
 
-abbrev μ-loop : tie.MeasureT-loop
-μ-loop s q₀ q = left s (q .cursor)
-
-input-declaration-requires : tie.Need-input-declaration-requires Inv-loop μ-loop
-input-declaration-requires c κs = c .before .pre
-
-loop-holds : tie.Need-loop-holds Inv-loop μ-loop
-loop-holds c = reading.begins 2 _ _ (c .input-declaration .result) (c .input-declaration .ensures .0 .good)
-
-input-declaration-requires-2 : tie.Need-input-declaration-requires-2 Inv-loop μ-loop
-input-declaration-requires-2 c κs = c .before .before .loop .inv .1
-
-loop-less : tie.Need-loop-less Inv-loop μ-loop
-loop-less c = c .input-declaration2 .ensures .1 (λ z. omega (arith, c .before .if1 .taken))
-
-loop-again : tie.Need-loop-again Inv-loop μ-loop
-loop-again c =
-    let c3 = c .before .before .before in
-    reading.goes 2 inputDeclaration _ _ (c3 .loop .q) (c .input-declaration2 .result) (c3 .loop .inv) (c .before .if1 .taken)
-    (c .input-declaration2 .ensures .0) (c .input-declaration2 .ensures .1 (λ z. omega (arith, c .before .if1 .taken)))
-
-returns : tie.Need-returns Inv-loop μ-loop
+returns : tie.Need-returns
 returns c =
-    let c3 = c .before .before .before in
-    reading.next (c3 .input-declaration .ensures .0) (reading.leaves 2 inputDeclaration _ _ (c .before .before .loop .q)
-    (c .before .before .loop .inv) (c .if1 .left))
+    let c8 = c .before .before .before .before .before .before .before .before in
+    c .before .before .all-inputs .ensures (c8 .args .p .tables) (c8 .pre)
 
 pub input-declarations-spec : {M : Type 1} → statement M
 input-declarations-spec =
     tie.close
     (tie.spec
-    Inv-loop
-    μ-loop
-    input-declaration-requires
-    loop-holds
-    input-declaration-requires-2
-    loop-less
-    loop-again
+    all-inputs-requires
     returns)

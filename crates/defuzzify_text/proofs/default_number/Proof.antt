@@ -4,7 +4,7 @@ use native.Mathlib.Omega.{arith}
 use borrow.Author.Needs.{needs}
 use Rattle.block_updates.proofs.Rows.{default-set}
 use Rattle.defuzzify_text.proofs.Laws as laws
-use Rattle.defuzzify_text.specs.Output.{beside}
+use Rattle.defuzzify_text.specs.Output.{withOutputs}
 use Rattle.defuzzify_text.proofs.default_number.Statement.{statement}
 use Rattle.defuzzify_text.proofs.default_number.Tie as tie
 
@@ -25,9 +25,11 @@ refuse-requires c κs = search needs
 returns : tie.Need-returns
 returns c =
     let c6 = c .before .before .before .before .before .before in
-    let a = c6 .args in
-    λ names t g. laws.figure-none (a .s .now) (a .t2 .cursor) (c .refuse .result) (beside t names (a .t2) .tables) (a .o) withDefault (c6 .pre .1) _
-    (c .before .before .figure-here .ensures .0 _ 0) (c .before .if1 .taken) (g .holds) (c .refuse .ensures .0 _ (g .fits))
+    let a = c6 .args in (
+      λ names t g. laws.figure-none (a .s .now) (a .t2 .cursor) (c .refuse .result) (withOutputs names (a .t2) t .tables) (a .o) withDefault (c6 .pre .1) _
+          (c .before .before .figure-here .ensures .0 _ 0) (c .before .if1 .taken) (g .holds) (c .refuse .ensures .0 _ (g .fits)),
+      refl,
+    )
 
 advance-requires : tie.Need-advance-requires
 advance-requires c κs =
@@ -51,11 +53,13 @@ returns-2 c =
     let c9 = c5 .before .before .before .before in
     let a = c9 .args in
     let e = c5 .figure-here .ensures in
-    let z = c4 .if1 .left in
-    λ names t g.
-    laws.figure-set (a .s .now) (a .t2 .cursor) (c .advance .result) (beside t names (a .t2) .tables) (a .o) withDefault (c9 .pre .1) _ _
-    (sym z ∙ e .0 _ 0) (e .1 z .1) (g .fits) (λ q. omega (arith, e .1 z .0))
-    (default-set (a .s .now) (beside t names (a .t2) .tables) (a .o) _ (c9 .pre .1) (g .holds)) refl (c .advance .ensures .0)
+    let z = c4 .if1 .left in (
+      λ names t g.
+          laws.figure-set (a .s .now) (a .t2 .cursor) (c .advance .result) (withOutputs names (a .t2) t .tables) (a .o) withDefault (c9 .pre .1) _ _
+          (sym z ∙ e .0 _ 0) (e .1 z .1) (g .fits) (λ q. omega (arith, e .1 z .0))
+          (default-set (a .s .now) (withOutputs names (a .t2) t .tables) (a .o) _ (c9 .pre .1) (g .holds)) (c .advance .ensures .0),
+      refl,
+    )
 
 pub default-number-spec : {M : Type 1} → statement M
 default-number-spec =

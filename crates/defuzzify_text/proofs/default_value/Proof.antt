@@ -1,6 +1,7 @@
+use mathlib.Core.Path.{refl}
 use native.Mathlib.Omega.{arith}
 use Rattle.defuzzify_text.proofs.Laws as laws
-use Rattle.defuzzify_text.specs.Output.{beside}
+use Rattle.defuzzify_text.specs.Output.{withOutputs}
 use Rattle.defuzzify_text.proofs.default_value.Statement.{statement}
 use Rattle.defuzzify_text.proofs.default_value.Tie as tie
 
@@ -12,8 +13,11 @@ default-number-requires c κs =
 returns : tie.Need-returns
 returns c =
     let c5 = c .before .before .before .before .before in
-    let a = c5 .args in
-    λ names t g. laws.default-given (a .s .now) (a .p .cursor) (beside t names (a .p) .tables) (a .o) _ (c .before .if1 .taken) (c .default-number .ensures names t g)
+    let a = c5 .args in (
+      λ names t g. laws.default-given (a .s .now) (a .p .cursor) (withOutputs names (a .p) t .tables) (a .o) _ (c .before .if1 .taken)
+          (c .default-number .ensures .0 names t g),
+      c .default-number .ensures .1,
+    )
 
 advance-requires : tie.Need-advance-requires
 advance-requires c κs =
@@ -23,8 +27,11 @@ advance-requires c κs =
 returns-2 : tie.Need-returns-2
 returns-2 c =
     let c5 = c .before .before .before .before .before in
-    let a = c5 .args in
-    λ names t g. laws.default-nc (a .s .now) (a .p .cursor) (beside t names (a .p) .tables) (a .o) (c .advance .result) (c .before .if1 .left) (g .holds) (c .advance .ensures .0)
+    let a = c5 .args in (
+      λ names t g. laws.default-nc (a .s .now) (a .p .cursor) (withOutputs names (a .p) t .tables) (a .o) (c .advance .result) (c .before .if1 .left) (g .holds)
+          (c .advance .ensures .0),
+      refl,
+    )
 
 pub default-value-spec : {M : Type 1} → statement M
 default-value-spec =

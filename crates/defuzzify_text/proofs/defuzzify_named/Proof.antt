@@ -2,7 +2,7 @@ use mathlib.Core.Path.{refl, sym, _∙_}
 use native.Mathlib.Omega.{arith}
 use borrow.Author.Needs.{needs}
 use Rattle.defuzzify_text.proofs.Laws as laws
-use Rattle.defuzzify_text.specs.Output.{beside}
+use Rattle.defuzzify_text.specs.Output.{withOutputs}
 use Rattle.defuzzify_text.proofs.defuzzify_named.Statement.{statement}
 use Rattle.defuzzify_text.proofs.defuzzify_named.Tie as tie
 
@@ -15,12 +15,11 @@ refuse-requires c κs = search needs
 returns : tie.Need-returns
 returns c =
     let c5 = c .before .before .before .before .before in
-    let a = c5 .args in
-    λ t g. record {
-      reads = laws.part-none (a .s .now) (a .t3 .cursor) (beside t (a .names .now) (a .t3) .tables) (c .refuse .result) _ (c .before .before .name-fault .ensures .0 _ (g .fits) _ 0)
-          (c .before .if1 .taken) (g .holds) (c .refuse .ensures .0 _ (g .fits));
-      count = refl;
-    }
+    let a = c5 .args in (
+      λ t g. laws.part-none (a .s .now) (a .t3 .cursor) (withOutputs (a .names .now) (a .t3) t .tables) (c .refuse .result) _ (c .before .before .name-fault .ensures .0 _ (g .fits) _ 0)
+          (c .before .if1 .taken) (g .holds) (c .refuse .ensures .0 _ (g .fits)),
+      refl,
+    )
 
 find-requires : tie.Need-find-requires
 find-requires c κs =
@@ -37,13 +36,12 @@ returns-2 c =
     let c4 = c .before .before .before .before in
     let c5 = c4 .before in
     let c8 = c5 .before .before .before in
-    let a = c8 .args in
-    λ t g.
-    record {
-      reads = laws.part-unknown (a .s .now) (a .t3 .cursor) (beside t (a .names .now) (a .t3) .tables) (sym (c4 .if1 .left) ∙ c5 .name-fault .ensures .0 _ (g .fits) _ 0) _
-          (laws.output-found _ _ _ _ (c .before .before .find .ensures .0)) (c .refuse2 .result) (c .before .if2 .taken) (g .holds) (c .refuse2 .ensures .0 _ (g .fits));
-      count = refl;
-    }
+    let a = c8 .args in (
+      λ t g.
+          laws.part-unknown (a .s .now) (a .t3 .cursor) (withOutputs (a .names .now) (a .t3) t .tables) (sym (c4 .if1 .left) ∙ c5 .name-fault .ensures .0 _ (g .fits) _ 0) _
+          (laws.output-found _ _ _ _ (c .before .before .find .ensures .0)) (c .refuse2 .result) (c .before .if2 .taken) (g .holds) (c .refuse2 .ensures .0 _ (g .fits)),
+      refl,
+    )
 
 mul-v : tie.Need-mul-v
 mul-v c = search needs
@@ -63,14 +61,13 @@ returns-3 c =
     let c7 = c5 .before .before in
     let c8 = c7 .before in
     let c11 = c8 .before .before .before in
-    let a = c11 .args in
-    λ t g.
-    record {
-      reads = laws.part-again (a .s .now) (a .t3 .cursor) (beside t (a .names .now) (a .t3) .tables) (sym (c7 .if1 .left) ∙ c8 .name-fault .ensures .0 _ (g .fits) _ 0) _
+    let a = c11 .args in (
+      λ t g.
+          laws.part-again (a .s .now) (a .t3 .cursor) (withOutputs (a .names .now) (a .t3) t .tables) (sym (c7 .if1 .left) ∙ c8 .name-fault .ensures .0 _ (g .fits) _ 0) _
           (laws.output-found _ _ _ _ (c5 .find .ensures .0)) (c .refuse3 .result) (c4 .if2 .left) (c .before .if3 .taken) (g .holds)
-          (c .refuse3 .ensures .0 _ (g .fits));
-      count = refl;
-    }
+          (c .refuse3 .ensures .0 _ (g .fits)),
+      refl,
+    )
 
 advance-requires : tie.Need-advance-requires
 advance-requires c κs =
@@ -94,15 +91,14 @@ returns-4 c =
     let c9 = c7 .before .before in
     let c10 = c9 .before in
     let c13 = c10 .before .before .before in
-    let a = c13 .args in
-    λ t g.
-    let x = c .output-part .ensures t (record { fits = c .before .before .advance .ensures .0 .fits; holds = g .holds }) in
-    record {
-      reads = laws.part-read (a .s .now) (a .t3 .cursor) (beside t (a .names .now) (a .t3) .tables)
+    let a = c13 .args in (
+      λ t g.
+          laws.part-read (a .s .now) (a .t3 .cursor) (withOutputs (a .names .now) (a .t3) t .tables)
           (sym (c9 .if1 .left) ∙ c10 .name-fault .ensures .0 _ (g .fits) _ 0) _ (laws.output-found _ _ _ _ (c7 .find .ensures .0)) (c .before .before .advance .result) _
-          (c6 .if2 .left) (c3 .if3 .left) (g .holds) (c .before .before .advance .ensures .0) (x .reads);
-      count = x .count;
-    }
+          (c6 .if2 .left) (c3 .if3 .left) (g .holds) (c .before .before .advance .ensures .0)
+          (c .output-part .ensures .0 t (record { fits = c .before .before .advance .ensures .0 .fits; holds = g .holds })),
+      c .output-part .ensures .1,
+    )
 
 pub defuzzify-named-spec : {M : Type 1} → statement M
 defuzzify-named-spec =

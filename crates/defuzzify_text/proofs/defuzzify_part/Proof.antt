@@ -18,11 +18,10 @@ unfolding defuzzify
 returns c =
     let c5 = c .before .before .before .before .before in
     let r = c5 .pre in
-    let d = c .before .before .expect .ensures in (
-      λ t g.
-          let x = c .defuzzify-named .ensures t (record { fits = d .0 .fits; holds = g .holds }) in
-          record { reads = reading.next (reading.step _ (g .holds) (d .0)) (x .reads); count = x .count },
-      λ h. omega (arith, d .1 h, c .defuzzify-named .ensures (r .tables) (record { fits = d .0 .fits; holds = r .good .holds }) .reads .fewer),
+    let d = c .before .before .expect .ensures in
+    let x = c .defuzzify-named .ensures in (
+      λ t g. reading.next (reading.step _ (g .holds) (d .0)) (x .0 t (record { fits = d .0 .fits; holds = g .holds })),
+      (x .1, λ h. omega (arith, d .1 h, x .0 (r .tables) (record { fits = d .0 .fits; holds = r .good .holds }) .fewer)),
     )
 
 pub defuzzify-part-spec : {M : Type 1} → statement M

@@ -10,8 +10,8 @@ returns : tie.Need-returns
 returns c =
     let c3 = c .before .before .before in
     let c10 = c3 .before .before .before .before .before .before .before in
-    let x = c3 .parts .ensures (c10 .args .p .tables) (c10 .pre) in
-    simp (x .count) at (x .reads)
+    let x = c3 .parts .ensures in
+    simp (x .1) at (x .0 (c10 .args .p .tables) (c10 .pre))
 
 pub defuzzify-parts-spec : {M : Type 1} → statement M
 defuzzify-parts-spec =

@@ -1,6 +1,7 @@
+use mathlib.Core.Path.{refl}
 use native.Mathlib.Omega.{arith}
 use Rattle.defuzzify_text.proofs.Laws as laws
-use Rattle.defuzzify_text.specs.Output.{beside}
+use Rattle.defuzzify_text.specs.Output.{withOutputs}
 use Rattle.cursor.proofs.Laws.{steps}
 use Rattle.defuzzify_text.proofs.optional_range.Statement.{statement}
 use Rattle.defuzzify_text.proofs.optional_range.Tie as tie
@@ -9,7 +10,7 @@ returns : tie.Need-returns
 returns c =
     let c4 = c .before .before .before .before in
     let a = c4 .args in
-    λ names t g. laws.range-not (a .s .now) (a .p .cursor) (beside t names (a .p) .tables) (a .o) (c .if1 .taken) g
+    (λ names t g. laws.range-not (a .s .now) (a .p .cursor) (withOutputs names (a .p) t .tables) (a .o) (c .if1 .taken) g, refl)
 
 advance-requires : tie.Need-advance-requires
 advance-requires c κs =
@@ -29,11 +30,13 @@ returns-2 : tie.Need-returns-2
 returns-2 c =
     let c3 = c .before .before .before in
     let c7 = c3 .before .before .before .before in
-    let a = c7 .args in
-    λ names t g.
-    laws.range-given (a .s .now) (a .p .cursor) (beside t names (a .p) .tables) (a .o) (c .before .expect .result) _ (c3 .if1 .left) (g .holds)
-    (steps (c .before .before .advance .ensures .0) (c .before .expect .ensures .0))
-    (c .range-from .ensures names t (record { fits = c .before .expect .ensures .0 .fits; holds = g .holds }))
+    let a = c7 .args in (
+      λ names t g.
+          laws.range-given (a .s .now) (a .p .cursor) (withOutputs names (a .p) t .tables) (a .o) (c .before .expect .result) _ (c3 .if1 .left) (g .holds)
+          (steps (c .before .before .advance .ensures .0) (c .before .expect .ensures .0))
+          (c .range-from .ensures .0 names t (record { fits = c .before .expect .ensures .0 .fits; holds = g .holds })),
+      c .range-from .ensures .1,
+    )
 
 pub optional-range-spec : {M : Type 1} → statement M
 optional-range-spec =

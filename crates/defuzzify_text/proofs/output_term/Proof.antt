@@ -1,7 +1,8 @@
+use mathlib.Core.Path.{refl}
 use native.Mathlib.Omega.{arith}
 use borrow.Author.Needs.{needs}
 use Rattle.defuzzify_text.proofs.Laws as laws
-use Rattle.defuzzify_text.specs.Output.{beside}
+use Rattle.defuzzify_text.specs.Output.{withOutputs}
 use Rattle.defuzzify_text.proofs.output_term.Statement.{statement}
 use Rattle.defuzzify_text.proofs.output_term.Tie as tie
 
@@ -13,9 +14,9 @@ returns c =
     let c5 = c .before .before .before .before .before in
     let a = c5 .args in
     let r = c5 .pre .0 .good in (
-      λ t g. laws.term-not (a .s .now) (a .t3 .cursor) (beside t (a .names .now) (a .t3) .tables) (a .o) (c .refuse .result) (c .before .if1 .taken) (g .holds)
+      λ t g. laws.term-not (a .s .now) (a .t3 .cursor) (withOutputs (a .names .now) (a .t3) t .tables) (a .o) (c .refuse .result) (c .before .if1 .taken) (g .holds)
           (c .refuse .ensures .0 _ (g .fits)),
-      c .refuse .ensures .1 .0 _ (r .fits),
+      (refl, c .refuse .ensures .1 .0 _ (r .fits)),
     )
 
 mul-v : tie.Need-mul-v
@@ -35,9 +36,9 @@ returns-2 c =
     let c8 = c4 .before .before .before .before in
     let a = c8 .args in
     let r = c8 .pre .0 .good in (
-      λ t g. laws.term-full (a .s .now) (a .t3 .cursor) (beside t (a .names .now) (a .t3) .tables) (a .o) (c .refuse2 .result) (c4 .if1 .left) (c8 .pre .1)
+      λ t g. laws.term-full (a .s .now) (a .t3 .cursor) (withOutputs (a .names .now) (a .t3) t .tables) (a .o) (c .refuse2 .result) (c4 .if1 .left) (c8 .pre .1)
           (c .before .if2 .taken) (g .holds) (c .refuse2 .ensures .0 _ (g .fits)),
-      c .refuse2 .ensures .1 .0 _ (r .fits),
+      (refl, c .refuse2 .ensures .1 .0 _ (r .fits)),
     )
 
 advance-requires : tie.Need-advance-requires
@@ -60,9 +61,12 @@ returns-3 c =
     let a = c10 .args in
     let r = c10 .pre .0 in
     let d = c .before .before .advance .ensures in (
-      λ t g. laws.term-more (a .s .now) (a .t3 .cursor) (beside t (a .names .now) (a .t3) .tables) (a .o) (c .before .before .advance .result) _ (c6 .if1 .left) (c10 .pre .1)
-          (c3 .if2 .left) (g .holds) (d .0) (c .singleton-named .ensures t (record { fits = d .0 .fits; holds = g .holds })),
-      λ h. omega (arith, c .singleton-named .ensures (r .tables) (record { fits = d .0 .fits; holds = r .good .holds }) .reads .fewer, d .1 .0),
+      λ t g. laws.term-more (a .s .now) (a .t3 .cursor) (withOutputs (a .names .now) (a .t3) t .tables) (a .o) (c .before .before .advance .result) _ (c6 .if1 .left) (c10 .pre .1)
+          (c3 .if2 .left) (g .holds) (d .0) (c .singleton-named .ensures .0 t (record { fits = d .0 .fits; holds = g .holds })),
+      (
+        c .singleton-named .ensures .1,
+        λ h. omega (arith, c .singleton-named .ensures .0 (r .tables) (record { fits = d .0 .fits; holds = r .good .holds }) .fewer, d .1 .0),
+      ),
     )
 
 pub output-term-spec : {M : Type 1} → statement M

@@ -1,9 +1,9 @@
-use mathlib.Core.Path.{sym, _∙_}
+use mathlib.Core.Path.{refl, sym, _∙_}
 use native.Mathlib.Omega.{arith}
 use borrow.Author.Needs.{needs}
 use Rattle.number_tokens.proofs.Laws.{value-here}
 use Rattle.defuzzify_text.proofs.Laws as laws
-use Rattle.defuzzify_text.specs.Output.{beside}
+use Rattle.defuzzify_text.specs.Output.{withOutputs}
 use Rattle.cursor.proofs.Laws.{steps}
 use Rattle.parse_state.proofs.Laws as reading
 use Rattle.defuzzify_text.proofs.range_from.Statement.{statement}
@@ -18,9 +18,11 @@ refuse-requires c κs = search needs
 returns : tie.Need-returns
 returns c =
     let c5 = c .before .before .before .before .before in
-    let a = c5 .args in
-    λ names t g. laws.range-lost (a .s .now) (a .p .cursor) (c .refuse .result) (beside t names (a .p) .tables) (a .o) _ (c .before .before .crisp-here .ensures .0 _ 0)
-    (c .before .if1 .taken) (g .holds) (c .refuse .ensures .1 .1) (c .refuse .ensures .0 _ (g .fits))
+    let a = c5 .args in (
+      λ names t g. laws.range-lost (a .s .now) (a .p .cursor) (c .refuse .result) (withOutputs names (a .p) t .tables) (a .o) _ (c .before .before .crisp-here .ensures .0 _ 0)
+          (c .before .if1 .taken) (g .holds) (c .refuse .ensures .1 .1) (c .refuse .ensures .0 _ (g .fits)),
+      refl,
+    )
 
 advance-requires : tie.Need-advance-requires
 advance-requires c κs =
@@ -40,7 +42,7 @@ expect-requires-2 : tie.Need-expect-requires-2
 expect-requires-2 c κs =
     let c9 = c .before .before .before .before .before .before .before .before .before in
     let r = c9 .pre .0 .1 in
-    (c .before .upper-end .ensures _ (r .tables) (record { fits = c .before .before .expect .ensures .0 .fits; holds = r .good .holds }) .reads .good .fits, omega arith)
+    (c .before .upper-end .ensures .0 _ (r .tables) (record { fits = c .before .before .expect .ensures .0 .fits; holds = r .good .holds }) .good .fits, omega arith)
 
 expect-requires-3 : tie.Need-expect-requires-3
 expect-requires-3 c κs = (c .expect2 .ensures .0 .fits, omega arith)
@@ -55,17 +57,16 @@ returns-2 c =
     let c11 = c8 .before .before .before in
     let a = c11 .args in
     let e = c8 .crisp-here .ensures in
-    let z = c7 .if1 .left in
-    λ names t g.
-    let u = c3 .upper-end .ensures names t (record { fits = c4 .expect .ensures .0 .fits; holds = g .holds }) in
-    record {
-      reads = reading.also (reading.next (reading.next (reading.next
-          (laws.is-crisp (a .s .now) (a .p .cursor) (c5 .advance .result) (beside t names (a .p) .tables) (a .o) (sym z ∙ e .0 _ 0) (g .holds)
-          (c5 .advance .ensures .0)) (reading.step _ (g .holds) (c4 .expect .ensures .0))) (u .reads))
-          (reading.step _ (u .reads .good .holds) (steps (c .before .expect2 .ensures .0) (c .expect3 .ensures .0))))
-          (laws.range-is (a .s .now) (beside t names (a .p)) (a .o) _ (value-here _ _ _ _ (e .1 .0) z));
-      count = u .count;
-    }
+    let z = c7 .if1 .left in (
+      λ names t g.
+          let u = c3 .upper-end .ensures .0 names t (record { fits = c4 .expect .ensures .0 .fits; holds = g .holds }) in
+          reading.also (reading.next (reading.next (reading.next
+          (laws.is-crisp (a .s .now) (a .p .cursor) (c5 .advance .result) (withOutputs names (a .p) t .tables) (a .o) (sym z ∙ e .0 _ 0) (g .holds)
+          (c5 .advance .ensures .0)) (reading.step _ (g .holds) (c4 .expect .ensures .0))) u)
+          (reading.step _ (u .good .holds) (steps (c .before .expect2 .ensures .0) (c .expect3 .ensures .0))))
+          (laws.range-is (a .s .now) (withOutputs names (a .p) t) (a .o) _ (value-here _ _ _ _ (e .1 .0) z)),
+      c3 .upper-end .ensures .1,
+    )
 
 pub range-from-spec : {M : Type 1} → statement M
 range-from-spec =

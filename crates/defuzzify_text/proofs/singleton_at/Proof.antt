@@ -5,7 +5,7 @@ use borrow.Author.Needs.{needs}
 use lib.Seq.{slice}
 use Rattle.block_updates.proofs.Singletons.{singleton-added}
 use Rattle.defuzzify_text.proofs.Laws as laws
-use Rattle.defuzzify_text.specs.Output.{beside}
+use Rattle.defuzzify_text.specs.Output.{withOutputs}
 use Rattle.defuzzify_text.proofs.singleton_at.Statement.{statement}
 use Rattle.defuzzify_text.proofs.singleton_at.Tie as tie
 
@@ -26,10 +26,12 @@ refuse-requires c κs = search needs
 returns : tie.Need-returns
 returns c =
     let c6 = c .before .before .before .before .before .before in
-    let a = c6 .args in
-    λ t g. laws.figure-none (a .s .now) (a .t3 .cursor) (c .refuse .result) (beside t (a .names .now) (a .t3) .tables) (a .o)
-    (λ x. withSingleton (record { name = slice (a .start) (a .end) (a .s .now); at = x })) (c6 .pre .1) _ (c .before .before .figure-here .ensures .0 _ 0)
-    (c .before .if1 .taken) (g .holds) (c .refuse .ensures .0 _ (g .fits))
+    let a = c6 .args in (
+      λ t g. laws.figure-none (a .s .now) (a .t3 .cursor) (c .refuse .result) (withOutputs (a .names .now) (a .t3) t .tables) (a .o)
+          (λ x. withSingleton (record { name = slice (a .start) (a .end) (a .s .now); at = x })) (c6 .pre .1) _ (c .before .before .figure-here .ensures .0 _ 0)
+          (c .before .if1 .taken) (g .holds) (c .refuse .ensures .0 _ (g .fits)),
+      refl,
+    )
 
 mul-k : tie.Need-mul-k
 mul-k c = search needs
@@ -85,13 +87,15 @@ returns-2 c =
     let a = c7 .args in
     let h = c7 .pre in
     let e = c3 .figure-here .ensures in
-    let z = c .before .before .if1 .left in
-    λ t g.
-    laws.figure-set (a .s .now) (a .t3 .cursor) (c .advance .result) (beside t (a .names .now) (a .t3) .tables) (a .o)
-    (λ x. withSingleton (record { name = slice (a .start) (a .end) (a .s .now); at = x })) (h .1) _ _
-    (sym z ∙ e .0 _ 0) (e .1 z .1) (g .fits) (λ q. omega (arith, e .1 z .0))
-    (singleton-added (a .s .now) (beside t (a .names .now) (a .t3) .tables) (a .o) _ (a .start) (a .end) _ refl (h .1) (h .2) (g .holds) (h .3) (h .4)) refl
-    (c .advance .ensures .0)
+    let z = c .before .before .if1 .left in (
+      λ t g.
+          laws.figure-set (a .s .now) (a .t3 .cursor) (c .advance .result) (withOutputs (a .names .now) (a .t3) t .tables) (a .o)
+          (λ x. withSingleton (record { name = slice (a .start) (a .end) (a .s .now); at = x })) (h .1) _ _
+          (sym z ∙ e .0 _ 0) (e .1 z .1) (g .fits) (λ q. omega (arith, e .1 z .0))
+          (singleton-added (a .s .now) (withOutputs (a .names .now) (a .t3) t .tables) (a .o) _ (a .start) (a .end) _ refl (h .1) (h .2) (g .holds) (h .3) (h .4))
+          (c .advance .ensures .0),
+      refl,
+    )
 
 pub singleton-at-spec : {M : Type 1} → statement M
 singleton-at-spec =

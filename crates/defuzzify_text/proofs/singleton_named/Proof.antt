@@ -1,8 +1,8 @@
-use mathlib.Core.Path.{sym, _∙_}
+use mathlib.Core.Path.{refl, sym, _∙_}
 use native.Mathlib.Omega.{arith}
 use borrow.Author.Needs.{needs}
 use Rattle.defuzzify_text.proofs.Laws as laws
-use Rattle.defuzzify_text.specs.Output.{beside}
+use Rattle.defuzzify_text.specs.Output.{withOutputs}
 use Rattle.cursor.proofs.Laws.{steps}
 use Rattle.parse_state.proofs.Laws as reading
 use Rattle.defuzzify_text.proofs.singleton_named.Statement.{statement}
@@ -27,9 +27,11 @@ refuse-requires c κs = search needs
 returns : tie.Need-returns
 returns c =
     let c7 = c .before .before .before .before .before .before .before in
-    let a = c7 .args in
-    λ t g. laws.named-none (a .s .now) (a .t3 .cursor) (beside t (a .names .now) (a .t3) .tables) (a .o) (c .refuse .result) _
-    (c .before .before .term-fault .ensures .0 _ 0 (laws.singletons _ _ _ (c7 .pre .1))) (c .before .if1 .taken) (g .holds) (c .refuse .ensures .0 _ (g .fits))
+    let a = c7 .args in (
+      λ t g. laws.named-none (a .s .now) (a .t3 .cursor) (withOutputs (a .names .now) (a .t3) t .tables) (a .o) (c .refuse .result) _
+          (c .before .before .term-fault .ensures .0 _ 0 (laws.singletons _ _ _ (c7 .pre .1))) (c .before .if1 .taken) (g .holds) (c .refuse .ensures .0 _ (g .fits)),
+      refl,
+    )
 
 advance-requires : tie.Need-advance-requires
 advance-requires c κs =
@@ -50,7 +52,7 @@ expect-requires-2 c κs =
     let c3 = c .before .before .before in
     let c11 = c3 .before .before .before .before .before .before .before .before in
     let r = c11 .pre .0 in
-    (c .before .singleton-at .ensures (r .tables) (record { fits = c3 .expect .ensures .0 .fits; holds = r .good .holds }) .reads .good .fits, omega arith)
+    (c .before .singleton-at .ensures .0 (r .tables) (record { fits = c3 .expect .ensures .0 .fits; holds = r .good .holds }) .good .fits, omega arith)
 
 returns-2 : tie.Need-returns-2
 returns-2 c =
@@ -60,16 +62,15 @@ returns-2 c =
     let c7 = c6 .before in
     let c12 = c7 .before .before .before .before .before in
     let a = c12 .args in
-    let h = c12 .pre in
-    λ t g.
-    let u = c .before .before .singleton-at .ensures t (record { fits = c4 .expect .ensures .0 .fits; holds = g .holds }) in
-    laws.named-some (a .s .now) (a .t3 .cursor) (beside t (a .names .now) (a .t3) .tables) (a .o) _
-    (sym (c6 .if1 .left) ∙ c7 .term-fault .ensures .0 _ 0 (laws.singletons _ _ _ (h .1)))
-    (record {
-      reads = reading.next (reading.next (reading.step _ (g .holds) (steps (c5 .advance .ensures .0) (c4 .expect .ensures .0))) (u .reads))
-          (reading.step _ (u .reads .good .holds) (c .expect2 .ensures .0));
-      count = u .count;
-    })
+    let h = c12 .pre in (
+      λ t g.
+          let u = c .before .before .singleton-at .ensures .0 t (record { fits = c4 .expect .ensures .0 .fits; holds = g .holds }) in
+          laws.named-some (a .s .now) (a .t3 .cursor) (withOutputs (a .names .now) (a .t3) t .tables) (a .o) _
+          (sym (c6 .if1 .left) ∙ c7 .term-fault .ensures .0 _ 0 (laws.singletons _ _ _ (h .1)))
+          (reading.next (reading.next (reading.step _ (g .holds) (steps (c5 .advance .ensures .0) (c4 .expect .ensures .0))) u)
+          (reading.step _ (u .good .holds) (c .expect2 .ensures .0))),
+      c .before .before .singleton-at .ensures .1,
+    )
 
 pub singleton-named-spec : {M : Type 1} → statement M
 singleton-named-spec =

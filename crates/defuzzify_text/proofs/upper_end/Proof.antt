@@ -4,7 +4,7 @@ use borrow.Author.Needs.{needs}
 use Rattle.number_tokens.proofs.Laws.{value-here}
 use Rattle.block_updates.proofs.Rows.{range-set}
 use Rattle.defuzzify_text.proofs.Laws as laws
-use Rattle.defuzzify_text.specs.Output.{beside}
+use Rattle.defuzzify_text.specs.Output.{withOutputs}
 use Rattle.defuzzify_text.proofs.upper_end.Statement.{statement}
 use Rattle.defuzzify_text.proofs.upper_end.Tie as tie
 
@@ -17,9 +17,11 @@ refuse-requires c κs = search needs
 returns : tie.Need-returns
 returns c =
     let c5 = c .before .before .before .before .before in
-    let a = c5 .args in
-    λ names t g. laws.upper-none (a .s .now) (a .t2 .cursor) (c .refuse .result) (beside t names (a .t2) .tables) (a .o) (a .x .0) _ (c .before .before .crisp-here .ensures .0 _ 0)
-    (c .before .if1 .taken) (g .holds) (c .refuse .ensures .0 _ (g .fits))
+    let a = c5 .args in (
+      λ names t g. laws.upper-none (a .s .now) (a .t2 .cursor) (c .refuse .result) (withOutputs names (a .t2) t .tables) (a .o) (a .x .0) _ (c .before .before .crisp-here .ensures .0 _ 0)
+          (c .before .if1 .taken) (g .holds) (c .refuse .ensures .0 _ (g .fits)),
+      refl,
+    )
 
 less-requires : tie.Need-less-requires
 less-requires c κs = search needs
@@ -56,11 +58,13 @@ returns-2 c =
     let c10 = c7 .before .before .before in
     let a = c10 .args in
     let e = c7 .crisp-here .ensures in
-    let z = c6 .if1 .left in
-    λ names t g.
-    laws.upper-set (a .s .now) (a .t2 .cursor) (c .advance .result) (beside t names (a .t2) .tables) (a .o) (a .x .0) (sym z ∙ e .0 _ 0) _
-    (value-here _ _ _ _ (e .1 .0) z) _ (sym (c4 .less .ensures) ∙ c3 .if2 .taken) (g .fits) (λ q. omega (arith, e .1 .1 z))
-    (range-set (a .s .now) (beside t names (a .t2) .tables) (a .o) (a .x) _ (c10 .pre .1) (g .holds)) refl (c .advance .ensures .0)
+    let z = c6 .if1 .left in (
+      λ names t g.
+          laws.upper-set (a .s .now) (a .t2 .cursor) (c .advance .result) (withOutputs names (a .t2) t .tables) (a .o) (a .x .0) (sym z ∙ e .0 _ 0) _
+          (value-here _ _ _ _ (e .1 .0) z) _ (sym (c4 .less .ensures) ∙ c3 .if2 .taken) (g .fits) (λ q. omega (arith, e .1 .1 z))
+          (range-set (a .s .now) (withOutputs names (a .t2) t .tables) (a .o) (a .x) _ (c10 .pre .1) (g .holds)) (c .advance .ensures .0),
+      refl,
+    )
 
 refuse-requires-2 : tie.Need-refuse-requires-2
 refuse-requires-2 c κs = search needs
@@ -72,10 +76,12 @@ returns-3 c =
     let c8 = c5 .before .before .before in
     let a = c8 .args in
     let e = c5 .crisp-here .ensures in
-    let z = c4 .if1 .left in
-    λ names t g.
-    laws.upper-low (a .s .now) (a .t2 .cursor) (c .refuse2 .result) (beside t names (a .t2) .tables) (a .o) (a .x .0) (sym z ∙ e .0 _ 0) _
-    (value-here _ _ _ _ (e .1 .0) z) (sym (c .before .before .less .ensures) ∙ c .before .if2 .left) (g .holds) (c .refuse2 .ensures .0 _ (g .fits))
+    let z = c4 .if1 .left in (
+      λ names t g.
+          laws.upper-low (a .s .now) (a .t2 .cursor) (c .refuse2 .result) (withOutputs names (a .t2) t .tables) (a .o) (a .x .0) (sym z ∙ e .0 _ 0) _
+          (value-here _ _ _ _ (e .1 .0) z) (sym (c .before .before .less .ensures) ∙ c .before .if2 .left) (g .holds) (c .refuse2 .ensures .0 _ (g .fits)),
+      refl,
+    )
 
 pub upper-end-spec : {M : Type 1} → statement M
 upper-end-spec =
