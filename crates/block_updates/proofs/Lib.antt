@@ -4,8 +4,6 @@ pub mod Views
 pub mod Inputs
 pub mod Types
 pub mod Outputs
-pub mod Terms
-pub mod Points
 pub mod Rows
 pub mod Singletons
 pub mod Lookups

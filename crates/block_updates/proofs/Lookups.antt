@@ -2,7 +2,7 @@
 use mathlib.Core.Path.{_≡_, refl, ap, _∙_}
 use mathlib.Core.List.{List, [], map}
 use mathlib.Core.Option.{none}
-use Prim.Native.Nat.{ℕ, suc, _+_, _*_, _-_, _≤_, _<_}
+use Prim.Native.Nat.{ℕ, _+_, _*_, _≤_, _<_}
 use native.Mathlib.Omega.{arith}
 use lib.ListN.{length, getD, length-map, List·getD-eq-default}
 use Rattle.model.specs.Basic.{indexOf}
@@ -10,14 +10,13 @@ use Rattle.model.specs.Block as block
 use Rattle.model.specs.Block.{Block, termsOf, singletonsOf, rangeOf}
 use Rattle.model.specs.Image.{tab}
 use Rattle.model.specs.Tokens.{sameName}
-use Rattle.model.specs.Declarations.{inputOf, outputOf, termOf, singletonOf, lastPoints, pointsOf}
-use Rattle.laws.proofs.Lists.{map-tab, last-points}
-use Rattle.laws.proofs.Places.{length-tab, tab-nth, tab-ext, tab-last}
+use Rattle.model.specs.Declarations.{inputOf, outputOf, termOf, singletonOf}
+use Rattle.laws.proofs.Lists.{map-tab}
+use Rattle.laws.proofs.Places.{length-tab, tab-nth, tab-ext}
 use Rattle.lookup.specs.Names.{nameOf}
 use Rattle.lookup.proofs.Names.{index-tab}
 use Rattle.block_tables.specs.declared.Tables.{Tables}
-use Rattle.block_tables.specs.View.{inputRow, outputRow, pointView, termView, inputView, singletonView, rangeView, outputView, inputsView, outputsView}
-use Rattle.block_updates.specs.Changes.{LastTerm}
+use Rattle.block_tables.specs.View.{inputRow, outputRow, termView, inputView, singletonView, rangeView, outputView, inputsView, outputsView}
 
 -- n rows, f giving each: how many, a field of the row at a place, and where a name stands among those from place p on
 module _ {A : Type 0} (f : ℕ → A) (n : ℕ) {vs : List A} (e : vs ≡ tab f n 0) where
@@ -62,17 +61,6 @@ module _ (s : List ℕ) (t : Tables) (b : Block) (e : b .inputs ≡ inputsView s
   pub term-of : (w : List ℕ) (i : ℕ) → i < t .«input_count» → termOf i w b ≡ indexOf (sameName w) (tab (nameOf s (t .names)) (inputRow t i .terms) (14 + i * 7))
   unfolding termOf termView
   term-of w i h = found (termView s t i) _ (terms-are i h) (λ v. v .name) s (t .names) (14 + i * 7) (λ k. refl) w
-
-  pub points-of : (i k : ℕ) → LastTerm t i k → pointsOf i b ≡ tab (pointView t) (getD (t .counts) k 0) (k * 4)
-  unfolding pointsOf termView
-  points-of i k l =
-      let j : ℕ = inputRow t i .terms - 1 in
-      let q : inputRow t i .terms ≡ suc j = omega (arith, l .some) in
-      let r : i * 7 + j ≡ k = omega (arith, l .last, l .some) in
-      ap lastPoints (terms-are i (l .input) ∙ ap (λ (n : ℕ). tab (termView s t i) n 0) q ∙ tab-last (termView s t i) j 0)
-      ∙ last-points (tab (termView s t i) j 0) (termView s t i (0 + j))
-      ∙ ap (λ (m : ℕ). termView s t i m .points) (omega arith)
-      ∙ ap (λ (m : ℕ). tab (pointView t) (getD (t .counts) m 0) (m * 4)) r
 
 module _ (s : List ℕ) (t : Tables) (b : Block) (e : b .outputs ≡ outputsView s t) where
   pub output-of : (w : List ℕ) → outputOf w b ≡ indexOf (sameName w) (tab (nameOf s (t .names)) (t .«output_count») 8)

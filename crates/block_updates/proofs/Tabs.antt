@@ -1,12 +1,11 @@
--- Lists of values by place: one more, one changed, the last one changed.
+-- Lists of values by place: one more, one changed.
 use mathlib.Core.Path.{_≡_, refl, sym, ap, _∙_}
 use mathlib.Core.List.{List, [], _∷_, _++_, map}
 use Prim.Native.Nat.{ℕ, zero, suc, _+_, _≤_, _<_}
 use native.Mathlib.Omega.{arith}
 use lib.ListN.{take, drop, getD, set}
-use Rattle.model.specs.Basic.{update, updateLast}
+use Rattle.model.specs.Basic.{update}
 use Rattle.model.specs.Image.{tab}
-use Rattle.laws.proofs.Lists.{updateLast-snoc}
 use Rattle.laws.proofs.Places.{tab-last, tab-ext}
 use Rattle.laws.proofs.Arrays.{each-set}
 
@@ -34,16 +33,6 @@ tab-update {A} h f g (suc n) p (suc i) e o l =
     let r = tab-update h f g n (suc p) i (ap g (sym c) ∙ e ∙ ap (λ (k : ℕ). h (f k)) c)
     (λ k m q. ap g (omega arith) ∙ o (suc k) (omega arith) (λ w. q (omega arith)) ∙ ap f (omega arith)) (omega arith) in
     λ j. (ap g (sym z) ∙ o 0 (omega arith) (λ q. omega arith) ∙ ap f z) j ∷ r j
-
--- the last of n + 1 changed
-pub tab-updateLast : {A : Type 0} (h : A → A) (f g : ℕ → A) (n : ℕ) → g n ≡ h (f n) → ((k : ℕ) → k < n → g k ≡ f k)
-    → tab g (suc n) 0 ≡ updateLast h (tab f (suc n) 0)
-tab-updateLast h f g n e o =
-    let z : 0 + n ≡ n = omega arith in
-    tab-last g n 0
-    ∙ (λ j. tab-same f g n o j ++ ((ap g z ∙ e ∙ ap (λ (k : ℕ). h (f k)) (sym z)) j ∷ []))
-    ∙ sym (updateLast-snoc h (tab f n 0) (f (0 + n)))
-    ∙ ap (updateLast h) (sym (tab-last f n 0))
 
 -- those from n on changed
 pub tab-from : {A : Type 0} (h : A → A) (f g : ℕ → A) (m n p : ℕ) → ((k : ℕ) → k < m → k < n → g (p + k) ≡ f (p + k))

@@ -3,23 +3,17 @@
 use mathlib.Core.Path.{_≡_}
 use mathlib.Core.Bool.{true}
 use mathlib.Core.List.{List}
-use Prim.Native.Nat.{ℕ, _+_, _*_, _≤_, _<_}
+use Prim.Native.Nat.{ℕ, _≤_, _<_}
 use lib.ListN.{length, getD}
-use Rattle.model.specs.Bounds.{inputLimit, termLimit}
+use Rattle.model.specs.Bounds.{inputLimit}
 use Rattle.model.specs.Block.{Block}
 use Rattle.block_tables.specs.declared.Input.{Input}
 use Rattle.block_tables.specs.declared.Tables.{Tables}
-use Rattle.block_tables.specs.View.{no-input, inputRow, blockView, Holds}
+use Rattle.block_tables.specs.View.{no-input, blockView, Holds}
 
 pub record Changes (s : List ℕ) (t r : Tables) (f : Block → Block) : Type 0 where
   pub view : blockView s r ≡ f (blockView s t)
   pub holds : Holds s r
-
--- k is the place of the last term of input i
-pub record LastTerm (t : Tables) (i k : ℕ) : Type 0 where
-  pub input : i < t .«input_count»
-  pub some : 0 < inputRow t i .terms
-  pub last : k + 1 ≡ i * termLimit + inputRow t i .terms
 
 -- the rows from one on up to another are INT, the others as before
 pub record Typed (old : List Input) (from to : ℕ) (new : List Input) : Type 0 where

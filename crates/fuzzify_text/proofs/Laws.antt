@@ -1,48 +1,45 @@
 -- What each part of FUZZIFY comes to, by the tests that the code makes.
 use mathlib.Core.Path.{_≡_, refl, sym, ap, _∙_}
 use mathlib.Core.Bool.{Bool, true, false, not}
-use mathlib.Core.List.{List, [], _∷_, map}
+use mathlib.Core.List.{List, [], _∷_, _++_, map}
 use Prim.Native.Nat.{ℕ, zero, suc, _+_, _*_, _-_, _≤_, _<_}
 use native.Mathlib.Omega.{arith}
 use borrow.Author.Tests.{eq-eqb, ne-eqb, lt-ltb, le-ltb, lt-leb, le-leb}
 use lib.Dec.{ltb}
 use lib.IntN.{ℤ}
-use lib.ListN.{length, getD}
+use lib.ListN.{length, getD, set, length-set}
+use lib.Seq.{slice, getD-set-same, getD-set-other}
 use lib.Signed.{ltZ}
-use Rattle.model.specs.Basic.{if_then_else_, isEmpty, indexOf}
+use Rattle.model.specs.Basic.{if_then_else_, isEmpty, indexOf, update, updateLast}
 use Rattle.model.specs.Block as block
-use Rattle.model.specs.Block.{Block, termsOf, mayFollow}
+use Rattle.model.specs.Block.{Block, termsOf, mayFollow, withInputs, withTerms, withPoint}
 use Rattle.model.specs.Image.{tab}
 use Rattle.model.specs.Keywords.{ASSIGN, CLOSE, COMMA, END-FUZZIFY, TERM, NUMBER}
 use Rattle.model.specs.Tokens.{valueOf, unitOf, sameName}
-use Rattle.model.specs.Parse.{Parse, Part, text, refuse, advance, change, judged, expect, repeated, listed, aName, aCrisp, aUnit, valueHere}
-use Rattle.model.specs.Declarations.{inputOf, isInput, isTerm, addTerm, addPoint, pointsOf, pointPosition, pointDegree, pointBody, point, endOfPoints, termName, inputTerm, fuzzifyOf, fuzzifyVariable}
+use Rattle.model.specs.Parse.{Parse, Part, kind, text, refuse, advance, change, judged, expect, repeatOn, repeated, listed, aName, aCrisp, aUnit, valueHere}
+use Rattle.model.specs.Declarations.{inputOf, isInput, isTerm, addTerm, addPoint, lastPoints, pointsOf, pointPosition, pointDegree, pointBody, point, endOfPoints, termName, inputTerm, fuzzifyOf, fuzzifyVariable}
+use Rattle.laws.proofs.Again.{Again, again-more, again-end, repeats}
+use Rattle.laws.proofs.Lists.{updateLast-snoc, last-points}
 use Rattle.laws.proofs.Places.{length-tab}
+use Rattle.laws.proofs.Repetition.{turn, no-turn}
 use Rattle.lookup.specs.Names.{nameOf}
 use Rattle.cursor.specs.declared.Cursor.{Cursor}
-use Rattle.cursor.specs.View.{seen, textOf, Fits, Step, fault}
+use Rattle.cursor.specs.View.{seen, textOf, Fits, left, Step, fault}
 use Rattle.cursor.proofs.Laws as cursor
-use Rattle.cursor.proofs.Laws.{kind-seen, text-seen, judged-bad, judged-good, numbered}
+use Rattle.cursor.proofs.Laws.{kind-seen, text-seen, block-seen, judged-bad, judged-good, numbered}
+use Rattle.block_tables.specs.declared.Point.{Point}
 use Rattle.block_tables.specs.declared.Tables.{Tables}
-use Rattle.block_tables.specs.View.{no-point, inputRow, pointView, termView, blockView, Holds}
-use Rattle.block_updates.specs.Changes.{Changes, LastTerm}
+use Rattle.block_tables.specs.View.{no-point, inputRow, termView, blockView, Holds}
+use Rattle.block_updates.specs.Changes.{Changes}
+use Rattle.block_updates.proofs.Tabs.{tab-more}
 use Rattle.block_updates.proofs.Lookups as lookups
 use Rattle.parse_state.specs.declared.ParseState.{ParseState}
-use Rattle.parse_state.specs.Reads.{view, Reads}
+use Rattle.parse_state.specs.Reads.{view, Good, Reads}
 use Rattle.parse_state.proofs.Laws as reading
 use Rattle.parse_state.proofs.Laws.{at, kind-view, text-view, block-view}
-use Rattle.fuzzify_text.specs.Terms.{Open, lastPlace, rises, Ends, positionAfter, endAfter}
-
--- THE LAST TERM
-module _ (t : Tables) (i : ℕ) where
-  pub last-of : Open t i → LastTerm t i (lastPlace t i)
-  last-of o = record { input = o .input; some = o .some; last = let z = o .some in omega arith }
-
-  pub still : (k : ℕ) → LastTerm t i k → Open t i
-  still k l = record { input = l .input; some = l .some }
-
-  pub small : (s : List ℕ) → Holds s t → Open t i → lastPlace t i < 56
-  small s g o = let a = o .input in let b = g .inputCount in let d = g .inputTerms i in let e = o .some in omega arith
+use Rattle.fuzzify_text.specs.declared.Shape.{Shape}
+use Rattle.fuzzify_text.specs.declared.TermName.{TermName}
+use Rattle.fuzzify_text.specs.Terms.{pointAt, withTerm, rises, positionAfter, endAfter, pointsRead, noPoints, Place, blockWith, viewAt, Room, Reads as ReadsShape, Ends, termFrom, Terms, Names}
 
 -- A POSITION, THE END OF THE POINTS
 module _ (s : List ℕ) (c d : Cursor) where
@@ -82,176 +79,357 @@ module _ (s : List ℕ) (c d : Cursor) where
     unfolding endAfter judged
     end-good h l q = restep q (λ b m. sym (simp (kind-seen, eq-eqb _ _ h, le-leb _ _ l)))
 
+-- ONE TERM MORE IN A BLOCK
+update-twice : {A : Type 0} (f g : A → A) (i : ℕ) (xs : List A) → update f i (update g i xs) ≡ update (λ v. f (g v)) i xs
+unfolding update
+update-twice f g i [] = refl
+update-twice f g zero (x ∷ xs) = refl
+update-twice {A} f g (suc i) (x ∷ xs) = ap (λ (l : List A). x ∷ l) (update-twice f g i xs)
+
+terms-changed : (h : List block.Term → List block.Term) (i : ℕ) (vs : List block.Input) → i < length vs
+    → getD (map (λ v. v .terms) (update (withTerms h) i vs)) i [] ≡ h (getD (map (λ v. v .terms) vs) i [])
+unfolding update
+terms-changed h i [] q = absurd (omega arith)
+terms-changed h zero (v ∷ vs) q = refl
+terms-changed h (suc i) (v ∷ vs) q = terms-changed h i vs (omega arith)
+
+module _ (i : ℕ) (x : block.Term) (b : Block) where
+  last-in : i < length (b .inputs) → pointsOf i (withTerm i x b) ≡ x .points
+  unfolding pointsOf termsOf withTerm
+  last-in h = ap lastPoints (terms-changed (λ ts. ts ++ (x ∷ [])) i (b .inputs) h) ∙ last-points (termsOf i b) x
+
+  point-in : (q : block.Point) → addPoint i q (withTerm i x b) ≡ withTerm i (withPoint q x) b
+  unfolding addPoint withTerm
+  point-in q =
+      let e = update-twice (withTerms (updateLast (withPoint q))) (withTerms (λ ts. ts ++ (x ∷ []))) i (b .inputs)
+      ∙ (λ j. update (λ v. record { name = v .name; type = v .type; terms = updateLast-snoc (withPoint q) (v .terms) x j }) i (b .inputs)) in
+      ap (λ (vs : List block.Input). withInputs (λ us. vs) b) e
+
 -- THE POINTS SO FAR
 may-tab : (f : ℕ → block.Point) (m p : ℕ) (x : ℤ) → mayFollow (map (λ q. q .at) (tab f (suc m) p)) x ≡ ltZ (f (p + m) .at) x
 unfolding mayFollow tab
 may-tab f zero p x = ap (λ (k : ℕ). ltZ (f k .at) x) (omega arith)
 may-tab f (suc m) p x = may-tab f m (suc p) x ∙ ap (λ (k : ℕ). ltZ (f k .at) x) (omega arith)
 
-module _ (s : List ℕ) (t : Tables) (i : ℕ) (o : Open t i) where
-  points-are : pointsOf i (blockView s t) ≡ tab (pointView t) (getD (t .counts) (lastPlace t i) 0) (lastPlace t i * 4)
-  unfolding blockView
-  points-are = lookups.points-of s t (blockView s t) refl i (lastPlace t i) (last-of t i o)
-
-  points-count : length (pointsOf i (blockView s t)) ≡ getD (t .counts) (lastPlace t i) 0
-  points-count = ap length points-are ∙ length-tab (pointView t) _ _
-
-  pub ends-none : (n : ℕ) (last : ℤ) → n ≡ getD (t .counts) (lastPlace t i) 0 → n ≡ 0 → Ends (blockView s t) i n last
-  unfolding rises tab mayFollow
-  ends-none n last e z = record {
-    may = λ x. ap (λ (ps : List block.Point). mayFollow (map (λ p. p .at) ps) x)
-        (points-are ∙ ap (λ (k : ℕ). tab (pointView t) k (lastPlace t i * 4)) (sym e ∙ z)) ∙ sym (simp (eq-eqb _ _ z));
+module _ (p : Shape) where
+  pub ends-none : (last : ℤ) → p .count ≡ 0 → Ends p last
+  unfolding rises tab mayFollow pointsRead
+  ends-none last z = record {
+    may = λ x. ap (λ (k : ℕ). mayFollow (map (λ q. q .at) (tab (pointAt (p .points)) k 0)) x) z ∙ sym (simp (eq-eqb _ _ z));
   }
 
-  pub ends-some : (n : ℕ) → n ≡ getD (t .counts) (lastPlace t i) 0 → (n ≡ 0 → ⊥)
-      → Ends (blockView s t) i n (getD (t .points) (lastPlace t i * 4 + n - 1) no-point .at .0)
-  unfolding rises pointView
-  ends-some n e z = record {
+  pub ends-some : (p .count ≡ 0 → ⊥) → Ends p (getD (p .points) (p .count - 1) no-point .at .0)
+  unfolding rises pointsRead pointAt
+  ends-some z = record {
     may = λ x.
-        let q : n ≡ suc (n - 1) = omega arith in
-        let l : lastPlace t i * 4 + (n - 1) ≡ lastPlace t i * 4 + n - 1 = omega arith in
-        ap (λ (ps : List block.Point). mayFollow (map (λ p. p .at) ps) x) (points-are ∙ ap (λ (k : ℕ). tab (pointView t) k (lastPlace t i * 4)) (sym e ∙ q))
-        ∙ may-tab (pointView t) (n - 1) (lastPlace t i * 4) x
-        ∙ ap (λ (k : ℕ). ltZ (getD (t .points) k no-point .at .0) x) l
+        let q : p .count ≡ suc (p .count - 1) = omega arith in
+        let l : 0 + (p .count - 1) ≡ p .count - 1 = omega arith in
+        ap (λ (k : ℕ). mayFollow (map (λ q. q .at) (tab (pointAt (p .points)) k 0)) x) q
+        ∙ may-tab (pointAt (p .points)) (p .count - 1) 0 x
+        ∙ ap (λ (k : ℕ). ltZ (getD (p .points) k no-point .at .0) x) l
         ∙ sym (simp (ne-eqb _ _ z));
   }
 
+  points-count : length (pointsRead p) ≡ p .count
+  unfolding pointsRead
+  points-count = length-tab (pointAt (p .points)) (p .count) 0
+
+  -- one more
+  abbrev pub longer : Cursor → Point → Shape
+  longer d q = record { cursor = d; count = p .count + 1; points = set (p .points) (p .count) q }
+
+  read-more : (d : Cursor) (q : Point) → p .count < length (p .points)
+      → pointsRead (longer d q) ≡ pointsRead p ++ (record { at = q .at .0; degree = q .degree .0 } ∷ [])
+  unfolding pointsRead pointAt
+  read-more d q h =
+      let n = p .count in
+      tab-more (pointAt (p .points)) (pointAt (set (p .points) n q)) n (record { at = q .at .0; degree = q .degree .0 })
+      (λ k l. let e = getD-set-other (p .points) n k q no-point (λ z. omega arith) in λ j. record { at = e j .at .0; degree = e j .degree .0 })
+      (let e = getD-set-same (p .points) n q no-point h in λ j. record { at = e j .at .0; degree = e j .degree .0 })
+
+module _ (s : List ℕ) (x : Place) (p : Shape) where
+  kind-at : kind (viewAt s x p) ≡ p .cursor .kind
+  unfolding viewAt
+  kind-at = kind-seen s (p .cursor) (blockWith x (pointsRead p)) 0
+
+  text-at : text (viewAt s x p) ≡ textOf s (p .cursor)
+  unfolding viewAt
+  text-at = text-seen s (p .cursor) (blockWith x (pointsRead p)) 0
+
+  points-at : pointsOf (x .input) (viewAt s x p .block) ≡ pointsRead p
+  unfolding viewAt
+  points-at =
+      ap (pointsOf (x .input)) (block-seen s (p .cursor) (blockWith x (pointsRead p)) 0)
+      ∙ last-in (x .input) (record { name = x .name; points = pointsRead p }) (x .block) (x .known)
+
+  count-at : length (pointsOf (x .input) (viewAt s x p .block)) ≡ p .count
+  count-at = ap length points-at ∙ points-count p
+
+-- one part after the other, a step of the cursor, the same part by another name
+abbrev pub moved : Cursor → Shape → Shape
+moved c p = record { cursor = c; count = p .count; points = p .points }
+
+pub step : {part : Part} {s : List ℕ} {c d : Cursor} (p : Shape) → p .count ≤ 4 → length (p .points) ≡ 4 → Step part s c d
+    → ReadsShape (λ i. part) s (moved c p) (moved d p)
+unfolding viewAt pointsRead
+step p f l q = record { reads = λ x. q .reads (blockWith x (pointsRead p)) 0; fewer = q .fewer; room = record { fits = q .fits; few = f; size = l } }
+
+pub next : {f g : ℕ → Part} {s : List ℕ} {a b c : Shape} → ReadsShape f s a b → ReadsShape g s b c → ReadsShape (λ i r. g i (f i r)) s a c
+next {f} {g} p q = record {
+  reads = λ x. q .reads x ∙ ap (g (x .input)) (p .reads x);
+  fewer = let u = p .fewer in let v = q .fewer in omega arith;
+  room = q .room;
+}
+
+pub also : {f g : ℕ → Part} {s : List ℕ} {a b : Shape} → ReadsShape f s a b
+    → ((x : Place) → f (x .input) (viewAt s x a) ≡ g (x .input) (viewAt s x a)) → ReadsShape g s a b
+also p e = record { reads = λ x. p .reads x ∙ e x; fewer = p .fewer; room = p .room }
+
 -- A POINT
-module _ (s : List ℕ) (c : Cursor) (t : Tables) (d : Cursor) (i : ℕ) where
+module _ (s : List ℕ) (p : Shape) (g : Room s p) (d : Cursor) where
   module _ (x : ℤ) where
-    pub degree-bad : (w : ℕ) → w ≡ fault (aUnit (seen s c (blockView s t) 0)) → Holds s t → (w ≡ 0 → ⊥) → Step (refuse w) s c d
-        → Reads (pointDegree i x) s (at c t) (at d t)
-    unfolding pointDegree view
-    degree-bad w f g h q = reading.refuses (aUnit (view s (at c t))) _ refl w (sym f) h g q
+    pub degree-bad : (w : ℕ) → ((b : Block) (m : ℕ) → w ≡ fault (aUnit (seen s (p .cursor) b m))) → (w ≡ 0 → ⊥) → Step (refuse w) s (p .cursor) d
+        → ReadsShape (λ i. pointDegree i x) s p (moved d p)
+    unfolding pointDegree viewAt
+    degree-bad w f h q = also (step p (g .few) (g .size) q) (λ y. sym (judged-bad (viewAt s y p) _ w (aUnit (viewAt s y p)) [] (sym (f _ 0)) h))
 
-    pub degree-good : (u : Tables) (y : ℕ) → 0 ≡ fault (aUnit (seen s c (blockView s t) 0)) → y ≡ unitOf (textOf s c) → Fits s c → (c .kind ≡ 0 → ⊥)
-        → Changes s t u (addPoint i (record { at = x; degree = y })) → Step advance s c d → Reads (pointDegree i x) s (at c t) (at d u)
-    unfolding pointDegree view numbered
-    degree-good u y f e g k z q =
-        reading.passes (aUnit (view s (at c t))) _ refl refl (sym f)
-        (reading.next (reading.changes s c t u _ g k z) (reading.step u (z .holds) q))
-        (ap (λ (v : ℕ). advance (change (addPoint i (record { at = x; degree = v })) (view s (at c t)))) (e ∙ sym (ap unitOf (text-view s (at c t)))))
+  pub degree-good : (x : Point) → ((b : Block) (m : ℕ) → 0 ≡ fault (aUnit (seen s (p .cursor) b m))) → x .degree .0 ≡ unitOf (textOf s (p .cursor))
+      → p .count < 4 → (p .cursor .kind ≡ 0 → ⊥) → Step advance s (p .cursor) d → ReadsShape (λ i. pointDegree i (x .at .0)) s p (longer p d x)
+  unfolding pointDegree viewAt numbered judged
+  degree-good x f e l k q = record {
+    reads = λ y.
+        let c = p .cursor in
+        let b = blockWith y (pointsRead p) in
+        let add : ℕ → Block → Block = λ v. addPoint (y .input) (record { at = x .at .0; degree = v }) in
+        let w = point-in (y .input) (record { name = y .name; points = pointsRead p }) (y .block) (record { at = x .at .0; degree = x .degree .0 }) in
+        q .reads (blockWith y (pointsRead (longer p d x))) 0
+        ∙ ap (λ (a : Block). advance (seen s c a 0)) (ap (blockWith y) (read-more p d x (omega (arith, g .size))) ∙ sym w)
+        ∙ ap advance (sym (cursor.changed s c b 0 (add (x .degree .0)) (g .fits .halted k)))
+        ∙ ap (λ (v : ℕ). advance (change (add v) (seen s c b 0))) (e ∙ ap unitOf (sym (text-seen s c b 0)))
+        ∙ sym (judged-good (seen s c b 0) _ (aUnit (seen s c b 0)) [] refl (sym (f b 0)));
+    fewer = q .fewer;
+    room = record { fits = q .fits; few = omega arith; size = simp length-set (g .size) };
+  }
 
-  pub point-none : Holds s t → (c .kind ≡ 40 → ⊥) → Step (refuse 2) s c d → Reads (point i) s (at c t) (at d t)
+  pub point-none : (p .cursor .kind ≡ 40 → ⊥) → Step (refuse 2) s (p .cursor) d → ReadsShape point s p (moved d p)
   unfolding point judged
-  point-none g h q = reading.also (reading.step t g q) (sym (simp (kind-view, ne-eqb _ _ h)))
+  point-none h q = also (step p (g .few) (g .size) q) (λ x. sym (simp (kind-at, ne-eqb _ _ h)))
 
-  module _ (h : c .kind ≡ 40) (o : Open t i) where
-    point-then : point i (view s (at c t)) ≡ (if ltb (getD (t .counts) (lastPlace t i) 0) 4 then pointBody i (advance (view s (at c t))) else refuse 6
-        (view s (at c t)))
+  module _ (h : p .cursor .kind ≡ 40) where
+    point-then : (x : Place) → point (x .input) (viewAt s x p)
+        ≡ (if ltb (p .count) 4 then pointBody (x .input) (advance (viewAt s x p)) else refuse 6 (viewAt s x p))
     unfolding point judged
-    point-then = simp (kind-view, eq-eqb _ _ h, block-view, points-count s t i o)
+    point-then x = simp (kind-at, eq-eqb _ _ h, count-at)
 
-    pub point-full : Holds s t → 4 ≤ getD (t .counts) (lastPlace t i) 0 → Step (refuse 6) s c d → Reads (point i) s (at c t) (at d t)
-    point-full g l q = reading.also (reading.step t g q) (sym (point-then ∙ simp (le-ltb _ _ l)))
+    pub point-full : 4 ≤ p .count → Step (refuse 6) s (p .cursor) d → ReadsShape point s p (moved d p)
+    point-full l q = also (step p (g .few) (g .size) q) (λ x. sym (point-then x ∙ simp (le-ltb _ _ l)))
 
-    pub point-good : (r : ParseState) → Holds s t → getD (t .counts) (lastPlace t i) 0 < 4 → Step advance s c d → Reads (pointBody i) s (at d t) r
-        → Reads (point i) s (at c t) r
-    point-good r g l q z = reading.also (reading.next (reading.step t g q) z) (sym (point-then ∙ simp (lt-ltb _ _ l)))
+    pub point-good : (r : Shape) → p .count < 4 → Step advance s (p .cursor) d → ReadsShape pointBody s (moved d p) r → ReadsShape point s p r
+    point-good r l q z = also (next (step p (g .few) (g .size) q) z) (λ x. sym (point-then x ∙ simp (lt-ltb _ _ l)))
 
-module _ (s : List ℕ) (c : Cursor) (t : Tables) (i n : ℕ) (last : ℤ) (z : Ends (blockView s t) i n last) where
-  position-is : pointPosition i (view s (at c t)) ≡ positionAfter n last (view s (at c t))
+module _ (s : List ℕ) (p : Shape) (g : Room s p) (last : ℤ) (z : Ends p last) where
+  position-is : (x : Place) → pointPosition (x .input) (viewAt s x p) ≡ positionAfter (p .count) last (viewAt s x p)
   unfolding pointPosition positionAfter
-  position-is =
-      ap (λ (b : Bool). judged (aCrisp (view s (at c t)) ((b, 7) ∷ [])) (view s (at c t)) (advance (view s (at c t))))
-      (ap (λ (b : Block). mayFollow (map (λ p. p .at) (pointsOf i b)) (valueHere (view s (at c t)))) (block-view s (at c t)) ∙ z .may _)
+  position-is x =
+      ap (λ (b : Bool). judged (aCrisp (viewAt s x p) ((b, 7) ∷ [])) (viewAt s x p) (advance (viewAt s x p)))
+      (ap (λ (ps : List block.Point). mayFollow (map (λ q. q .at) ps) (valueHere (viewAt s x p))) (points-at s x p) ∙ z .may _)
 
-  lost-from : (d : Cursor) → Fits s d → (d .why ≡ 0 → ⊥) → (x : ℤ) → view s (at d t) ≡ expect CLOSE (pointDegree i x (expect COMMA (view s (at d t))))
-  unfolding pointDegree view
-  lost-from d g h x =
-      let l = cursor.lost-expect s d g h (blockView s t) 0 in
-      sym (ap (λ (r : Parse). expect CLOSE (pointDegree i x r)) (l COMMA (λ q. omega arith))
-      ∙ ap (expect CLOSE) (cursor.lost-judged s d g h (blockView s t) 0 NUMBER _ _ (λ q. omega arith))
+  lost-from : (d : Cursor) → Fits s d → (d .why ≡ 0 → ⊥) → (v : ℤ) (x : Place)
+      → viewAt s x (moved d p) ≡ expect CLOSE (pointDegree (x .input) v (expect COMMA (viewAt s x (moved d p))))
+  unfolding pointDegree viewAt
+  lost-from d f h v x =
+      let b = blockWith x (pointsRead (moved d p)) in
+      let l = cursor.lost-expect s d f h b 0 in
+      sym (ap (λ (r : Parse). expect CLOSE (pointDegree (x .input) v r)) (l COMMA (λ q. omega arith))
+      ∙ ap (expect CLOSE) (cursor.lost-judged s d f h b 0 NUMBER _ _ (λ q. omega arith))
       ∙ l CLOSE (λ q. omega arith))
 
-  pub from-lost : (d : Cursor) → Holds s t → Step (positionAfter n last) s c d → (d .why ≡ 0 → ⊥) → Reads (pointBody i) s (at c t) (at d t)
+  pub from-lost : (d : Cursor) → Step (positionAfter (p .count) last) s (p .cursor) d → (d .why ≡ 0 → ⊥) → ReadsShape pointBody s p (moved d p)
   unfolding pointBody
-  from-lost d g q h =
-      let p = reading.step t g q in
-      reading.also p
-      (sym (p .reads) ∙ lost-from d (q .fits) h _ ∙ ap (λ (r : Parse). expect CLOSE (pointDegree i (valueHere (view s (at c t))) (expect COMMA r)))
-      (p .reads ∙ sym position-is))
+  from-lost d q h =
+      let y = step p (g .few) (g .size) q in
+      also y (λ x. sym (y .reads x) ∙ lost-from d (q .fits) h _ x
+      ∙ ap (λ (r : Parse). expect CLOSE (pointDegree (x .input) (valueHere (viewAt s x p)) (expect COMMA r))) (y .reads x ∙ sym (position-is x)))
 
-  pub from-good : (d e : Cursor) (r : ParseState) (f : Cursor) (x : ℤ) → Holds s t → x ≡ valueOf (textOf s c)
-      → Step (positionAfter n last) s c d → Step (expect COMMA) s d e → Reads (pointDegree i x) s (at e t) r → Step (expect CLOSE) s (r .cursor) f
-      → Reads (pointBody i) s (at c t) (at f (r .tables))
+  pub from-good : (d e : Cursor) (r : Shape) (f : Cursor) (v : ℤ) → v ≡ valueOf (textOf s (p .cursor))
+      → Step (positionAfter (p .count) last) s (p .cursor) d → Step (expect COMMA) s d e → ReadsShape (λ i. pointDegree i v) s (moved e p) r
+      → Step (expect CLOSE) s (r .cursor) f
+      → ReadsShape pointBody s p (moved f r)
   unfolding pointBody
-  from-good d e r f x g v q k y l =
-      reading.also (reading.next (reading.next (reading.next (reading.step t g q) (reading.step t g k)) y) (reading.step (r .tables) (y .good .holds) l))
-      (ap (λ (a : Parse). expect CLOSE (pointDegree i x (expect COMMA a))) (sym position-is)
-      ∙ ap (λ (a : ℤ). expect CLOSE (pointDegree i a (expect COMMA (pointPosition i (view s (at c t)))))) (v ∙ sym (ap valueOf (text-view s (at c t)))))
+  from-good d e r f v o q k y l =
+      also (next (next (next (step p (g .few) (g .size) q) (step p (g .few) (g .size) k)) y) (step r (y .room .few) (y .room .size) l))
+      (λ x. ap (λ (a : Parse). expect CLOSE (pointDegree (x .input) v (expect COMMA a))) (sym (position-is x))
+      ∙ ap (λ (a : ℤ). expect CLOSE (pointDegree (x .input) a (expect COMMA (pointPosition (x .input) (viewAt s x p)))))
+      (o ∙ sym (ap valueOf (text-at s x p))))
+
+-- POINTS, one after each comma
+abbrev again : ℕ → Part
+again i r = point i (expect COMMA r)
+
+abbrev pub Going : List ℕ → Shape → Shape → Type 0
+Going s q₀ q = (left s (q .cursor) ≤ left s (q₀ .cursor)) × Room s q
+    × ((x : Place) → Again (repeats COMMA (again (x .input))) (left s (q .cursor)) (viewAt s x q) (repeated COMMA (again (x .input)) (viewAt s x q₀)))
+
+module _ (s : List ℕ) where
+  pub begins : (q : Shape) → Room s q → Going s q q
+  unfolding repeated viewAt
+  begins q g = (omega arith, g, λ x. (suc (length (viewAt s x q .rest)), cursor.enough s (q .cursor) (blockWith x (pointsRead q)) 0, refl))
+
+  expect-comma : (q : Shape) → q .cursor .kind ≡ COMMA → (x : Place) → expect COMMA (viewAt s x q) ≡ advance (viewAt s x q)
+  unfolding expect
+  expect-comma q h x = simp (kind-at, eq-eqb _ _ h)
+
+  pub goes : (q₀ q r : Shape) (d : Cursor) → Going s q₀ q → q .cursor .kind ≡ COMMA → Step advance s (q .cursor) d → left s d < left s (q .cursor)
+      → ReadsShape point s (moved d q) r → Going s q₀ r
+  goes q₀ q r d g h a m y =
+      let f = y .fewer in
+      let z = step q (g .1 .few) (g .1 .size) a in
+      let one : (x : Place) (n : ℕ) → repeatOn (suc n) COMMA (again (x .input)) (viewAt s x q) ≡ repeatOn n COMMA (again (x .input)) (viewAt s x r) =
+      λ x n. turn COMMA (again (x .input)) n (viewAt s x q) (eq-eqb _ _ (kind-at s x q ∙ h))
+      ∙ ap (repeatOn n COMMA (again (x .input)))
+      (ap (point (x .input)) (expect-comma q h x ∙ sym (z .reads x)) ∙ sym (y .reads x)) in
+      (omega arith, y .room, λ x. again-more (repeats COMMA (again (x .input))) (one x) (omega arith) (g .2 x))
+
+  pub leaves : (p q₀ q : Shape) → ReadsShape point s p q₀ → Going s q₀ q → (q .cursor .kind ≡ COMMA → ⊥) → ReadsShape (λ i. listed (point i)) s p q
+  unfolding listed
+  leaves p q₀ q y g h = record {
+    reads = λ x.
+        again-end (repeats COMMA (again (x .input)))
+        (λ n. no-turn COMMA (again (x .input)) n (viewAt s x q) (ne-eqb _ _ (λ z. h (sym (kind-at s x q) ∙ z)))) (g .2 x)
+        ∙ ap (repeated COMMA (again (x .input))) (y .reads x);
+    fewer = let f = y .fewer in omega (arith, g .0);
+    room = g .1;
+  }
 
 -- A TERM
-pub points-end : (s : List ℕ) (p : ParseState) (i : ℕ) → Open (p .tables) i
-    → endAfter (getD (p .tables .counts) (lastPlace (p .tables) i) 0) (view s p) ≡ endOfPoints i (view s p)
+pub points-end : (s : List ℕ) (p : Shape) (x : Place) → endAfter (p .count) (viewAt s x p) ≡ endOfPoints (x .input) (viewAt s x p)
 unfolding endAfter endOfPoints
-points-end s p i o = simp (block-view, points-count s (p .tables) i o)
+points-end s p x = simp count-at
 
-module _ (s : List ℕ) (c : Cursor) (t : Tables) (d : Cursor) (i : ℕ) where
-  pub name-bad : (w : ℕ) → w ≡ fault (aName (seen s c (blockView s t) 0) []) → Holds s t → (w ≡ 0 → ⊥) → Step (refuse w) s c d
-      → Reads (termName i) s (at c t) (at d t)
-  unfolding termName view
-  name-bad w f g h q = reading.also (reading.step t g q) (sym (judged-bad (view s (at c t)) _ w (aName (view s (at c t)) []) _ (sym f) h))
+-- refused at its name
+pub term-lost : (s : List ℕ) (i : ℕ) (b : Block) (c d e : Cursor) → inputTerm i (seen s c b 0) ≡ termFrom i (termName i (seen s d b 0))
+    → seen s e b 0 ≡ termName i (seen s d b 0) → Fits s e → (e .why ≡ 0 → ⊥) → seen s e b 0 ≡ inputTerm i (seen s c b 0)
+unfolding endOfPoints listed point
+term-lost s i b c d e p q f w =
+    sym (p ∙ ap (termFrom i) (sym q)
+    ∙ ap (λ (r : Parse). endOfPoints i (listed (point i) r)) (cursor.lost-expect s e f w b 0 ASSIGN (λ x. omega arith))
+    ∙ ap (λ (r : Parse). endOfPoints i (repeated COMMA (λ y. point i (expect COMMA y)) r))
+    (cursor.lost-judged s e f w b 0 40 _ _ (λ x. omega arith))
+    ∙ ap (endOfPoints i) (cursor.lost-repeated s e f w b 0 COMMA _ (λ x. omega arith))
+    ∙ cursor.lost-judged s e f w b 0 59 _ _ (λ x. omega arith))
 
-  module _ (f : 0 ≡ fault (aName (seen s c (blockView s t) 0) [])) (l : i < t .«input_count») (j : ℕ)
-      (e : j ≡ indexOf (sameName (textOf s c)) (tab (nameOf s (t .names)) (inputRow t i .terms) (14 + i * 7))) where
-    found : isTerm i (text (view s (at c t))) (view s (at c t) .block) ≡ ltb j (inputRow t i .terms)
-    unfolding blockView
-    found =
-        simp (text-view, block-view, lookups.terms-count s t (blockView s t) refl i l, lookups.term-of s t (blockView s t) refl (textOf s c) i l)
-        (ap (λ (k : ℕ). ltb k (inputRow t i .terms)) (sym e))
+module _ (s names : List ℕ) (i n : ℕ) (b : Block) (t : Terms s names i n b) (c d : Cursor) where
+  pub term-full : c .kind ≡ 163 → 7 ≤ n → Step (refuse 6) s c d → seen s d b 0 ≡ inputTerm i (seen s c b 0)
+  unfolding inputTerm judged
+  term-full h k q = q .reads b 0 ∙ sym (simp (kind-seen, eq-eqb _ _ h, block-seen, t .count, le-ltb _ _ k))
 
-    name-then : termName i (view s (at c t)) ≡ (if not (ltb j (inputRow t i .terms)) then advance (change (addTerm i (textOf s c)) (view s (at c t)))
-        else refuse 4 (view s (at c t)))
-    unfolding termName judged numbered view
+  pub term-then : c .kind ≡ 163 → n < 7 → Step advance s c d → inputTerm i (seen s c b 0) ≡ termFrom i (termName i (seen s d b 0))
+  unfolding inputTerm judged
+  term-then h k q =
+      simp (kind-seen, eq-eqb _ _ h, block-seen, t .count, lt-ltb _ _ k) (ap (λ (r : Parse). termFrom i (termName i r)) (sym (q .reads b 0)))
+
+  pub name-bad : (w : ℕ) → w ≡ fault (aName (seen s c b 0) []) → (w ≡ 0 → ⊥) → Step (refuse w) s c d → seen s d b 0 ≡ termName i (seen s c b 0)
+  unfolding termName
+  name-bad w f h q = q .reads b 0 ∙ sym (judged-bad (seen s c b 0) _ w (aName (seen s c b 0) []) _ (sym f) h)
+
+  module _ (f : 0 ≡ fault (aName (seen s c b 0) [])) (j : ℕ) (e : j ≡ indexOf (sameName (textOf s c)) (tab (nameOf s names) n (14 + i * 7))) where
+    found : isTerm i (text (seen s c b 0)) (seen s c b 0 .block) ≡ ltb j n
+    found = simp (text-seen, block-seen, t .count, t .found) (ap (λ (k : ℕ). ltb k n) (sym e))
+
+    name-then : termName i (seen s c b 0)
+        ≡ (if not (ltb j n) then advance (change (addTerm i (textOf s c)) (seen s c b 0)) else refuse 4 (seen s c b 0))
+    unfolding termName judged numbered
     name-then =
-        let r = view s (at c t) in
+        let r = seen s c b 0 in
         judged-good r (advance (change (addTerm i (text r)) r)) (aName r []) ((not (isTerm i (text r) (r .block)), 4) ∷ []) refl (sym f)
         ∙ ap (λ (x : Bool). if not x then advance (change (addTerm i (text r)) r) else refuse 4 r) found
-        ∙ ap (λ (w : List ℕ). if not (ltb j (inputRow t i .terms)) then advance (change (addTerm i w) r) else refuse 4 r) (text-view s (at c t))
+        ∙ ap (λ (w : List ℕ). if not (ltb j n) then advance (change (addTerm i w) r) else refuse 4 r) (text-seen s c b 0)
 
-    pub name-taken : Holds s t → j < inputRow t i .terms → Step (refuse 4) s c d → Reads (termName i) s (at c t) (at d t)
-    name-taken g h q = reading.also (reading.step t g q) (sym (name-then ∙ simp (lt-ltb _ _ h)))
+    pub name-taken : j < n → Step (refuse 4) s c d → seen s d b 0 ≡ termName i (seen s c b 0)
+    name-taken h q = q .reads b 0 ∙ sym (name-then ∙ simp (lt-ltb _ _ h))
 
-    pub name-good : (u : Tables) → inputRow t i .terms ≤ j → Fits s c → (c .kind ≡ 0 → ⊥) → Changes s t u (addTerm i (textOf s c))
-        → Step advance s c d → Reads (termName i) s (at c t) (at d u)
-    name-good u h g k z q =
-        reading.also (reading.next (reading.changes s c t u _ g k z) (reading.step u (z .holds) q)) (sym (name-then ∙ simp (le-ltb _ _ h)))
+    pub name-good : n ≤ j → c .why ≡ 0 → Step advance s c d
+        → seen s d (withTerm i (record { name = textOf s c; points = [] }) b) 0 ≡ termName i (seen s c b 0)
+    unfolding addTerm withTerm
+    name-good h k q =
+        q .reads _ 0 ∙ ap advance (sym (cursor.changed s c b 0 (addTerm i (textOf s c)) k)) ∙ sym (name-then ∙ simp (le-ltb _ _ h))
 
-  pub term-none : Holds s t → (c .kind ≡ 163 → ⊥) → Step (refuse 2) s c d → Reads (inputTerm i) s (at c t) (at d t)
-  unfolding inputTerm judged
-  term-none g h q = reading.also (reading.step t g q) (sym (simp (kind-view, ne-eqb _ _ h)))
+-- TERMS, into the tables
+module _ (s : List ℕ) (t : Tables) (i : ℕ) where
+  pub terms-known : i < t .«input_count» → Terms s (t .names) i (inputRow t i .terms) (blockView s t)
+  unfolding blockView
+  terms-known h = record {
+    input = let z = lookups.inputs-count s t (blockView s t) refl in omega arith;
+    count = lookups.terms-count s t (blockView s t) refl i h;
+    found = λ w. lookups.term-of s t (blockView s t) refl w i h;
+  }
 
-  -- from its name on
-  abbrev pub termFrom : Part
-  termFrom r = endOfPoints i (listed (point i) (expect ASSIGN r))
+  module _ (c : Cursor) (a : TermName) (k : Names s i (blockView s t) c a) where
+    pub turn-lost : Holds s t → Fits s (a .cursor) → left s (a .cursor) < left s c → (a .cursor .why ≡ 0 → ⊥)
+        → Reads (inputTerm i) s (at c t) (at (a .cursor) t)
+    unfolding view
+    turn-lost h f m w = record { reads = k .lost w; fewer = omega arith; good = record { fits = f; holds = h } }
 
-  module _ (h : c .kind ≡ 163) (l : i < t .«input_count») where
-    term-then : inputTerm i (view s (at c t)) ≡ (if ltb (inputRow t i .terms) 7 then termFrom (termName i (advance (view s (at c t)))) else refuse 6
-        (view s (at c t)))
-    unfolding inputTerm judged blockView
-    term-then = simp (kind-view, eq-eqb _ _ h, block-view, lookups.terms-count s t (blockView s t) refl i l)
+    pub turn-good : (q : Shape) (u : Tables) → i < t .«input_count» → a .cursor .why ≡ 0 → left s (a .cursor) < left s c
+        → ReadsShape termFrom s (noPoints (a .cursor)) q
+        → Changes s t u (withTerm i (record { name = slice (a .start) (a .end) s; points = tab (pointAt (q .points)) (q .count) 0 }))
+        → Reads (inputTerm i) s (at c t) (at (q .cursor) u)
+    unfolding view viewAt pointsRead tab
+    turn-good q u h w m y z =
+        let x : Place = record { input = i; name = slice (a .start) (a .end) s; block = blockView s t; known = terms-known h .input } in
+        record {
+          reads = ap (λ (b : Block). seen s (q .cursor) b 0) (z .view) ∙ y .reads x ∙ sym (k .named w);
+          fewer = let f = y .fewer in omega arith;
+          good = record { fits = y .room .fits; holds = z .holds };
+        }
 
-    pub term-full : Holds s t → 7 ≤ inputRow t i .terms → Step (refuse 6) s c d → Reads (inputTerm i) s (at c t) (at d t)
-    term-full g k q = reading.also (reading.step t g q) (sym (term-then ∙ simp (le-ltb _ _ k)))
+-- TERM again and again: the terms are read up to p, and what the next one comes to leads on
+module _ (i : ℕ) (s : List ℕ) where
+  abbrev all : Parse → Parse
+  all r = repeated TERM (inputTerm i) (inputTerm i r)
 
-    module _ (g : Holds s t) (k : inputRow t i .terms < 7) (q : Step advance s c d) (p : ParseState) (z : Reads (termName i) s (at d t) p) where
-      pub term-good : (r : ParseState) → Reads termFrom s p r → Reads (inputTerm i) s (at c t) r
-      term-good r y = reading.also (reading.next (reading.next (reading.step t g q) z) y) (sym (term-then ∙ simp (lt-ltb _ _ k)))
+  abbrev Runs : ParseState → Parse → Type 0
+  Runs r x = Again (repeats TERM (inputTerm i)) (left s (r .cursor)) (view s r) x
 
-      lost-term : (p .cursor .why ≡ 0 → ⊥) → view s p ≡ termFrom (view s p)
-      unfolding endOfPoints listed point view
-      lost-term w =
-          let b = blockView s (p .tables) in
-          let f = z .good .fits in
-          sym (ap (λ (r : Parse). endOfPoints i (listed (point i) r)) (cursor.lost-expect s (p .cursor) f w b 0 ASSIGN (λ x. omega arith))
-          ∙ ap (λ (r : Parse). endOfPoints i (repeated COMMA (λ y. point i (expect COMMA y)) r))
-          (cursor.lost-judged s (p .cursor) f w b 0 40 _ _ (λ x. omega arith))
-          ∙ ap (endOfPoints i) (cursor.lost-repeated s (p .cursor) f w b 0 COMMA _ (λ x. omega arith))
-          ∙ cursor.lost-judged s (p .cursor) f w b 0 59 _ _ (λ x. omega arith))
+  abbrev pub Turning : ParseState → ParseState → Type 0
+  Turning p₀ p = (i < p .tables .«input_count») × Good s p × (left s (p .cursor) ≤ left s (p₀ .cursor))
+      × ((r : ParseState) → p .cursor .kind ≡ TERM → Reads (inputTerm i) s p r → left s (r .cursor) < left s (p .cursor) → Runs r (all (view s p₀)))
+      × ((p .cursor .kind ≡ TERM → ⊥) → view s p ≡ all (view s p₀))
 
-      pub term-lost : (p .cursor .why ≡ 0 → ⊥) → Reads (inputTerm i) s (at c t) p
-      term-lost w = term-good p (reading.also (reading.none s p (z .good)) (lost-term w))
+  pub turns-first : (p : ParseState) → i < p .tables .«input_count» → Good s p → p .cursor .kind ≡ TERM → Turning p p
+  unfolding repeated view
+  turns-first p l g h = (
+    l,
+    g,
+    omega arith,
+    λ r k q m. (suc (length (view s r .rest)), cursor.enough s (r .cursor) (blockView s (r .tables)) 0, ap (repeated TERM (inputTerm i)) (q .reads)),
+    λ z. absurd (z h),
+  )
+
+  pub turns-more : (p₀ p r : ParseState) → Turning p₀ p → p .cursor .kind ≡ TERM → Reads (inputTerm i) s p r → left s (r .cursor) < left s (p .cursor)
+      → i < r .tables .«input_count» → Turning p₀ r
+  turns-more p₀ p r g h q m l =
+      let w = g .3 r h q m in (
+        l,
+        q .good,
+        omega (arith, g .2),
+        λ v k y n.
+            again-more (repeats TERM (inputTerm i))
+            (λ f. turn TERM (inputTerm i) f (view s r) (eq-eqb _ _ (kind-view s r ∙ k)) ∙ ap (repeatOn f TERM (inputTerm i)) (sym (y .reads))) n w,
+        λ z. again-end (repeats TERM (inputTerm i)) (λ f. no-turn TERM (inputTerm i) f (view s r) (ne-eqb _ _ (λ y. z (sym (kind-view s r) ∙ y)))) w,
+      )
+
+  pub turns-end : (p₀ p : ParseState) → Turning p₀ p → (p .cursor .kind ≡ TERM → ⊥) → Reads (λ r. repeated TERM (inputTerm i) (inputTerm i r)) s p₀ p
+  turns-end p₀ p g h = record { reads = g .4 h; fewer = g .2; good = g .1 }
+
+pub terms-none : (s : List ℕ) (c : Cursor) (t : Tables) (d : Cursor) (i : ℕ) → Holds s t → (c .kind ≡ 163 → ⊥) → (d .why ≡ 0 → ⊥)
+    → Step (refuse 2) s c d → Reads (λ r. repeated TERM (inputTerm i) (inputTerm i r)) s (at c t) (at d t)
+unfolding inputTerm judged view
+terms-none s c t d i g h w q =
+    let y : Reads (inputTerm i) s (at c t) (at d t) = reading.also (reading.step t g q) (sym (simp (kind-seen, ne-eqb _ _ h))) in
+    let z : Reads (repeated TERM (inputTerm i)) s (at d t) (at d t) =
+    reading.also (reading.none s (at d t) (y .good)) (sym (cursor.lost-repeated s d (q .fits) w (blockView s t) 0 TERM (inputTerm i) (λ x. omega arith))) in
+    reading.next y z
 
 -- A PART
 module _ (s : List ℕ) (c : Cursor) (t : Tables) (d : Cursor) where

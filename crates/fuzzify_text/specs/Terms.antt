@@ -1,36 +1,39 @@
--- A helper: the last term of an input in the tables, and what its points are checked for in numbers. `position-is` and
--- `points-end` of proofs/Laws tie these to the model's `pointPosition` and `endOfPoints`.
+-- A helper: the points of a term as they are read, and what they are checked for in numbers. A reading stands for any
+-- block with these points in the last term of an input; `Reads` ties it to a `Part` of the model, and `position-is` and
+-- `points-end` of proofs/Laws tie the checks to the model's `pointPosition` and `endOfPoints`.
 use mathlib.Core.Path.{_≡_}
 use mathlib.Core.Bool.{Bool, true}
-use mathlib.Core.List.{[], _∷_, map}
-use Prim.Native.Nat.{ℕ, _+_, _*_, _-_, _<_}
+use mathlib.Core.List.{List, [], _∷_, _++_, map}
+use Prim.Native.Nat.{ℕ, _+_, _*_, _≤_, _<_}
 use lib.Dec.{eqb, leb}
 use lib.IntN.{ℤ}
+use lib.ListN.{length, getD, replicate}
+use lib.Seq.{slice}
 use lib.Signed.{ltZ}
-use Rattle.model.specs.Basic.{if_then_else_}
-use Rattle.model.specs.Block.{Block, mayFollow}
-use Rattle.model.specs.Bounds.{termLimit, pointLeast}
-use Rattle.model.specs.Keywords.{SEMICOLON}
-use Rattle.model.specs.Parse.{Part, is, advance, judged, aCrisp, valueHere}
-use Rattle.model.specs.Declarations.{pointsOf}
-use Rattle.block_tables.specs.declared.Tables.{Tables}
-use Rattle.block_tables.specs.View.{inputRow}
+use Rattle.model.specs.Basic.{if_then_else_, indexOf, update}
+use Rattle.model.specs.Block as block
+use Rattle.model.specs.Block.{Block, termsOf, mayFollow, withInputs, withTerms}
+use Rattle.model.specs.Bounds.{termLimit, pointLeast, pointLimit, variableLimit}
+use Rattle.model.specs.Image.{tab}
+use Rattle.model.specs.Keywords.{ASSIGN, SEMICOLON}
+use Rattle.model.specs.Parse.{Parse, Part, is, advance, judged, expect, listed, aCrisp, valueHere}
+use Rattle.model.specs.Tokens.{sameName}
+use Rattle.model.specs.Declarations.{termOf, point, endOfPoints, inputTerm}
+use Rattle.lookup.specs.Names.{nameOf}
+use Rattle.cursor.specs.declared.Cursor.{Cursor}
+use Rattle.cursor.specs.View.{seen, Fits, left}
+use Rattle.block_tables.specs.declared.Point.{Point}
+use Rattle.block_tables.specs.View.{no-point}
+use Rattle.fuzzify_text.specs.declared.Shape.{Shape}
+use Rattle.fuzzify_text.specs.declared.TermName.{TermName}
 
--- there is an input i, and it has terms
-pub record Open (t : Tables) (i : ℕ) : Type 0 where
-  pub input : i < t .«input_count»
-  pub some : 0 < inputRow t i .terms
-
--- the place of the last one
-abbrev pub lastPlace : Tables → ℕ → ℕ
-lastPlace t i = i * termLimit + inputRow t i .terms - 1
+-- one term more for input i of a block
+unfoldable pub withTerm : ℕ → block.Term → Block → Block
+withTerm i x = withInputs (update (withTerms (λ ts. ts ++ (x ∷ []))) i)
 
 -- x may stand after n positions that end at this one
 unfoldable pub rises : ℕ → ℤ → ℤ → Bool
 rises n last x = if eqb n 0 then true else ltZ last x
-
-pub record Ends (b : Block) (i n : ℕ) (last : ℤ) : Type 0 where
-  pub may : (x : ℤ) → mayFollow (map (λ p. p .at) (pointsOf i b)) x ≡ rises n last x
 
 -- a position after n others, the end of n points
 unfoldable pub positionAfter : ℕ → ℤ → Part
@@ -38,3 +41,67 @@ positionAfter n last r = judged (aCrisp r ((rises n last (valueHere r), 7) ∷ [
 
 unfoldable pub endAfter : ℕ → Part
 endAfter n r = judged ((is SEMICOLON r, 2) ∷ (leb pointLeast n, 7) ∷ []) r (advance r)
+
+-- POINTS
+-- the point at place k of an array
+unfoldable pub pointAt : List Point → ℕ → block.Point
+pointAt ps k = record { at = getD ps k no-point .at .0; degree = getD ps k no-point .degree .0 }
+
+-- the points so far
+unfoldable pub pointsRead : Shape → List block.Point
+pointsRead p = tab (pointAt (p .points)) (p .count) 0
+
+-- none yet
+abbrev pub noPoints : Cursor → Shape
+noPoints c = record { cursor = c; count = 0; points = replicate pointLimit no-point }
+
+-- the term that they are read for: of this name, behind the other terms of an input in a block
+pub record Place : Type 0 where
+  pub input : ℕ
+  pub name : List ℕ
+  pub block : Block
+  pub known : input < length (block .inputs)
+
+abbrev pub blockWith : Place → List block.Point → Block
+blockWith x ps = withTerm (x .input) (record { name = x .name; points = ps }) (x .block)
+
+unfoldable pub viewAt : List ℕ → Place → Shape → Parse
+viewAt s x p = seen s (p .cursor) (blockWith x (pointsRead p)) 0
+
+pub record Room (s : List ℕ) (p : Shape) : Type 0 where
+  pub fits : Fits s (p .cursor)
+  pub few : p .count ≤ pointLimit
+  pub size : length (p .points) ≡ pointLimit
+
+pub record Reads (part : ℕ → Part) (s : List ℕ) (p r : Shape) : Type 0 where
+  pub reads : (x : Place) → viewAt s x r ≡ part (x .input) (viewAt s x p)
+  pub fewer : left s (r .cursor) ≤ left s (p .cursor)
+  pub room : Room s r
+
+-- the n positions so far end at this one
+pub record Ends (p : Shape) (last : ℤ) : Type 0 where
+  pub may : (x : ℤ) → mayFollow (map (λ q. q .at) (pointsRead p)) x ≡ rises (p .count) last x
+
+-- what follows the name of a term
+abbrev pub termFrom : ℕ → Part
+termFrom i r = endOfPoints i (listed (point i) (expect ASSIGN r))
+
+-- A NAME
+-- the n terms of input i in a block, with their names among these
+pub record Terms (s names : List ℕ) (i n : ℕ) (b : Block) : Type 0 where
+  pub input : i < length (b .inputs)
+  pub count : length (termsOf i b) ≡ n
+  pub found : (w : List ℕ) → termOf i w b ≡ indexOf (sameName w) (tab (nameOf s names) n (variableLimit + i * termLimit))
+
+-- a term of input i is read up to its points, or refused
+pub record Names (s : List ℕ) (i : ℕ) (b : Block) (c : Cursor) (r : TermName) : Type 0 where
+  pub named : r .cursor .why ≡ 0 → inputTerm i (seen s c b 0)
+      ≡ termFrom i (seen s (r .cursor) (withTerm i (record { name = slice (r .start) (r .end) s; points = [] }) b) 0)
+  pub lost : (r .cursor .why ≡ 0 → ⊥) → seen s (r .cursor) b 0 ≡ inputTerm i (seen s c b 0)
+
+pub record Named (s : List ℕ) (n : ℕ) (c : Cursor) (r : TermName) : Type 0 where
+  pub fewer : left s (r .cursor) < left s c
+  pub fits : Fits s (r .cursor)
+  pub order : r .start ≤ r .end
+  pub inside : r .end ≤ length s
+  pub room : r .cursor .why ≡ 0 → n < termLimit

@@ -1,25 +1,41 @@
 // FUZZIFY parts: the terms of an input, each a name and two to four points whose positions rise.
 ghost use mathlib.Core.Path.{_≡_};
-ghost use Prim.Native.Nat.{_<_};
-ghost use lib.ListN.{getD};
-ghost use Rattle.model.specs.Bounds.{termLimit, pointLimit};
+ghost use Prim.Native.Nat.{_+_, _*_, _≤_, _<_};
+ghost use Rattle.model.specs.Bounds.{inputLimit, termLimit, pointLimit, inputTermLimit};
 ghost use Rattle.model.specs.Tokens.{valueOf};
-ghost use Rattle.model.specs.Keywords.{ASSIGN, TERM, FUZZIFY};
-ghost use Rattle.model.specs.Parse.{expect as expected, listed, repeated};
-ghost use Rattle.model.specs.Declarations.{pointDegree as aDegree, pointBody, point as aPoint, endOfPoints, termName, inputTerm, fuzzifyVariable, fuzzify as aFuzzify};
+ghost use Rattle.model.specs.Keywords.{TERM, FUZZIFY};
+ghost use Rattle.model.specs.Block.{Block};
+ghost use Rattle.model.specs.Parse.{listed, repeated};
+ghost use Rattle.model.specs.Declarations.{pointDegree as aDegree, pointBody, point as aPoint, inputTerm, fuzzifyVariable, fuzzify as aFuzzify};
+ghost use Rattle.lookup.specs.Names.{Placed};
 ghost use Rattle.cursor.specs.View.{textOf, Fits, Step, Moves};
-ghost use Rattle.block_tables.specs.View.{inputRow, blockView};
 ghost use Rattle.parse_state.specs.Reads.{Good, Reads};
-ghost use Rattle.fuzzify_text.specs.Terms.{Open, lastPlace, rises, Ends, positionAfter, endAfter};
+ghost use Rattle.fuzzify_text.specs.Terms.{rises, positionAfter, endAfter, noPoints, Room, Reads as ReadsShape, Ends, termFrom, Terms, Names as Reached, Named};
 use block_tables::Point;
 use cursor::Cursor;
+use lookup::Names;
 use model::Crisp;
+use model::Degree;
 use parse_state::ParseState;
 
 // The cursor behind a position, and its value where it is not refused.
 struct At {
     cursor: Cursor,
     value: Crisp,
+}
+
+// The points of a term so far.
+struct Shape {
+    cursor: Cursor,
+    count: usize,
+    points: [Point; bounds::POINTS],
+}
+
+// The cursor behind the name of a term, and the place of the name.
+struct TermName {
+    cursor: Cursor,
+    start: usize,
+    end: usize,
 }
 
 // Whether x may stand after n positions, the last one of them given.
@@ -61,45 +77,36 @@ fn position(s: &[u8], c: Cursor, n: usize, last: Crisp) -> At
     }
 }
 
-// The degree at position x: a point more for the last term of input i.
-fn degree(s: &[u8], p: ParseState, i: usize, x: Crisp) -> ParseState
-    requires { ⌜ Good (now s) p × Open (p .tables) i
-        × (getD (p .tables .counts) (lastPlace (p .tables) i) 0 < pointLimit) ⌝ }
-    ensures { λ r. ⌜ Reads (aDegree i (x .0)) (now (s .entry)) p r ⌝ }
-    ensures open { λ r. ⌜ Open (r .tables) i ⌝ }
+// The degree at position x: one point more.
+fn degree(s: &[u8], p: Shape, x: Crisp) -> Shape
+    requires { ⌜ Room (now s) p × (p .count < pointLimit) ⌝ }
+    ensures { λ r. ⌜ ReadsShape (λ i. aDegree i (x .0)) (now (s .entry)) p r ⌝ }
 {
     let c = p.cursor;
-    let t = p.tables;
     let w = number_tokens::unit_here(s, c);
+    let mut r = p;
     if w.fault != 0 {
         let d = cursor::refuse(c, w.fault);
-        return ParseState {
-            cursor: d,
-            tables: t,
-        };
+        r.cursor = d;
+        return r;
     }
     let y = w.value;
     let q = Point { at: x, degree: y };
-    let v = t.inputs[i];
-    let k = i * bounds::TERMS + v.terms - 1;
-    let u = block_updates::add_point(t, k, q);
+    let n = p.count;
     let d = cursor::advance(s, c);
-    ParseState {
-        cursor: d,
-        tables: u,
-    }
+    r.cursor = d;
+    r.points[n] = q;
+    r.count = n + 1;
+    r
 }
 
-// A point behind its parenthesis, after n others, the last position given.
-fn point_from(s: &[u8], p: ParseState, i: usize, n: usize, last: Crisp) -> ParseState
-    requires { ⌜ Good (now s) p × Open (p .tables) i
-        × (getD (p .tables .counts) (lastPlace (p .tables) i) 0 < pointLimit)
-        × Ends (blockView (now s) (p .tables)) i n (last .0) ⌝ }
-    ensures { λ r. ⌜ Reads (pointBody i) (now (s .entry)) p r ⌝ }
-    ensures open { λ r. ⌜ Open (r .tables) i ⌝ }
+// A point behind its parenthesis, the last position given.
+fn point_from(s: &[u8], p: Shape, last: Crisp) -> Shape
+    requires { ⌜ Room (now s) p × (p .count < pointLimit) × Ends p (last .0) ⌝ }
+    ensures { λ r. ⌜ ReadsShape pointBody (now (s .entry)) p r ⌝ }
 {
     let c = p.cursor;
-    let a = position(s, c, n, last);
+    let a = position(s, c, p.count, last);
     let d = a.cursor;
     let mut q = p;
     q.cursor = d;
@@ -109,24 +116,19 @@ fn point_from(s: &[u8], p: ParseState, i: usize, n: usize, last: Crisp) -> Parse
     let e = cursor::expect(s, d, token_kinds::COMMA);
     q.cursor = e;
     let x = a.value;
-    let mut r = degree(s, q, i, x);
+    let mut r = degree(s, q, x);
     let f = r.cursor;
     let g = cursor::expect(s, f, token_kinds::CLOSE);
     r.cursor = g;
     r
 }
 
-// A point of the last term of input i.
-fn point(s: &[u8], p: ParseState, i: usize) -> ParseState
-    requires { ⌜ Good (now s) p × Open (p .tables) i ⌝ }
-    ensures { λ r. ⌜ Reads (aPoint i) (now (s .entry)) p r ⌝ }
-    ensures open { λ r. ⌜ Open (r .tables) i ⌝ }
+fn point(s: &[u8], p: Shape) -> Shape
+    requires { ⌜ Room (now s) p ⌝ }
+    ensures { λ r. ⌜ ReadsShape aPoint (now (s .entry)) p r ⌝ }
 {
     let c = p.cursor;
-    let t = p.tables;
-    let v = t.inputs[i];
-    let k = i * bounds::TERMS + v.terms - 1;
-    let n = t.counts[k];
+    let n = p.count;
     let mut q = p;
     if c.kind != token_kinds::OPEN {
         let d = cursor::refuse(c, 2);
@@ -141,24 +143,23 @@ fn point(s: &[u8], p: ParseState, i: usize) -> ParseState
     let d = cursor::advance(s, c);
     q.cursor = d;
     if n == 0 {
-        return point_from(s, q, i, n, Crisp(0));
+        return point_from(s, q, Crisp(0));
     }
-    let o = t.points[k * bounds::POINTS + n - 1];
+    let o = p.points[n - 1];
     let last = o.at;
-    point_from(s, q, i, n, last)
+    point_from(s, q, last)
 }
 
-fn points(s: &[u8], p: ParseState, i: usize) -> ParseState
-    requires { ⌜ Good (now s) p × Open (p .tables) i ⌝ }
-    ensures { λ r. ⌜ Reads (listed (aPoint i)) (now (s .entry)) p r ⌝ }
-    ensures open { λ r. ⌜ Open (r .tables) i ⌝ }
+fn points(s: &[u8], p: Shape) -> Shape
+    requires { ⌜ Room (now s) p ⌝ }
+    ensures { λ r. ⌜ ReadsShape (λ i. listed (aPoint i)) (now (s .entry)) p r ⌝ }
 {
-    let mut q = point(s, p, i);
+    let mut q = point(s, p);
     while q.cursor.kind == token_kinds::COMMA {
         let c = q.cursor;
         let d = cursor::advance(s, c);
         q.cursor = d;
-        q = point(s, q, i);
+        q = point(s, q);
     }
     q
 }
@@ -177,107 +178,132 @@ fn end_of_points(s: &[u8], c: Cursor, n: usize) -> Cursor
     cursor::advance(s, c)
 }
 
-// What follows a term's name: the last term of input i gets its points.
-fn term_points(s: &[u8], p: ParseState, i: usize) -> ParseState
-    requires { ⌜ Good (now s) p × Open (p .tables) i ⌝ }
-    ensures { λ r. ⌜ Reads (λ q. endOfPoints i (listed (aPoint i) (expected ASSIGN q))) (now (s .entry)) p r ⌝ }
-    ensures open { λ r. ⌜ Open (r .tables) i ⌝ }
+// What follows a term's name.
+fn term_points(s: &[u8], c: Cursor) -> Shape
+    requires { ⌜ Fits (now s) c ⌝ }
+    ensures { λ r. ⌜ ReadsShape termFrom (now (s .entry)) (noPoints c) r ⌝ }
 {
-    let c = p.cursor;
     let d = cursor::expect(s, c, token_kinds::ASSIGN);
-    let mut q = p;
-    q.cursor = d;
-    let mut r = points(s, q, i);
-    let t = r.tables;
-    let v = t.inputs[i];
-    let k = i * bounds::TERMS + v.terms - 1;
+    let z = Point {
+        at: Crisp(0),
+        degree: Degree(0),
+    };
+    let mut r = points(
+        s,
+        Shape {
+            cursor: d,
+            count: 0,
+            points: [z; bounds::POINTS],
+        },
+    );
     let e = r.cursor;
-    let f = end_of_points(s, e, t.counts[k]);
+    let f = end_of_points(s, e, r.count);
     r.cursor = f;
     r
 }
 
-// The name of one term more for input i.
-fn term_name(s: &[u8], p: ParseState, i: usize) -> ParseState
-    requires { ⌜ Good (now s) p × (i < p .tables .«input_count») × (inputRow (p .tables) i .terms < termLimit) ⌝ }
-    ensures { λ r. ⌜ Reads (termName i) (now (s .entry)) p r ⌝ }
-    ensures input { λ r. ⌜ i < r .tables .«input_count» ⌝ }
-    ensures open { λ r. ⌜ (r .cursor .why ≡ 0 → Open (r .tables) i) ⌝ }
+// TERM and the name of one term more for input i, which has n.
+fn term_name(s: &[u8], names: &Names, c: Cursor, i: usize, n: usize) -> TermName
+    requires { ⌜ Fits (now s) c × (c .kind ≡ TERM) × Placed (now s) (now names) × (i < inputLimit) × (n ≤ termLimit) ⌝ }
+    ensures { λ r. ⌜ ((b : Block) → Terms (now (s .entry)) (now (names .entry)) i n b
+        → Reached (now (s .entry)) i b c r) ⌝ }
+    ensures named { λ r. ⌜ Named (now (s .entry)) n c r ⌝ }
 {
-    let c = p.cursor;
-    let t = p.tables;
-    let w = cursor::name_fault(c);
-    if w != 0 {
-        let d = cursor::refuse(c, w);
-        return ParseState {
+    if bounds::TERMS <= n {
+        let d = cursor::refuse(c, 6);
+        return TermName {
             cursor: d,
-            tables: t,
+            start: 0,
+            end: 0,
         };
     }
-    let v = t.inputs[i];
-    let n = v.terms;
+    let d = cursor::advance(s, c);
+    let w = cursor::name_fault(d);
+    if w != 0 {
+        let e = cursor::refuse(d, w);
+        return TermName {
+            cursor: e,
+            start: 0,
+            end: 0,
+        };
+    }
     if lookup::find(
         s,
-        &t.names,
+        names,
         lookup::FIRST_TERM + i * bounds::TERMS,
         n,
-        c.start,
-        c.end,
+        d.start,
+        d.end,
     )
         < n
     {
-        let d = cursor::refuse(c, 4);
-        return ParseState {
-            cursor: d,
-            tables: t,
+        let e = cursor::refuse(d, 4);
+        return TermName {
+            cursor: e,
+            start: 0,
+            end: 0,
         };
     }
-    let u = block_updates::add_term(t, i, c.start, c.end);
-    let d = cursor::advance(s, c);
-    ParseState {
-        cursor: d,
-        tables: u,
+    let e = cursor::advance(s, d);
+    TermName {
+        cursor: e,
+        start: d.start,
+        end: d.end,
     }
 }
 
-fn input_term(s: &[u8], p: ParseState, i: usize) -> ParseState
-    requires { ⌜ Good (now s) p × (i < p .tables .«input_count») ⌝ }
-    ensures { λ r. ⌜ Reads (inputTerm i) (now (s .entry)) p r ⌝ }
-    ensures moves { λ r. ⌜ Moves (now (s .entry)) (p .cursor) (r .cursor) ⌝ }
-    ensures input { λ r. ⌜ i < r .tables .«input_count» ⌝ }
+// The place of term n of input i among the terms of all inputs.
+fn term_place(i: usize, n: usize) -> usize
+    requires { ⌜ (i < inputLimit) × (n < termLimit) ⌝ }
+    ensures { λ r. ⌜ (r ≡ i * termLimit + n) × (r < inputTermLimit) ⌝ }
 {
-    let c = p.cursor;
-    let t = p.tables;
-    let v = t.inputs[i];
-    let mut q = p;
-    if c.kind != token_kinds::TERM {
-        let d = cursor::refuse(c, 2);
-        q.cursor = d;
-        return q;
-    }
-    if bounds::TERMS <= v.terms {
-        let d = cursor::refuse(c, 6);
-        q.cursor = d;
-        return q;
-    }
-    let d = cursor::advance(s, c);
-    q.cursor = d;
-    let r = term_name(s, q, i);
-    if r.cursor.why != 0 {
-        return r;
-    }
-    term_points(s, r, i)
+    i * bounds::TERMS + n
 }
 
+// Terms, one or more. A term goes into the tables when its points are read: only this far down are the tables handed.
 fn input_terms(s: &[u8], p: ParseState, i: usize) -> ParseState
     requires { ⌜ Good (now s) p × (i < p .tables .«input_count») ⌝ }
     ensures { λ r. ⌜ Reads (λ q. repeated TERM (inputTerm i) (inputTerm i q)) (now (s .entry)) p r ⌝ }
 {
-    let mut q = input_term(s, p, i);
-    while q.cursor.kind == token_kinds::TERM {
-        q = input_term(s, q, i);
+    let mut c = p.cursor;
+    let mut t = p.tables;
+    if c.kind != token_kinds::TERM {
+        let d = cursor::refuse(c, 2);
+        return ParseState {
+            cursor: d,
+            tables: t,
+        };
     }
-    q
+    while c.kind == token_kinds::TERM {
+        let mut v = t.inputs[i];
+        let n = v.terms;
+        let a = term_name(s, &t.names, c, i, n);
+        let d = a.cursor;
+        if d.why != 0 {
+            return ParseState {
+                cursor: d,
+                tables: t,
+            };
+        }
+        let q = term_points(s, d);
+        let ps = q.points;
+        let k = term_place(i, n);
+        let m = k * bounds::POINTS;
+        t.names[lookup::FIRST_TERM + k] = a.start;
+        t.names[lookup::ENDS + (lookup::FIRST_TERM + k)] = a.end;
+        v.terms = n + 1;
+        t.inputs[i] = v;
+        t.counts[k] = q.count;
+        t.points[m] = ps[0];
+        t.points[m + 1] = ps[1];
+        t.points[m + 2] = ps[2];
+        t.points[m + 3] = ps[3];
+        c = q.cursor;
+    }
+    ParseState {
+        cursor: c,
+        tables: t,
+    }
 }
 
 // The name of an input without terms, and its terms.
