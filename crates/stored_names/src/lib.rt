@@ -7,18 +7,14 @@ ghost use Rattle.model.specs.Basic.{between, distinct, same};
 ghost use Rattle.model.specs.Tokens.{isName};
 ghost use Rattle.model.specs.Image.{wordAt, tab, nameAt};
 ghost use Rattle.stored_names.specs.Stored.{endsName, tidyAt, tidyEnd, front, wordsIn, absent, apart};
+use bounds::within;
 use words::word;
 
 fn is_letter(c: u8) -> bool
     ensures { λ r. ⌜ r ≡ between 65 90 c || between 97 122 c ⌝ }
 {
-    if c <= 90 {
-        return 65 <= c;
-    }
-    if c <= 122 {
-        return 97 <= c;
-    }
-    false
+    let x = c as usize;
+    within(65, 90, x) || within(97, 122, x)
 }
 
 // No byte of a name that is tidy so far; under says that an underscore stands before it.

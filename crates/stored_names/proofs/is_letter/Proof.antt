@@ -1,24 +1,19 @@
-use mathlib.Core.Bool.{and-true, and-false, or-false}
-use native.Mathlib.Omega.{arith}
-use lib.Dec.{leb}
-use borrow.Author.Tests.{le-leb, lt-leb}
+use mathlib.Core.Path.{sym, _∙_}
+use borrow.Author.Needs.{needs}
 use Rattle.stored_names.proofs.is_letter.Statement.{statement}
 use Rattle.stored_names.proofs.is_letter.Tie as tie
 
+within-requires : tie.Need-within-requires
+within-requires c κs = search needs
+
+within-requires-2 : tie.Need-within-requires-2
+within-requires-2 c κs = search needs
+
 returns : tie.Need-returns
-returns c =
-    let x = c .before .args .c in
-    simp (le-leb x 90 (c .if1 .taken), lt-leb 97 x (omega (arith, c .if1 .taken)), and-true, or-false)
+returns c = simp (c .if1 .taken, sym (c .before .within .ensures) ∙ c .if1 .taken)
 
 returns-2 : tie.Need-returns-2
-returns-2 c =
-    let x = c .before .before .args .c in
-    simp (lt-leb x 90 (c .before .if1 .left), le-leb x 122 (c .if2 .taken), and-true, and-false)
-
-returns-3 : tie.Need-returns-3
-returns-3 c =
-    let x = c .before .before .args .c in
-    simp (lt-leb x 90 (c .before .if1 .left), lt-leb x 122 (c .if2 .left), and-false)
+returns-2 c = simp (sym (c .before .before .within .ensures) ∙ c .before .if1 .left) (c .within2 .ensures)
 
 pub is-letter-spec : {M : Type 1} → statement M
-is-letter-spec = tie.close (tie.spec returns returns-2 returns-3)
+is-letter-spec = tie.close (tie.spec within-requires within-requires-2 returns returns-2)
