@@ -1,16 +1,25 @@
 -- The bytes of four words are those of the image; a name is those before the first zero.
-use mathlib.Core.Path.{_≡_, refl, sym}
+use mathlib.Core.Path.{_≡_, refl, sym, ap, _∙_}
 use mathlib.Core.Bool.{Bool, true, false, not}
 use mathlib.Core.List.{List}
 use Prim.Native.Nat.{ℕ, suc, _+_, _*_, _≤_, _<_}
 use native.Mathlib.Omega.{arith}
 use borrow.Author.Tests.{ltb-false, ltb-true}
 use lib.Dec.{ltb, eqb}
-use lib.ListN.{length, take, getD, List·getD-eq-default}
+use lib.ListN.{length, take, drop, getD, length-drop, List·getD-eq-default}
+use lib.Seq.{length-take-le, getD-take, getD-drop}
 use Rattle.model.specs.Basic.{run}
 use Rattle.model.specs.Image.{wordAt, bytesOf, tab, nameAt}
-use Rattle.laws.proofs.Places.{At, length-tab, tab-nth}
-use Rattle.words.proofs.Bytes.{bytes-at}
+use Rattle.laws.proofs.Places.{At, tab-nth}
+use Rattle.words.proofs.Bytes.{bytes-at, part-word}
+
+-- what stands past the end is 0
+low : (xs : List ℕ) → ((k : ℕ) → k < length xs → getD xs k 0 < 256) → (k : ℕ) → getD xs k 0 < 256
+low xs f k = go (ltb k (length xs)) refl
+  where
+    go : (b : Bool) → ltb k (length xs) ≡ b → getD xs k 0 < 256
+    go true e = f k (ltb-true k (length xs) e)
+    go false e = rw (List·getD-eq-default xs 0 (ltb-false k (length xs) e)) (omega arith)
 
 module _ (img : List ℕ) (o : ℕ) where
   abbrev pub byteOf : ℕ → ℕ
@@ -25,20 +34,14 @@ module _ (img : List ℕ) (o : ℕ) where
       let e3 : i * 4 + 3 ≡ o * 4 + (k + 3) = omega arith in
       rw (e1, e2, e3, e)
 
-  small : ((k : ℕ) → getD img k 0 < 256) → (k : ℕ) → getD (tab byteOf 16 0) k 0 < 256
-  small f k = go (ltb k 16) refl
-    where
-      go : (b : Bool) → ltb k 16 ≡ b → getD (tab byteOf 16 0) k 0 < 256
-      go true e = rw (tab-nth byteOf 16 0 k 0 (ltb-true k 16 e)) (f (o * 4 + (0 + k)))
-      go false e =
-          let long : length (tab byteOf 16 0) ≤ k = omega (arith, length-tab byteOf 16 0, ltb-false k 16 e) in
-          rw (List·getD-eq-default (tab byteOf 16 0) 0 long) (omega arith)
-
   -- the bytes of four words are those of the image
   pub four-words : ((k : ℕ) → getD img k 0 < 256) → tab byteOf 16 0 ≡ bytesOf (tab (wordAt img) 4 o)
   unfolding tab wordAt
-  four-words f = bytes-at (tab byteOf 16 0) (tab (wordAt img) 4 o) (small f) refl stands
+  four-words f = bytes-at (tab byteOf 16 0) (tab (wordAt img) 4 o) (low (tab byteOf 16 0) small) refl stands
     where
+      small : (k : ℕ) → k < 16 → getD (tab byteOf 16 0) k 0 < 256
+      small k h = rw (tab-nth byteOf 16 0 k 0 h) (f (o * 4 + (0 + k)))
+
       stands : At (wordAt (tab byteOf 16 0)) 0 (tab (wordAt img) 4 o)
       stands = (
         sym (gives o 0 (omega arith)),
@@ -50,6 +53,23 @@ module _ (img : List ℕ) (o : ℕ) where
           ),
         ),
       )
+
+  -- and a part of it, where it goes that far
+  pub part-bytes : ((k : ℕ) → getD img k 0 < 256) → (n : ℕ) → n ≡ 16 → o * 4 + n ≤ length img → take n (drop (o * 4) img) ≡ bytesOf (tab (wordAt img) 4 o)
+  unfolding tab
+  part-bytes f n e h = bytes-at part (tab (wordAt img) 4 o) (low part small) long (word 0 o (omega arith) (omega arith), (word 1 (suc o) (omega arith) (omega arith), (word 2 (suc (suc o)) (omega arith) (omega arith), (word 3 (suc (suc (suc o))) (omega arith) (omega arith), tt))))
+    where
+      part : List ℕ
+      part = take n (drop (o * 4) img)
+
+      long : length part ≡ 16
+      long = length-take-le n (drop (o * 4) img) (omega (arith, length-drop (o * 4) img)) ∙ e
+
+      small : (k : ℕ) → k < length part → getD part k 0 < 256
+      small k g = rw (getD-take n (drop (o * 4) img) k 0 (omega (arith, long, e)), getD-drop (o * 4) img k 0) (f (o * 4 + k))
+
+      word : (i p : ℕ) → i < 4 → o + i ≡ p → wordAt part i ≡ wordAt img p
+      word i p g q = part-word img o n i (omega (arith, e)) ∙ ap (wordAt img) q
 
 -- the bytes before the first zero
 pub name-front : (w : ℕ → ℕ) (o : ℕ) (s : List ℕ) (n : ℕ) → s ≡ bytesOf (tab w 4 o) → n ≡ run (λ c. not (eqb c 0)) s

@@ -1,3 +1,4 @@
 pub mod Fours
 pub mod Names
+pub mod Spelling
 pub mod Tables

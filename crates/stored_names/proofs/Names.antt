@@ -2,39 +2,28 @@
 use mathlib.Core.Path.{_≡_, refl, sym, ap, _∙_, subst}
 use mathlib.Core.List.{List, [], _∷_}
 use mathlib.Core.Bool.{Bool, true, false, _&&_, not, and-true}
-use Prim.Native.Nat.{ℕ, _≤_, _<_}
+use Prim.Native.Nat.{ℕ, zero, suc, _≤_, _<_}
 use native.Mathlib.Omega.{arith}
-use borrow.Author.Tests.{eqb-true, eqb-false, lt-ltb, le-ltb}
+use borrow.Author.Tests.{eqb-true, eqb-false, le-leb, lt-ltb, le-ltb, ltb-true, ltb-false}
 use lib.Dec.{leb, ltb, eqb}
-use lib.ListN.{length, take}
+use lib.ListN.{length, take, getD}
+use lib.Seq.{length-take-le}
 use Rattle.model.specs.Basic.{every, all, run, same}
 use Rattle.model.specs.Bounds.{nameLimit}
 use Rattle.model.specs.Keywords.{keywordAt, isKeyword}
 use Rattle.model.specs.Tokens.{startsName, isNameByte, starts, tidy, isName, sameName}
 use Rattle.model.specs.Image.{bytesOf, nameWords, tab, nameAt}
-use Rattle.laws.proofs.Tests.{iff}
+use Rattle.laws.proofs.Tests.{Every, one-fails, iff}
 use Rattle.laws.proofs.Places.{same-eq, same-refl}
 use Rattle.layout.specs.Tables.{nameExact}
+use Rattle.stored_names.specs.Stored.{tidyEnd, front}
+use Rattle.stored_names.proofs.Spelling.{tidy-ends, untidy-none, all-run, all-past, zero-ends, zero-after, name-within}
 
 -- NAMES
-module _ (f : ℕ → Bool) where
-  pub run-through : (w : List ℕ) → length w ≤ run f w → all f w ≡ true
-  unfolding all run
-  run-through [] h = refl
-  run-through (c ∷ w) h = go (λ g. run-through w g) (f c) refl
-    where
-      go : (length w ≤ run f w → all f w ≡ true) → (b : Bool) → f c ≡ b → f c && all f w ≡ true
-      go ih true e = rw e (ih (omega (arith, rw (run, e) at h)))
-      go ih false e = absurd (omega (arith, rw (run, e) at h))
-
-  pub run-breaks : (w : List ℕ) → run f w < length w → all f w ≡ false
-  unfolding all run
-  run-breaks [] h = absurd (omega arith)
-  run-breaks (c ∷ w) h = go (λ g. run-breaks w g) (f c) refl
-    where
-      go : (run f w < length w → all f w ≡ false) → (b : Bool) → f c ≡ b → f c && all f w ≡ false
-      go ih true e = rw e (ih (omega (arith, rw (run, e) at h)))
-      go ih false e = rw e
+pub starts-take : (f : ℕ → Bool) (s : List ℕ) (n : ℕ) → 0 < n → n ≤ length s → starts f (take n s) ≡ f (getD s 0 0)
+starts-take f [] n h l = absurd (omega arith)
+starts-take f (c ∷ s) zero h l = absurd (omega arith)
+starts-take f (c ∷ s) (suc n) h l = refl
 
 abbrev pub nameTests : List ℕ → List Bool
 nameTests w = starts startsName w ∷ all isNameByte w ∷ tidy w ∷ leb (length w) nameLimit ∷ not (isKeyword w) ∷ []
@@ -44,11 +33,6 @@ unfolding isName every
 name-spelt w =
     ap (λ (b : Bool). starts startsName w && (all isNameByte w && (tidy w && (leb (length w) nameLimit && b)))) (and-true (not (isKeyword w)))
 
-pub empty-name : (w : List ℕ) → length w ≡ 0 → isName w ≡ false
-unfolding isName
-empty-name [] h = refl
-empty-name (c ∷ w) h = absurd (omega arith)
-
 pub no-keyword : (w : List ℕ) (k : ℕ) → k ≡ keywordAt w → k ≤ 43 → eqb k 43 ≡ not (isKeyword w)
 unfolding isKeyword
 no-keyword w k e h = go (eqb k 43) refl
@@ -56,6 +40,54 @@ no-keyword w k e h = go (eqb k 43) refl
     go : (b : Bool) → eqb k 43 ≡ b → eqb k 43 ≡ not (ltb (keywordAt w) 43)
     go true q = q ∙ ap not (sym (ap (λ (n : ℕ). ltb n 43) (sym e) ∙ le-ltb k 43 (omega (arith, eqb-true k 43 q))))
     go false q = q ∙ ap not (sym (ap (λ (n : ℕ). ltb n 43) (sym e) ∙ lt-ltb k 43 (omega (arith, eqb-false k 43 q))))
+
+no-name : (s : List ℕ) → tidyEnd false 0 s ≡ 0 → isName (take (run isNameByte s) s) ≡ false
+no-name s h = go (tidy (take (run isNameByte s) s)) refl
+  where
+    go : (b : Bool) → tidy (take (run isNameByte s) s) ≡ b → isName (take (run isNameByte s) s) ≡ false
+    go true q = ap (λ (k : ℕ). isName (take k s)) (untidy-none s h q) ∙ unfold isName in refl
+    go false q = sym (name-spelt _) ∙ one-fails (nameTests (take (run isNameByte s) s)) 2 q
+
+-- n name bytes, tidy, from the start of s on; 0 where they are not
+module _ (s : List ℕ) (n : ℕ) (e : n ≡ tidyEnd false 0 s) where
+  abbrev letters : ℕ
+  letters = run (λ c. not (eqb c 0)) s
+
+  longer : run isNameByte s < letters → isName (front s) ≡ false
+  longer h = sym (name-spelt (front s)) ∙ one-fails (nameTests (front s)) 1 (all-past isNameByte (λ c. not (eqb c 0)) s h)
+
+  pub untidy : n ≡ 0 → isName (front s) ≡ false
+  untidy h = go (ltb (run isNameByte s) letters) refl
+    where
+      go : (b : Bool) → ltb (run isNameByte s) letters ≡ b → isName (front s) ≡ false
+      go true q = longer (ltb-true _ _ q)
+      go false q =
+          let z : letters ≡ run isNameByte s = omega (arith, name-within s, ltb-false (run isNameByte s) letters q) in
+          ap (λ (k : ℕ). isName (take k s)) z ∙ no-name s (sym e ∙ h)
+
+  pub byte-after : 0 < n → (getD s n 0 ≡ 0 → ⊥) → isName (front s) ≡ false
+  byte-after h f = go (ltb (run isNameByte s) letters) refl
+    where
+      go : (b : Bool) → ltb (run isNameByte s) letters ≡ b → isName (front s) ≡ false
+      go true q = longer (ltb-true _ _ q)
+      go false q =
+          let z : letters ≡ n = omega (arith, name-within s, ltb-false (run isNameByte s) letters q, tidy-ends n s e h .0) in
+          absurd (f (ap (λ (k : ℕ). getD s k 0) (sym z) ∙ zero-after s))
+
+  pub front-is : 0 < n → getD s n 0 ≡ 0 → front s ≡ take n s
+  front-is h f =
+      let z : letters ≡ n = omega (arith, name-within s, zero-ends s n f, tidy-ends n s e h .0) in
+      ap (λ (k : ℕ). take k s) z
+
+  pub spelt : 0 < n → n ≤ length s → length s ≤ 16 → startsName (getD s 0 0) ≡ true → Every (take 4 (nameTests (take n s)))
+  spelt h l g first =
+      let few : length (take n s) ≤ 16 = omega (arith, length-take-le n s l) in (
+        starts-take startsName s n h l ∙ first,
+        (
+          ap (λ (k : ℕ). all isNameByte (take k s)) (tidy-ends n s e h .0) ∙ all-run isNameByte s,
+          (tidy-ends n s e h .1, (le-leb _ _ few, tt)),
+        ),
+      )
 
 -- TWO NAMES
 pub same-names : (w : ℕ → ℕ) (o q : ℕ) → nameExact w o ≡ true → nameExact w q ≡ true

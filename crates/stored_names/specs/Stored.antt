@@ -1,10 +1,31 @@
--- A helper: tables of entries that begin with a name of four words, and names that differ, by their words.
--- `distinct-names` and `joined-names` tie them to model's `sameName` and `distinct`.
+-- A helper: the bytes of one name, and tables of entries that begin with a name of four words, and names that differ, by
+-- their words. `name-bytes` ties them to model's `isName`, `distinct-names` and `joined-names` to its `sameName` and
+-- `distinct`.
 use mathlib.Core.Bool.{Bool, not}
-use mathlib.Core.List.{List}
-use Prim.Native.Nat.{ℕ, _+_, _*_}
-use Rattle.model.specs.Basic.{all}
+use mathlib.Core.List.{List, [], _∷_}
+use Prim.Native.Nat.{ℕ, suc, _+_, _*_}
+use lib.Dec.{eqb}
+use lib.ListN.{take}
+use Rattle.model.specs.Basic.{if_then_else_, all, run}
+use Rattle.model.specs.Tokens.{isUnderscore, isNameByte}
 use Rattle.model.specs.Image.{tab}
+
+-- no name byte, or an underscore behind another; u: an underscore stands before it
+abbrev pub endsName : Bool → ℕ → Bool
+endsName u c = if isUnderscore c then u else not (isNameByte c)
+
+-- a tidy name ends after n bytes, and not behind an underscore
+abbrev pub tidyAt : Bool → ℕ → ℕ
+tidyAt u n = if u then 0 else n
+
+-- where the name bytes end, n of them before; 0 where they are not tidy
+unfoldable pub tidyEnd : Bool → ℕ → List ℕ → ℕ
+tidyEnd u n [] = tidyAt u n
+tidyEnd u n (c ∷ s) = if endsName u c then tidyAt u n else tidyEnd (isUnderscore c) (suc n) s
+
+-- the bytes before the first zero
+abbrev pub front : List ℕ → List ℕ
+front s = take (run (λ c. not (eqb c 0)) s) s
 
 -- the four words of entry i of a table from place o on, s words an entry
 abbrev pub wordsIn : (ℕ → ℕ) → ℕ → ℕ → ℕ → List ℕ

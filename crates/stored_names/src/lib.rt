@@ -1,31 +1,79 @@
 // Names in a stored image: whether one stands at a place, whether two are the same, whether those of tables differ.
 ghost use mathlib.Core.Path.{_≡_};
+ghost use mathlib.Core.Bool.{false, _||_};
 ghost use Prim.Native.Nat.{_-_, _≤_};
-ghost use Rattle.model.specs.Basic.{distinct, same};
+ghost use lib.ListN.{length};
+ghost use Rattle.model.specs.Basic.{between, distinct, same};
 ghost use Rattle.model.specs.Tokens.{isName};
 ghost use Rattle.model.specs.Image.{wordAt, tab, nameAt};
-ghost use Rattle.stored_names.specs.Stored.{wordsIn, absent, apart};
+ghost use Rattle.stored_names.specs.Stored.{endsName, tidyAt, tidyEnd, front, wordsIn, absent, apart};
+use bounds::within;
 use words::word;
 
-fn is_name(w: &[u8]) -> bool
-    ensures { λ r. ⌜ r ≡ isName (now (w .entry)) ⌝ }
+fn is_letter(c: u8) -> bool
+    ensures { λ r. ⌜ r ≡ between 65 90 c || between 97 122 c ⌝ }
 {
-    if bounds::NAME < w.len() {
+    let x = c as usize;
+    within(65, 90, x) || within(97, 122, x)
+}
+
+// No byte of a name that is tidy so far; under says that an underscore stands before it.
+fn ends_name(under: bool, c: u8) -> bool
+    ensures { λ r. ⌜ r ≡ endsName under c ⌝ }
+{
+    if is_letter(c) {
         return false;
     }
-    if w.len() == 0 {
+    if c == 95 {
+        return under;
+    }
+    !characters::is_digit(c)
+}
+
+// The end of a name, which is no underscore.
+fn tidy_at(under: bool, i: usize) -> usize
+    ensures { λ r. ⌜ r ≡ tidyAt under i ⌝ }
+{
+    if under {
+        return 0;
+    }
+    i
+}
+
+// Where the name bytes end that s starts with; 0 where they are not tidy.
+fn tidy_end(s: &[u8]) -> usize
+    ensures { λ r. ⌜ r ≡ tidyEnd false 0 (now (s .entry)) ⌝ }
+    ensures within { λ r. ⌜ r ≤ length (now (s .entry)) ⌝ }
+{
+    let mut under = false;
+    let mut i: usize = 0;
+    while i < s.len() {
+        let c = s[i];
+        if ends_name(under, c) {
+            return tidy_at(under, i);
+        }
+        under = c == 95;
+        i += 1;
+    }
+    tidy_at(under, i)
+}
+
+// The bytes before the first zero are a name.
+fn is_name(s: &[u8]) -> bool
+    requires { ⌜ length (now s) ≤ 16 ⌝ }
+    ensures { λ r. ⌜ r ≡ isName (front (now (s .entry))) ⌝ }
+{
+    let n = tidy_end(s);
+    if n == 0 {
         return false;
     }
-    if !characters::starts_name(w[0]) {
+    if words::byte(s, n) != 0 {
         return false;
     }
-    if characters::name_end(w, 0) < w.len() {
+    if !characters::starts_name(s[0]) {
         return false;
     }
-    if !tokens::is_tidy(w) {
-        return false;
-    }
-    keywords::keyword_at(w) == keywords::COUNT
+    keywords::keyword_at(&s[..n]) == keywords::COUNT
 }
 
 // The four words from place o on hold a name.
@@ -33,9 +81,13 @@ pub fn name_ok(img: &[u8], o: usize) -> bool
     requires { ⌜ o ≤ 900000000000 ⌝ }
     ensures { λ r. ⌜ r ≡ isName (nameAt (wordAt (now (img .entry))) o) ⌝ }
 {
-    let s = name_field::bytes_at(img, o);
-    let n = name_field::first_zero(&s);
-    is_name(&s[..n])
+    let k = o * 4;
+    let e = k + bounds::NAME;
+    if e <= img.len() {
+        return is_name(&img[k..e]);
+    }
+    let s = name_field::bytes_at(&img[0..], o);
+    is_name(&s)
 }
 
 pub fn same_name(img: &[u8], o: usize, q: usize) -> bool

@@ -1,9 +1,10 @@
 -- The words of an image against its bytes.
-use mathlib.Core.Path.{_≡_, refl, sym, _∙_}
+use mathlib.Core.Path.{_≡_, refl, sym, ap, _∙_}
 use mathlib.Core.List.{List, [], _∷_}
 use Prim.Native.Nat.{ℕ, suc, _+_, _*_, _/_, _%_, _≤_, _<_}
 use native.Mathlib.Omega.{arith}
-use lib.ListN.{length, getD}
+use lib.ListN.{length, take, drop, getD}
+use lib.Seq.{getD-take, getD-drop}
 use Rattle.model.specs.Basic.{gather}
 use Rattle.model.specs.Image.{wordAt, bytesOf}
 use Rattle.laws.proofs.Places.{At}
@@ -68,3 +69,16 @@ bytes-at (a ∷ b ∷ c ∷ d ∷ img) (x ∷ ws) f e h =
 pub word-fits : (img : List ℕ) → ((k : ℕ) → getD img k 0 < 256) → (i : ℕ) → wordAt img i ≤ 4294967295
 unfolding wordAt
 word-fits img f i = omega (arith, f (i * 4), f (i * 4 + 1), f (i * 4 + 2), f (i * 4 + 3))
+
+-- the words of n bytes that start with word o
+pub part-word : (img : List ℕ) (o n i : ℕ) → i * 4 + 3 < n → wordAt (take n (drop (o * 4) img)) i ≡ wordAt img (o + i)
+unfolding wordAt
+part-word img o n i h =
+    let b0 = byte (i * 4) ((o + i) * 4) (omega arith) (omega arith) in
+    let b1 = byte (i * 4 + 1) ((o + i) * 4 + 1) (omega arith) (omega arith) in
+    let b2 = byte (i * 4 + 2) ((o + i) * 4 + 2) (omega arith) (omega arith) in
+    let b3 = byte (i * 4 + 3) ((o + i) * 4 + 3) (omega arith) (omega arith) in
+    λ j. b0 j + b1 j * 256 + b2 j * 65536 + b3 j * 16777216
+  where
+    byte : (k p : ℕ) → k < n → o * 4 + k ≡ p → getD (take n (drop (o * 4) img)) k 0 ≡ getD img p 0
+    byte k p g e = getD-take n (drop (o * 4) img) k 0 g ∙ getD-drop (o * 4) img k 0 ∙ ap (λ (x : ℕ). getD img x 0) e

@@ -1,26 +1,31 @@
-use mathlib.Core.Path.{sym, _∙_}
+use mathlib.Core.Path.{sym, ap, _∙_}
 use mathlib.Core.Bool.{true}
+use Prim.Native.Nat.{_<_}
 use native.Mathlib.Omega.{arith}
 use lib.ListN.{take, getD}
+use lib.Seq.{length-take-le}
 use borrow.Author.Needs.{needs}
-use borrow.Author.Tests.{not-true, not-false, le-leb, lt-leb}
-use Rattle.model.specs.Basic.{all}
-use Rattle.model.specs.Tokens.{startsName, isNameByte}
+use borrow.Author.Tests.{not-true, not-false}
+use Rattle.model.specs.Tokens.{isName}
 use Rattle.laws.proofs.Tests.{one-fails, last-decides}
-use Rattle.characters.proofs.Laws.{starts-here}
-use Rattle.stored_names.proofs.Names.{run-through, run-breaks, nameTests, name-spelt, no-keyword, empty-name}
+use Rattle.stored_names.proofs.Names.{nameTests, name-spelt, no-keyword, starts-take, untidy, byte-after, front-is, spelt}
 use Rattle.stored_names.proofs.is_name.Statement.{statement}
 use Rattle.stored_names.proofs.is_name.Tie as tie
 
+tidy-end-requires : tie.Need-tidy-end-requires
+tidy-end-requires c κs = search needs
+
 returns : tie.Need-returns
-returns c =
-    let w = c .before .before .args .w .now in
-    sym (sym (name-spelt w) ∙ one-fails _ 3 (lt-leb _ _ (c .if1 .taken)))
+returns c = sym (untidy (c .before .before .before .args .s .now) _ (c .before .tidy-end .ensures .0) (c .if1 .taken))
+
+byte-requires : tie.Need-byte-requires
+byte-requires c κs = search needs
 
 returns-2 : tie.Need-returns-2
 returns-2 c =
-    let w = c .before .before .before .args .w .now in
-    sym (empty-name w (c .if2 .taken))
+    let end = c .before .before .before in
+    let s = end .before .before .args .s .now in
+    sym (byte-after s (end .tidy-end .result) (end .tidy-end .ensures .0) (omega (arith, c .before .before .if1 .left)) (λ e. c .if2 .taken (c .before .byte .ensures ∙ e)))
 
 shared-slice-read-starts-name : tie.Need-shared-slice-read-starts-name
 shared-slice-read-starts-name c = search needs
@@ -30,57 +35,51 @@ starts-name-requires c κs = search needs
 
 returns-3 : tie.Need-returns-3
 returns-3 c =
-    let w = c .before .before .before .before .before .before .args .w .now in
-    let first = starts-here startsName w 0 (omega arith) in
-    sym (sym (name-spelt w) ∙ one-fails _ 0 (first ∙ sym (c .before .starts-name .ensures) ∙ not-true _ (c .if3 .taken)))
+    let zero = c .before .before .before in
+    let some = zero .before .before in
+    let end = some .before in
+    let s = end .before .before .args .s .now in
+    let n = end .tidy-end .result in
+    let h : 0 < n = omega (arith, some .if1 .left) in
+    let first = starts-take _ s n h (end .tidy-end .ensures .1) ∙ sym (c .before .starts-name .ensures) ∙ not-true _ (c .if3 .taken) in
+    let front = front-is s n (end .tidy-end .ensures .0) h (sym (zero .before .byte .ensures) ∙ zero .if2 .left) in
+    sym (ap isName front ∙ sym (name-spelt (take n s)) ∙ one-fails (nameTests (take n s)) 0 first)
 
-name-end-requires : tie.Need-name-end-requires
-name-end-requires c κs = search needs
-
-returns-4 : tie.Need-returns-4
-returns-4 c =
-    let w = c .before .before .before .before .before .before .before .before .args .w .now in
-    let e = c .before .name-end .ensures .0 in
-    sym (sym (name-spelt w) ∙ one-fails _ 1 (run-breaks isNameByte w (omega (arith, e, c .if4 .taken))))
-
-is-tidy-requires : tie.Need-is-tidy-requires
-is-tidy-requires c κs = search needs
-
-returns-5 : tie.Need-returns-5
-returns-5 c =
-    let w = c .before .before .before .before .before .before .before .before .before .before .args .w .now in
-    sym (sym (name-spelt w) ∙ one-fails _ 2 (sym (c .before .is-tidy .ensures) ∙ not-true _ (c .if5 .taken)))
+slice-aggregate-keyword-at : tie.Need-slice-aggregate-keyword-at
+slice-aggregate-keyword-at c =
+    let end = c .before .before .before .before .before .before .before in
+    sym (length-take-le (end .tidy-end .result) (end .before .before .args .s .now) (end .tidy-end .ensures .1))
 
 keyword-at-requires : tie.Need-keyword-at-requires
 keyword-at-requires c κs = search needs
 
-returns-6 : tie.Need-returns-6
-returns-6 c =
-    let tidy = c .before in
-    let through = tidy .before .before in
-    let first = through .before .before in
-    let short = first .before .before .before .before in
-    let w = short .before .before .args .w .now in
-    let tests = nameTests w in
-    let starts = starts-here startsName w 0 (omega arith) ∙ sym (first .before .starts-name .ensures) ∙ not-false _ (first .if3 .left) in
-    let all = run-through isNameByte w (omega (arith, through .before .name-end .ensures .0, through .if4 .left)) in
-    let none = sym (tidy .before .is-tidy .ensures) ∙ not-false _ (tidy .if5 .left) in
-    let few = le-leb _ _ (short .if1 .left) in
-    no-keyword w _ (c .keyword-at .ensures .0) (c .keyword-at .ensures .1)
-    ∙ sym (sym (name-spelt w) ∙ last-decides (take 4 tests) (getD tests 4 true) (starts, (all, (none, (few, tt)))))
+returns-4 : tie.Need-returns-4
+returns-4 c =
+    let first = c .before .before in
+    let zero = first .before .before .before in
+    let some = zero .before .before in
+    let end = some .before in
+    let s = end .before .before .args .s .now in
+    let n = end .tidy-end .result in
+    let e = end .tidy-end .ensures .0 in
+    let h : 0 < n = omega (arith, some .if1 .left) in
+    let tests = nameTests (take n s) in
+    let begins = sym (first .before .starts-name .ensures) ∙ not-false _ (first .if3 .left) in
+    let front = front-is s n e h (sym (zero .before .byte .ensures) ∙ zero .if2 .left) in
+    no-keyword (take n s) _ (c .keyword-at .ensures .0) (c .keyword-at .ensures .1)
+    ∙ sym (ap isName front ∙ sym (name-spelt (take n s)) ∙ last-decides (take 4 tests) (getD tests 4 true) (spelt s n e h (end .tidy-end .ensures .1) (search needs) begins))
 
 pub is-name-spec : {M : Type 1} → statement M
 is-name-spec =
     tie.close
     (tie.spec
+    tidy-end-requires
     returns
+    byte-requires
     returns-2
     shared-slice-read-starts-name
     starts-name-requires
     returns-3
-    name-end-requires
-    returns-4
-    is-tidy-requires
-    returns-5
+    slice-aggregate-keyword-at
     keyword-at-requires
-    returns-6)
+    returns-4)
