@@ -1,7 +1,7 @@
 // The rules of a stored image: their rows, numbers, weights, conditions and conclusions.
 ghost use mathlib.Core.Path.{_≡_};
-ghost use mathlib.Core.Bool.{true, _&&_, not};
-ghost use Prim.Native.Nat.{ℕ, _+_, _-_, _≤_, _<_};
+ghost use mathlib.Core.Bool.{true, false, _&&_, not};
+ghost use Prim.Native.Nat.{_+_, _-_, _≤_, _<_};
 ghost use lib.Dec.{leb, eqb};
 ghost use Rattle.model.specs.Basic.{all, between, distinct};
 ghost use Rattle.model.specs.Bounds.{ruleLimit, ruleNumberLeast, ruleNumberLimit};
@@ -17,8 +17,8 @@ use header::output_row;
 use header::rule_row;
 use words::word;
 
-// Above all rule numbers.
-const NUMBERS: usize = bounds::RULE_NUMBER + 1;
+// Remainders by which rule numbers are told apart.
+const REMAINDERS: usize = 256;
 
 // Which condition words and which conclusions of all are a rule's.
 struct Parts {
@@ -163,14 +163,14 @@ fn rows_ok(img: &[u8], h: Header, m: usize) -> bool
     k == h.conclusions
 }
 
-// Whether no later rule has the number of rule i; none of theirs is below `least`.
-fn differs(img: &[u8], h: Header, i: usize, number: usize, least: usize) -> bool
+// Whether no later rule has this number of rule i; it is known where none of theirs leaves its remainder.
+fn differs(img: &[u8], h: Header, i: usize, number: usize, met: bool) -> bool
     requires { ⌜ Heads (wordAt (now img)) h × (h .rules ≤ ruleLimit) × (i < h .rules)
-        × ((j : ℕ) → i < j → j < h .rules → least ≤ ruleNumber (wordAt (now img)) j) ⌝ }
+        × (met ≡ false → all (λ n. not (eqb number n)) (tab (ruleNumber (wordAt (now img))) (h .rules - (i + 1)) (i + 1)) ≡ true) ⌝ }
     ensures { λ r. ⌜ r ≡ all (λ n. not (eqb number n))
         (tab (ruleNumber (wordAt (now (img .entry)))) (h .rules - (i + 1)) (i + 1)) ⌝ }
 {
-    if number < least {
+    if !met {
         return true;
     }
     let e = h.rules;
@@ -184,29 +184,21 @@ fn differs(img: &[u8], h: Header, i: usize, number: usize, least: usize) -> bool
     true
 }
 
-fn lesser(a: usize, b: usize) -> usize
-    ensures { λ r. ⌜ (r ≤ a) × (r ≤ b) ⌝ }
-{
-    if a < b {
-        return a;
-    }
-    b
-}
-
-// From the last rule on: where the numbers rise, each is below all later ones, and nothing more is compared.
+// From the last rule on: only numbers that leave the same remainder are compared.
 fn numbers_distinct(img: &[u8], h: Header) -> bool
     requires { ⌜ Heads (wordAt (now img)) h × (h .rules ≤ ruleLimit) ⌝ }
     ensures { λ r. ⌜ r ≡ distinct eqb (tab (ruleNumber (wordAt (now (img .entry)))) (h .rules) 0) ⌝ }
 {
-    let mut least = NUMBERS;
+    let mut met = [false; REMAINDERS];
     let mut i = h.rules;
     while 0 < i {
         i -= 1;
         let number = word(img, rule_row(h, i));
-        if !differs(img, h, i, number, least) {
+        let r = number % REMAINDERS;
+        if !differs(img, h, i, number, met[r]) {
             return false;
         }
-        least = lesser(number, least);
+        met[r] = true;
     }
     true
 }

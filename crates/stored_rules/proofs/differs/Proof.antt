@@ -3,29 +3,25 @@ use native.Mathlib.Omega.{arith}
 use mathlib.Core.Path.{_≡_, sym, ap, _∙_}
 use mathlib.Core.Bool.{not}
 use Prim.Native.Nat.{ℕ, _+_, _-_}
-use borrow.Author.Tests.{eq-eqb, ne-eqb}
+use borrow.Author.Tests.{eq-eqb, ne-eqb, not-true}
 use lib.Dec.{eqb}
 use Rattle.model.specs.Basic.{all}
 use Rattle.model.specs.Image.{wordAt, tab}
 use Rattle.laws.proofs.Places.{all-more, all-stop, all-end}
 use Rattle.stored_rules.specs.Walk.{ruleNumber}
-use Rattle.stored_rules.proofs.Numbers.{lower}
 use Rattle.stored_rules.proofs.differs.Statement.{statement}
 use Rattle.stored_rules.proofs.differs.Tie as tie
 
 abbrev Inv-loop : tie.InvT-loop
-Inv-loop img h i number least e j₀ j =
+Inv-loop img h i number met e j₀ j =
     all (λ n. not (eqb number n)) (tab (ruleNumber (wordAt img)) (e - j) j)
     ≡ all (λ n. not (eqb number n)) (tab (ruleNumber (wordAt img)) (e - (i + 1)) (i + 1))
 
 abbrev μ-loop : tie.MeasureT-loop
-μ-loop img h i number least e j₀ j = e - j
+μ-loop img h i number met e j₀ j = e - j
 
 returns : tie.Need-returns Inv-loop μ-loop
-returns c =
-    let s = c .before .before in
-    let a = s .args in
-    sym (lower (ruleNumber (wordAt (a .img .now))) (a .h .rules) (a .number) (a .least) (a .i + 1) (c .if1 .taken) (λ j low high. s .pre .3 j (omega arith) high))
+returns c = sym (c .before .before .pre .3 (not-true _ (c .if1 .taken)))
 
 add-j : tie.Need-add-j Inv-loop μ-loop
 add-j c = search needs

@@ -1,25 +1,27 @@
 use borrow.Author.Needs.{needs}
-use mathlib.Core.Path.{_≡_, sym, ap, _∙_}
+use mathlib.Core.Path.{_≡_, sym, ap, _∙_, subst}
 use mathlib.Core.Bool.{true, not}
-use Prim.Native.Nat.{ℕ, _+_, _-_, _≤_, _<_}
+use Prim.Native.Nat.{ℕ, _+_, _-_, _%_, _≤_, _<_}
 use native.Mathlib.Omega.{arith}
 use native.Mathlib.Nat.{sub-zero}
 use borrow.Author.Tests.{not-true, not-false}
 use lib.Dec.{eqb}
+use lib.ListN.{length, set, length-set}
 use Rattle.model.specs.Basic.{all, distinct}
 use Rattle.model.specs.Image.{wordAt, tab}
 use Rattle.laws.proofs.Places.{distinct-more, distinct-stop, distinct-end}
 use Rattle.stored_rules.specs.Walk.{ruleNumber}
-use Rattle.stored_rules.proofs.Numbers.{From, from-more, distinct-less}
+use Rattle.stored_rules.proofs.Numbers.{Met, unmet, met-more, distinct-less}
 use Rattle.stored_rules.proofs.numbers_distinct.Statement.{statement}
 use Rattle.stored_rules.proofs.numbers_distinct.Tie as tie
 
 abbrev Inv-loop : tie.InvT-loop
-Inv-loop img h least₀ i₀ least i =
-    (i ≤ h .rules) × (distinct eqb (tab (ruleNumber (wordAt img)) (h .rules - i) i) ≡ true) × From (ruleNumber (wordAt img)) (h .rules) i least
+Inv-loop img h met₀ i₀ met i =
+    (i ≤ h .rules) × (length met ≡ 256)
+    × (distinct eqb (tab (ruleNumber (wordAt img)) (h .rules - i) i) ≡ true) × Met (ruleNumber (wordAt img)) (h .rules) i met
 
 abbrev μ-loop : tie.MeasureT-loop
-μ-loop img h least₀ i₀ least i = i
+μ-loop img h met₀ i₀ met i = i
 
 inside : (c : tie.In-loop Inv-loop μ-loop) → c .before .loop .i - 1 < c .before .before .before .args .h .rules
 inside c = omega (arith, c .before .loop .inv .0)
@@ -53,7 +55,7 @@ loop-holds : tie.Need-loop-holds Inv-loop μ-loop
 loop-holds c =
     let a = c .before .args in
     let f = ruleNumber (wordAt (a .img .now)) in
-    (search needs, distinct-end eqb f (a .h .rules) (a .h .rules) (omega arith), λ j low high. absurd (omega arith))
+    (search needs, search needs, distinct-end eqb f (a .h .rules) (a .h .rules) (omega arith), λ j low high. absurd (omega arith))
 
 sub-i : tie.Need-sub-i Inv-loop μ-loop
 sub-i c = search needs
@@ -67,11 +69,16 @@ rule-row-requires c κs =
 word-requires : tie.Need-word-requires Inv-loop μ-loop
 word-requires c κs = search needs
 
+array-read-differs : tie.Need-array-read-differs Inv-loop μ-loop
+array-read-differs c = search needs
+
 differs-requires : tie.Need-differs-requires Inv-loop μ-loop
 differs-requires c κs =
-    let l = c .before .before .before in
-    let s = l .before .before in
-    (s .pre .0, s .pre .1, inside (c .before .before), λ j low high. l .loop .inv .2 j (omega arith) high)
+    let t = c .before .before in
+    let l = t .before .loop in
+    let s = t .before .before .before in
+    let f = ruleNumber (wordAt (s .args .img .now)) in
+    (s .pre .0, s .pre .1, inside t, unmet f (s .args .h .rules) _ (l .i - 1 + 1) (l .met) (rw (back t) (l .inv .3)))
 
 returns : tie.Need-returns Inv-loop μ-loop
 returns c =
@@ -82,32 +89,33 @@ returns c =
     let q = distinct-stop eqb f (a .h .rules) i (inside t) (sym (told (c .before)) ∙ not-true _ (c .if1 .taken)) in
     sym (distinct-less f (a .h .rules) i (omega (arith, inside t)) q)
 
-lesser-requires : tie.Need-lesser-requires Inv-loop μ-loop
-lesser-requires c κs = search needs
+array-write-met : tie.Need-array-write-met Inv-loop μ-loop
+array-write-met c = search needs
 
 loop-less : tie.Need-loop-less Inv-loop μ-loop
 loop-less c = search needs
 
 loop-again : tie.Need-loop-again Inv-loop μ-loop
 loop-again c =
-    let d = c .before .before in
+    let d = c .before in
     let t = d .before .before .before in
     let a = t .before .before .before .args in
     let f = ruleNumber (wordAt (a .img .now)) in
+    let e = a .h .rules in
     let l = t .before .loop in
     let i = l .i - 1 in
-    let n = number-is (d .before) in
-    let q = distinct-more eqb f (a .h .rules) i (inside t) (sym (told d) ∙ not-false _ (c .before .if1 .left)) in (
+    let q = distinct-more eqb f e i (inside t) (sym (told d) ∙ not-false _ (c .if1 .left)) in (
       omega (arith, inside t),
-      q ∙ rw (back t) (l .inv .1),
-      from-more f (a .h .rules) i (l .least) _ (omega (arith, n, c .lesser .ensures .0)) (c .lesser .ensures .1) (rw (back t) (l .inv .2)),
+      length-set (l .met) _ _ ∙ l .inv .1,
+      q ∙ rw (back t) (l .inv .2),
+      subst (λ (x : ℕ). Met f e i (set (l .met) (x % 256) true)) (sym (number-is (d .before))) (met-more f e i (l .met) (l .inv .1) (rw (back t) (l .inv .3))),
     )
 
 returns-2 : tie.Need-returns-2 Inv-loop μ-loop
 returns-2 c =
     let l = c .before .loop in
     let e : l .i ≡ 0 = omega arith in
-    sym (rw (e, sub-zero) at (l .inv .1))
+    sym (rw (e, sub-zero) at (l .inv .2))
 
 pub numbers-distinct-spec : {M : Type 1} → statement M
 numbers-distinct-spec =
@@ -119,9 +127,10 @@ numbers-distinct-spec =
     sub-i
     rule-row-requires
     word-requires
+    array-read-differs
     differs-requires
     returns
-    lesser-requires
+    array-write-met
     loop-less
     loop-again
     returns-2)
