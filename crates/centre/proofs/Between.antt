@@ -14,7 +14,8 @@ use Rattle.model.specs.Evaluation.{moment, sumOf}
 use Rattle.nearest.proofs.Laws.{nearest-ge, nearest-le}
 use Rattle.crisp.specs.Crisp.{InCrisp, above}
 use Rattle.crisp.proofs.Laws.{above-mono, crisp-is, diff-le}
-use Rattle.centre.proofs.Moment.{lifted, uneven, nearest-is}
+use Rattle.centre.specs.Centre.{lifted}
+use Rattle.centre.proofs.Moment.{uneven, nearest-is}
 
 -- a height of 0 counts for nothing
 times : (a b h : ℕ) → (0 < h → a ≤ b) → a * h ≤ b * h

@@ -1,3 +1,2 @@
 pub mod Moment
 pub mod Between
-pub mod Arrays

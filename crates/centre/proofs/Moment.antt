@@ -1,6 +1,6 @@
 -- The moment about the lowest crisp value is a natural number; the moment about 0 is that less the crisp limit times the sum.
 use mathlib.Core.Path.{_≡_, refl, sym, ap, _∙_}
-use mathlib.Core.List.{List, [], _∷_}
+use mathlib.Core.List.{List, [], _∷_, _++_}
 use Prim.Native.Nat.{ℕ, suc, _+_, _*_, _<_}
 use native.Mathlib.Omega.{arith}
 use lib.IntN.{ℤ, pos, subℕ, _+ℤ_, _*ℤ_}
@@ -12,11 +12,7 @@ use Rattle.model.specs.Evaluation.{moment, sumOf}
 use Rattle.nearest.proofs.Difference.{same, diff-add, diff-scale, diff-nearest}
 use Rattle.crisp.specs.Crisp.{InCrisp, above}
 use Rattle.crisp.proofs.Laws.{crisp-is}
-
-unfoldable pub lifted : List ℤ → List ℕ → ℕ
-lifted [] hs = 0
-lifted (x ∷ xs) [] = 0
-lifted (x ∷ xs) (h ∷ hs) = above x * h + lifted xs hs
+use Rattle.centre.specs.Centre.{lifted}
 
 pub uneven : {n : ℕ} → 0 ≡ suc n → ⊥
 uneven e = omega arith
@@ -41,3 +37,11 @@ moment-is (p ∷ ps) (h ∷ hs) e c =
 pub nearest-is : (ps : List ℤ) (hs : List ℕ) → length ps ≡ length hs → ((k : ℕ) → k < length ps → InCrisp (getD ps k (pos 0))) → 0 < sumOf hs
     → nearestℤ (moment ps hs) (sumOf hs) ≡ subℕ (nearest (lifted ps hs) (sumOf hs)) crispLimit
 nearest-is ps hs e c p = ap (λ (z : ℤ). nearestℤ z (sumOf hs)) (moment-is ps hs e c) ∙ diff-nearest (lifted ps hs) crispLimit (sumOf hs) p
+
+-- one singleton more
+pub lifted-last : (ps : List ℤ) (hs : List ℕ) (p : ℤ) (h : ℕ) → length ps ≡ length hs → lifted (ps ++ (p ∷ [])) (hs ++ (h ∷ [])) ≡ lifted ps hs + above p * h
+unfolding lifted
+lifted-last [] [] p h e = omega arith
+lifted-last [] (x ∷ hs) p h e = absurd (uneven e)
+lifted-last (y ∷ ps) [] p h e = absurd (uneven (sym e))
+lifted-last (y ∷ ps) (x ∷ hs) p h e = omega (arith, lifted-last ps hs p h (omega arith))

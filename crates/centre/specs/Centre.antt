@@ -1,28 +1,25 @@
--- A helper: singletons as the code holds them, positions and heights, and their figure, which is that of model's
--- `outputAnswer` where the sum of heights is above 0 (`defuzzification/proofs/Answers`).
-use mathlib.Core.List.{List, map}
-use Prim.Native.Nat.{ℕ}
+-- A helper: what the code sums of some singletons, by their positions and heights, and their figure, which is that of
+-- model's `outputAnswer` where the sum of heights is above 0 (`defuzzification/proofs/Answers`).
+use mathlib.Core.Path.{_≡_}
+use mathlib.Core.List.{List, [], _∷_}
+use Prim.Native.Nat.{ℕ, _+_, _*_}
 use lib.Dec.{ltb}
 use lib.IntN.{ℤ, pos}
-use lib.ListN.{getD, take}
+use lib.ListN.{length}
 use Rattle.model.specs.Basic.{if_then_else_}
 use Rattle.model.specs.Degrees.{nearestℤ}
 use Rattle.model.specs.Evaluation.{moment, sumOf}
-use Rattle.model.specs.declared.Crisp.{Crisp}
-use Rattle.model.specs.declared.Degree.{Degree}
+use Rattle.crisp.specs.Crisp.{above}
+use Rattle.centre.specs.declared.Sums.{Sums}
 
-abbrev pub positionAt : List Crisp → ℕ → ℤ
-positionAt ps k = getD ps k (record { 0 = pos 0 }) .0
+-- the moment about the lowest crisp value
+unfoldable pub lifted : List ℤ → List ℕ → ℕ
+lifted [] hs = 0
+lifted (x ∷ xs) [] = 0
+lifted (x ∷ xs) (h ∷ hs) = above x * h + lifted xs hs
 
-abbrev pub heightAt : List Degree → ℕ → ℕ
-heightAt hs k = getD hs k (record { 0 = 0 }) .0
-
--- of the first n
-abbrev pub positions : List Crisp → ℕ → List ℤ
-positions ps n = map (λ c. c .0) (take n ps)
-
-abbrev pub heights : List Degree → ℕ → List ℕ
-heights hs n = map (λ d. d .0) (take n hs)
+abbrev pub SumsOf : Sums → List ℤ → List ℕ → Type 0
+SumsOf s ps hs = (length ps ≡ length hs) × (s .heights ≡ sumOf hs) × (s .moment ≡ lifted ps hs)
 
 -- by positions and heights; 0 where no height is above 0
 abbrev pub figureOf : List ℤ → List ℕ → ℤ

@@ -2,11 +2,19 @@
 use model::Crisp;
 use model::Degree;
 ghost use mathlib.Core.Path.{_≡_};
-ghost use Prim.Native.Nat.{ℕ, _≤_, _<_};
-ghost use Rattle.model.specs.Bounds.{M, termLimit};
-ghost use Rattle.model.specs.Evaluation.{sumOf};
+ghost use mathlib.Core.List.{List, [], _∷_, _++_};
+ghost use Prim.Native.Nat.{ℕ, _+_, _*_, _≤_, _<_};
+ghost use lib.IntN.{ℤ, pos};
+ghost use lib.ListN.{length, getD};
+ghost use Rattle.model.specs.Bounds.{M};
 ghost use Rattle.crisp.specs.Crisp.{InCrisp};
-ghost use Rattle.centre.specs.Centre.{positionAt, heightAt, positions, heights, figureOf};
+ghost use Rattle.centre.specs.Centre.{SumsOf, figureOf};
+
+// Of some singletons the sum of their heights, and their moment about the lowest crisp value.
+pub struct Sums {
+    pub heights: u64,
+    pub moment: u64,
+}
 
 // The sum of the heights, and the figure: 0 where the sum is 0.
 pub struct Centre {
@@ -14,35 +22,37 @@ pub struct Centre {
     pub figure: Crisp,
 }
 
-// Of the first n singletons.
-pub fn centre_of(ps: [Crisp; bounds::TERMS], hs: [Degree; bounds::TERMS], n: usize) -> Centre
-    requires { ⌜ (n ≤ termLimit) × ((k : ℕ) → k < n → InCrisp (positionAt ps k))
-        × ((k : ℕ) → k < n → heightAt hs k ≤ M) ⌝ }
-    ensures { λ r. ⌜ (r .sum ≡ sumOf (heights hs n)) × (r .sum ≤ 7000000) ⌝ }
-    ensures { λ r. ⌜ (r .figure .0 ≡ figureOf (positions ps n) (heights hs n)) × InCrisp (r .figure .0) ⌝ }
+// With one singleton more, of height h at p.
+pub fn added(s: Sums, p: Crisp, h: Degree) -> Sums
+    requires { ⌜ InCrisp (p .0) × (h .0 ≤ M) × (s .heights ≤ 6000000) × (s .moment ≤ 2000000000 * s .heights) ⌝ }
+    ensures { λ r. ⌜ ((ps : List ℤ) (hs : List ℕ) → SumsOf s ps hs
+        → SumsOf r (ps ++ (p .0 ∷ [])) (hs ++ (h .0 ∷ []))) ⌝ }
+    ensures small { λ r. ⌜ (r .heights ≤ s .heights + M) × (r .moment ≤ 2000000000 * r .heights) ⌝ }
 {
-    let mut sum = 0u64;
-    let mut moment = 0u64;
-    let mut i = 0usize;
-    while i < n {
-        let h = hs[i];
-        let p = ps[i];
-        let w = h.0 as u64;
-        let a = crisp::lift(p) as u64;
-        sum += w;
-        moment += a * w;
-        i += 1;
+    let w = h.0 as u64;
+    let a = crisp::lift(p) as u64;
+    Sums {
+        heights: s.heights + w,
+        moment: s.moment + a * w,
     }
-    if sum == 0 {
+}
+
+pub fn centre_of(s: Sums) -> Centre
+    requires { ⌜ (s .heights ≤ 7000000) × (s .moment ≤ 2000000000 * s .heights) ⌝ }
+    ensures { λ r. ⌜ ((ps : List ℤ) (hs : List ℕ) → SumsOf s ps hs
+        → ((k : ℕ) → k < length ps → InCrisp (getD ps k (pos 0))) → r .figure .0 ≡ figureOf ps hs) ⌝ }
+    ensures sum { λ r. ⌜ (r .sum ≡ s .heights) × InCrisp (r .figure .0) ⌝ }
+{
+    if s.heights == 0 {
         return Centre {
             sum: 0,
             figure: Crisp(0),
         };
     }
-    let q = nearest::nearest_quotient(moment, sum) as u32;
+    let q = nearest::nearest_quotient(s.moment, s.heights) as u32;
     let figure = crisp::lower(q);
     Centre {
-        sum: sum as u32,
+        sum: s.heights as u32,
         figure: figure,
     }
 }

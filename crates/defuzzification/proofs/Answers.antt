@@ -1,6 +1,6 @@
 -- The answer of an output by what the code computes of it, and the answers of all.
 use mathlib.Core.Path.{_≡_, refl, sym, ap, _∙_, subst}
-use mathlib.Core.List.{List, _∷_, _++_, map}
+use mathlib.Core.List.{List, [], _∷_, _++_, map}
 use Prim.Native.Nat.{ℕ, zero, suc, _+_, _-_, _≤_, _<_}
 use native.Mathlib.Omega.{arith}
 use lib.IntN.{ℤ, pos}
@@ -14,13 +14,18 @@ use Rattle.model.specs.Evaluation.{moment, sumOf, answerWith, unfired, outputAn
 use Rattle.model.specs.declared.Mark.the-variants.{Fired}
 use Rattle.model.specs.declared.Answer.{Answer}
 use Rattle.model.specs.declared.Crisp.{Crisp}
-use Rattle.laws.proofs.Lists.{map-tab}
+use Rattle.laws.proofs.Lists.{map-tab, tab-append}
 use Rattle.laws.proofs.Places.{length-tab}
 use Rattle.centre.specs.Centre.{figureOf}
 use Rattle.held.proofs.Laws.{held-tab}
 use Rattle.layout.specs.Tables.{outputCount, outputFirstAt}
 use Rattle.layout.specs.Groups.{Sound}
 use Rattle.layout.proofs.Sound.{output-first, outputs-few}
+
+-- one more value of f
+pub tab-more : {A : Type 0} (f : ℕ → A) (k s : ℕ) (y : A) → y ≡ f (s + k) → tab f k s ++ (y ∷ []) ≡ tab f (k + 1) s
+unfolding tab
+tab-more {A} f k s y e = ap (λ (x : A). tab f k s ++ (x ∷ [])) e ∙ sym (tab-append f k 1 s)
 
 pub fired-is : (v : Output) (ps : List ℤ) (hs : List ℕ) (held z : ℤ) (s : ℕ)
     → ps ≡ map (λ t. t .at) (v .terms) → s ≡ sumOf hs → z ≡ figureOf ps hs → 0 < s → answerWith Fired z s ≡ outputAnswer v hs held

@@ -1,15 +1,14 @@
 // From the heights of the output terms to the answer of each output, and the held record after it.
 ghost use mathlib.Core.Path.{_≡_};
 ghost use mathlib.Core.List.{map};
-ghost use Prim.Native.Nat.{_+_, _≤_, _<_};
-ghost use Rattle.model.specs.Bounds.{termLimit, outputTermLimit};
+ghost use Prim.Native.Nat.{_≤_, _<_};
 ghost use Rattle.model.specs.Image.{wordAt, tab, singletonAt, outputAt};
 ghost use Rattle.model.specs.Evaluation.{unfired, outputAnswer, noAnswer, padded, heldOf};
 ghost use Rattle.header.specs.Header.{Heads};
-ghost use Rattle.centre.specs.Centre.{positions, heights};
 ghost use Rattle.layout.specs.Tables.{inputTermsIn, outputCount, outputFirstAt};
 ghost use Rattle.layout.specs.Groups.{Sound};
 ghost use Rattle.defuzzification.specs.Outputs.{heightOf, HeightsOk, answersBy};
+use centre::Sums;
 use header::Header;
 use model::Answer;
 use model::Crisp;
@@ -26,36 +25,6 @@ fn position(img: &[u8], h: Header, t: usize) -> Crisp
 {
     let first = word(img, header::term_row(h, t) + header::TERM_FIRST);
     crisp_at(img, header::point_row(h, first))
-}
-
-// The positions of the n terms from the first on.
-fn positions_of(img: &[u8], h: Header, first: usize, n: usize) -> [Crisp; bounds::TERMS]
-    requires { ⌜ Heads (wordAt (now img)) h × (first ≤ 4294967295) × (n ≤ termLimit) ⌝ }
-    ensures { λ r. ⌜ positions r n ≡ map (λ s. s .at) (tab (singletonAt (wordAt (now (img .entry)))) n first) ⌝ }
-{
-    let mut ps = [Crisp(0); bounds::TERMS];
-    let mut i = 0usize;
-    while i < n {
-        let p = position(img, h, first + i);
-        ps[i] = p;
-        i += 1;
-    }
-    ps
-}
-
-// The heights of the n terms from the one at place `from` on.
-fn heights_of(hs: [Degree; bounds::OUTPUT_TERMS], from: usize, n: usize) -> [Degree; bounds::TERMS]
-    requires { ⌜ (from + n ≤ outputTermLimit) × (n ≤ termLimit) ⌝ }
-    ensures { λ r. ⌜ heights r n ≡ tab (heightOf hs 0) n from ⌝ }
-{
-    let mut r = [Degree(0); bounds::TERMS];
-    let mut i = 0usize;
-    while i < n {
-        let h = hs[from + i];
-        r[i] = h;
-        i += 1;
-    }
-    r
 }
 
 // The answer of output i where no height is above 0.
@@ -101,9 +70,17 @@ fn answer(
     let row = header::output_row(h, i);
     let first = word(img, row + header::OUTPUT_FIRST);
     let n = word(img, row + header::OUTPUT_TERMS);
-    let ps = positions_of(img, h, first, n);
-    let ws = heights_of(hs, first - m, n);
-    let c = centre::centre_of(ps, ws, n);
+    let mut sums = Sums {
+        heights: 0,
+        moment: 0,
+    };
+    let mut k = 0;
+    while k < n {
+        let w = hs[first - m + k];
+        sums = centre::added(sums, position(img, h, first + k), w);
+        k += 1;
+    }
+    let c = centre::centre_of(sums);
     if c.sum == 0 {
         return without_rule(img, h, i, held);
     }
