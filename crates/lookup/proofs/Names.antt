@@ -1,10 +1,11 @@
 -- Laws of names as places in a text: when two are the same, rows by their names, and a table with one more.
-use mathlib.Core.Path.{_≡_, refl, sym, _∙_}
+use mathlib.Core.Path.{_≡_, refl, sym, ap, _∙_}
 use mathlib.Core.List.{List}
-use mathlib.Core.Bool.{Bool, true, false}
+use mathlib.Core.Bool.{Bool, true, false, and-false}
 use Prim.Native.Nat.{ℕ, zero, suc, _+_, _-_, _≤_, _<_}
 use native.Mathlib.Omega.{arith}
 use borrow.Author.Tests.{eq-eqb, ne-eqb, eqb-true, eqb-false}
+use lib.Arith.{lt-of-le-ne}
 use lib.Dec.{eqb}
 use lib.ListN.{length, getD, set, length-set}
 use lib.Seq.{slice, slice-cons, slice-empty, length-slice, getD-set-same, getD-set-other}
@@ -20,22 +21,42 @@ module _ (s : List ℕ) (a e b f : ℕ) (he : e ≤ length s) (hf : f ≤ length
   unfolding sameName
   differ-long h = other-length (slice a e s) (slice b f s) (λ q. h (sym (length-slice a e s he) ∙ q ∙ length-slice b f s hf))
 
-  module _ (j : ℕ) (ha : a + j < e) (hb : b + j < f) where
-    pub alike-more : getD s (a + j) 0 ≡ getD s (b + j) 0
-        → sameName (slice (a + j) e s) (slice (b + j) f s) ≡ sameName (slice (a + (j + 1)) e s) (slice (b + (j + 1)) f s)
-    unfolding sameName
-    alike-more q =
-        let ka : a + (j + 1) ≡ suc (a + j) = omega arith in
-        let kb : b + (j + 1) ≡ suc (b + j) = omega arith in
-        rw (ka, kb, slice-cons (a + j) e s 0 ha he, slice-cons (b + j) f s 0 hb hf) (simp (eq-eqb _ _ q))
-
-    pub differ-here : (getD s (a + j) 0 ≡ getD s (b + j) 0 → ⊥) → sameName (slice (a + j) e s) (slice (b + j) f s) ≡ false
-    unfolding sameName
-    differ-here q = rw (slice-cons (a + j) e s 0 ha he, slice-cons (b + j) f s 0 hb hf) (simp (ne-eqb _ _ q))
-
-pub alike-end : (s : List ℕ) (a e b f : ℕ) → a ≡ e → b ≡ f → sameName (slice a e s) (slice b f s) ≡ true
+pub differ-at : (s : List ℕ) (j a e b f : ℕ) → e ≤ length s → f ≤ length s → a + j < e → b + j < f → (getD s (a + j) 0 ≡ getD s (b + j) 0 → ⊥)
+    → sameName (slice a e s) (slice b f s) ≡ false
 unfolding sameName
-alike-end s a e b f p q = rw (p, q, slice-empty e s, slice-empty f s)
+differ-at s zero a e b f he hf ha hb q =
+    let p : a + 0 ≡ a = omega arith in
+    let r : b + 0 ≡ b = omega arith in
+    rw (slice-cons a e s 0 (omega arith) he, slice-cons b f s 0 (omega arith) hf) (simp (ne-eqb _ _ (λ z. q (simp (p, r) z))))
+differ-at s (suc j) a e b f he hf ha hb q =
+    let p : a + suc j ≡ suc a + j = omega arith in
+    let r : b + suc j ≡ suc b + j = omega arith in
+    rw (
+      slice-cons a e s 0 (omega arith) he,
+      slice-cons b f s 0 (omega arith) hf,
+      differ-at s j (suc a) e (suc b) f he hf (omega arith) (omega arith) (λ z. q (rw (p, r) z)),
+    ) (and-false (eqb (getD s a 0) (getD s b 0)))
+
+pub alike : (s : List ℕ) (n a e b f : ℕ) → a + n ≡ e → b + n ≡ f → e ≤ length s → f ≤ length s
+    → ((k : ℕ) → k < n → getD s (a + k) 0 ≡ getD s (b + k) 0) → sameName (slice a e s) (slice b f s) ≡ true
+unfolding sameName
+alike s zero a e b f ha hb he hf q =
+    let p : a ≡ e = omega arith in
+    let r : b ≡ f = omega arith in
+    rw (p, r, slice-empty e s, slice-empty f s)
+alike s (suc n) a e b f ha hb he hf q =
+    let z : getD s a 0 ≡ getD s b 0 = ap (λ (k : ℕ). getD s k 0) (omega arith) ∙ q 0 (omega arith) ∙ ap (λ (k : ℕ). getD s k 0) (omega arith) in
+    rw (slice-cons a e s 0 (omega arith) he, slice-cons b f s 0 (omega arith) hf)
+    (simp (eq-eqb _ _ z) (alike s n (suc a) e (suc b) f (omega arith) (omega arith) he hf
+    (λ k h. ap (λ (i : ℕ). getD s i 0) (omega arith) ∙ q (suc k) (omega arith) ∙ ap (λ (i : ℕ). getD s i 0) (omega arith))))
+
+-- one place more, downwards
+pub one-back : (P : ℕ → Type 0) (j n : ℕ) → 0 < j → P (j - 1) → ((m : ℕ) → j ≤ m → m < n → P m) → (m : ℕ) → j - 1 ≤ m → m < n → P m
+one-back P j n h p q m a b = by (eqb m (j - 1)) refl
+  where
+    by : (t : Bool) → eqb m (j - 1) ≡ t → P m
+    by true e = rw (eqb-true m (j - 1) e) p
+    by false e = let z = lt-of-le-ne a (λ w. eqb-false m (j - 1) e (sym w)) in q m (omega arith) b
 
 -- rows are found by their names
 pub index-tab : {A : Type 0} (name : A → List ℕ) (f : ℕ → A) (g : ℕ → List ℕ) (w : List ℕ) → ((k : ℕ) → name (f k) ≡ g k)

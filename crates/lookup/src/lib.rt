@@ -35,13 +35,14 @@ pub fn find(s: &[u8], names: &Names, from: usize, count: usize, start: usize, en
         let a = names[k];
         let e = names[ENDS + k];
         if e - a == n {
-            let mut j: usize = 0;
-            while j < n {
+            // From the last byte on: names of one kind differ there.
+            let mut j = n;
+            while 0 < j {
+                j -= 1;
                 if s[start + j] != s[a + j] {
                     i += 1;
                     continue 'search;
                 }
-                j += 1;
             }
             break 'search;
         }

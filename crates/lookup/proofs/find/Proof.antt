@@ -1,7 +1,6 @@
-use mathlib.Core.Path.{_≡_, refl, sym, _∙_}
-use Prim.Native.Nat.{_+_, _-_, _≤_}
+use mathlib.Core.Path.{_≡_, refl, sym}
+use Prim.Native.Nat.{ℕ, _+_, _-_, _≤_, _<_}
 use native.Mathlib.Omega.{arith}
-use native.Mathlib.Numerals.{unary-clauses}
 use borrow.Author.Needs.{needs}
 use lib.ListN.{getD}
 use lib.Seq.{slice}
@@ -14,10 +13,10 @@ use Rattle.lookup.proofs.find.Tie as tie
 
 abbrev Inv-loop : tie.InvT-loop
 Inv-loop s names from count start end n i₀ k a e j₀ i j =
-    (i ≡ i₀) × (j ≤ n) × (sameName (slice (start + j) end s) (slice (a + j) e s) ≡ sameName (slice start end s) (slice a e s))
+    (i ≡ i₀) × (j ≤ n) × ((m : ℕ) → j ≤ m → m < n → getD s (start + m) 0 ≡ getD s (a + m) 0)
 
 abbrev μ-loop : tie.MeasureT-loop
-μ-loop s names from count start end n i₀ k a e j₀ i j = n - j
+μ-loop s names from count start end n i₀ k a e j₀ i j = j
 
 abbrev Inv-search : tie.InvT-search
 Inv-search s names from count start end n i₀ i = Past (sameName (slice start end s)) (nameOf s names) count from i
@@ -55,7 +54,10 @@ sub-if1 : tie.Need-sub-if1 Inv-loop μ-loop Inv-search μ-search
 sub-if1 c = c .before .before .before .before .pre .3 .order _ (omega arith)
 
 loop-holds : tie.Need-loop-holds Inv-loop μ-loop Inv-search μ-search
-loop-holds c = (refl, search needs, simp unary-clauses)
+loop-holds c = (refl, omega arith, λ m p q. absurd (omega arith))
+
+sub-j : tie.Need-sub-j Inv-loop μ-loop Inv-search μ-search
+sub-j c = search needs
 
 add-if2 : tie.Need-add-if2 Inv-loop μ-loop Inv-search μ-search
 add-if2 c = search needs
@@ -94,13 +96,10 @@ search-again c =
     let k = a .from + o .i in
     let e = z .pre .3 .inside (112 + k) in
     let h = z .pre .3 .order k (omega arith) in
-    let q = laws.differ-here (a .s .now) (a .start) (a .end) (getD names k 0) (getD names (112 + k) 0) (z .pre .1) e (l .j) (omega arith)
+    let q = laws.differ-at (a .s .now) (l .j - 1) (a .start) (a .end) (getD names k 0) (getD names (112 + k) 0) (z .pre .1) e (omega arith)
     (omega arith) (c .if2 .taken) in
     let same = sameName (slice (a .start) (a .end) (a .s .now)) in
-    rw (l .inv .0) (past-more same (nameOf (a .s .now) names) (a .count) (a .from) (o .i) (search needs) (sym (l .inv .2) ∙ q) (o .inv))
-
-add-j : tie.Need-add-j Inv-loop μ-loop Inv-search μ-search
-add-j c = search needs
+    rw (l .inv .0) (past-more same (nameOf (a .s .now) names) (a .count) (a .from) (o .i) (search needs) q (o .inv))
 
 loop-less : tie.Need-loop-less Inv-loop μ-loop Inv-search μ-search
 loop-less c = search needs
@@ -109,17 +108,15 @@ loop-again : tie.Need-loop-again Inv-loop μ-loop Inv-search μ-search
 loop-again c =
     let c4 = c .before .before .before .before in
     let c9 = c4 .before .before .before .before .before in
-    let z = c9 .before in
-    let o = c9 .search in
+    let a = c9 .before .args in
     let l = c4 .loop in
-    let a = z .args in
-    let names = a .names .now in
-    let k = a .from + o .i in
-    let e = z .pre .3 .inside (112 + k) in
-    let h = z .pre .3 .order k (omega arith) in
-    let q = laws.alike-more (a .s .now) (a .start) (a .end) (getD names k 0) (getD names (112 + k) 0) (z .pre .1) e (l .j) (omega arith) (omega arith)
-    (c .if2 .left) in
-    (l .inv .0, search needs, sym q ∙ l .inv .2)
+    let k = a .from + c9 .search .i in
+    let s = a .s .now in (
+      l .inv .0,
+      search needs,
+      laws.one-back (λ m. getD s (a .start + m) 0 ≡ getD s (getD (a .names .now) k 0 + m) 0) (l .j) (a .end - a .start) (c .before .before .before .loop-test .taken)
+          (c .if2 .left) (l .inv .2),
+    )
 
 add-i-2 : tie.Need-add-i-2 Inv-loop μ-loop Inv-search μ-search
 add-i-2 c = search needs
@@ -156,9 +153,10 @@ returns-2 c =
     let names = a .names .now in
     let k = a .from + o .i in
     let h = z .pre .3 .order k (omega arith) in
-    let q = laws.alike-end (a .s .now) (a .start + l .j) (a .end) (getD names k 0 + l .j) (getD names (112 + k) 0) (omega arith) (omega arith) in
+    let q = laws.alike (a .s .now) (a .end - a .start) (a .start) (a .end) (getD names k 0) (getD names (112 + k) 0) (omega arith) (omega arith) (z .pre .1)
+    (z .pre .3 .inside (112 + k)) (λ m b. l .inv .2 m (omega arith) b) in
     let same = sameName (slice (a .start) (a .end) (a .s .now)) in
-    rw (l .inv .0) (past-here same (nameOf (a .s .now) names) (a .count) (a .from) (o .i) (search needs) (sym (l .inv .2) ∙ q) (o .inv), search needs)
+    rw (l .inv .0) (past-here same (nameOf (a .s .now) names) (a .count) (a .from) (o .i) (search needs) q (o .inv), search needs)
 
 pub find-spec : {M : Type 1} → statement M
 find-spec =
@@ -178,6 +176,7 @@ find-spec =
     element-copy-out-e
     sub-if1
     loop-holds
+    sub-j
     add-if2
     shared-slice-read-if2
     add-if2-2
@@ -185,7 +184,6 @@ find-spec =
     add-i
     search-less
     search-again
-    add-j
     loop-less
     loop-again
     add-i-2
