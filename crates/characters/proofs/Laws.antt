@@ -1,14 +1,30 @@
 -- One step over a text, at a place of it: whether what begins there passes, and how far what passes goes on.
-use mathlib.Core.Path.{_≡_}
+use mathlib.Core.Path.{_≡_, refl, _∙_}
 use mathlib.Core.List.{List}
-use mathlib.Core.Bool.{Bool, true, false}
+use mathlib.Core.Bool.{Bool, true, false, _&&_, _||_, not}
 use Prim.Native.Nat.{ℕ, suc, _+_, _≤_, _<_}
 use native.Mathlib.Numerals.{add-one}
 use native.Mathlib.Omega.{arith}
+use borrow.Author.Tests.{eqb-true}
 use lib.ListN.{length, drop, getD, drop-of-length-le}
 use lib.Seq.{drop-cons}
-use Rattle.model.specs.Basic.{run}
-use Rattle.model.specs.Tokens.{starts}
+use Rattle.model.specs.Basic.{between, run}
+use Rattle.model.specs.Tokens.{isDigit, isUnderscore, isNameByte, starts}
+
+-- letters and digits are the name bytes but the underscore
+pub plain : (b : ℕ) (r : Bool) → r ≡ between 97 122 b || (between 65 90 b || isDigit b) → r ≡ isNameByte b && not (isUnderscore b)
+plain b r p = p ∙ go (isUnderscore b) refl
+  where
+    name : (u l d : Bool) → l || (u || d) ≡ ((u || (l || false)) || d) && true
+    name true true d = refl
+    name true false d = refl
+    name false true d = refl
+    name false false true = refl
+    name false false false = refl
+
+    go : (e : Bool) → isUnderscore b ≡ e → between 97 122 b || (between 65 90 b || isDigit b) ≡ isNameByte b && not e
+    go true q = rw (eqb-true b 95 q)
+    go false q = rw q (name (between 65 90 b) (between 97 122 b) (isDigit b))
 
 module _ (f : ℕ → Bool) (s : List ℕ) (i : ℕ) where
   pub starts-here : i < length s → starts f (drop i s) ≡ f (getD s i 0)

@@ -1,9 +1,10 @@
 // The classes of bytes, and where a run of digits or of name bytes ends.
 ghost use mathlib.Core.Path.{_≡_};
+ghost use mathlib.Core.Bool.{_&&_, not};
 ghost use Prim.Native.Nat.{_+_, _≤_};
 ghost use lib.ListN.{length, drop};
 ghost use Rattle.model.specs.Basic.{between, run};
-ghost use Rattle.model.specs.Tokens.{isBlank, isDigit, startsName, isNameByte, isSign, isMark, starts};
+ghost use Rattle.model.specs.Tokens.{isBlank, isDigit, isUnderscore, startsName, isNameByte, isSign, isMark, starts};
 
 pub fn is_blank(b: u8) -> bool
     ensures { λ r. ⌜ r ≡ isBlank b ⌝ }
@@ -33,6 +34,13 @@ pub fn is_name_byte(b: u8) -> bool
     ensures { λ r. ⌜ r ≡ isNameByte b ⌝ }
 {
     starts_name(b) || is_digit(b)
+}
+
+// A name byte that is no underscore. Most are small letters.
+pub fn is_plain(b: u8) -> bool
+    ensures { λ r. ⌜ r ≡ isNameByte b && not (isUnderscore b) ⌝ }
+{
+    is_between(97, 122, b) || (is_between(65, 90, b) || is_digit(b))
 }
 
 pub fn is_sign(b: u8) -> bool

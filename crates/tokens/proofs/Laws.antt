@@ -1,7 +1,7 @@
 -- One step of each definition that walks over a text, at a place of it.
 use mathlib.Core.Path.{_≡_, refl, sym, ap, _∙_}
 use mathlib.Core.List.{List, [], _∷_}
-use mathlib.Core.Bool.{Bool, true, false, _&&_, not, and-false, false≢true}
+use mathlib.Core.Bool.{Bool, true, false, _&&_, _||_, not, and-false, false≢true}
 use mathlib.Core.Option.{Option, none, some}
 use Prim.Native.Nat.{ℕ, zero, suc, _+_, _-_, _≤_, _<_}
 use native.Mathlib.Numerals.{add-one}
@@ -12,9 +12,11 @@ use lib.ListN.{length, take, drop, getD, drop-of-length-le, length-drop}
 use lib.Seq.{drop-cons, drop-drop, slice, slice-empty}
 use Rattle.model.specs.Basic.{if_then_else_, run}
 use Rattle.model.specs.Keywords.{END, WRONG, BLANK}
-use Rattle.model.specs.Tokens.{isUnderscore, isDigit, isNameByte, isMark, starts, tidy, wordKind, pointPart, numberPart, commentPart, commentPiece, piece, wordPiece, pieceAt, token, placed, scan}
+use Rattle.model.specs.Tokens.{isUnderscore, isDigit, startsName, isNameByte, isMark, starts, tidy, wordKind, pointPart, numberPart, commentPart, commentPiece, piece, wordPiece, pieceAt, token, placed, scan}
 use Rattle.laws.proofs.Slices.{cut}
-use Rattle.tokens.specs.Tokens.{tokensFrom, after}
+use Rattle.laws.proofs.Tests.{clash}
+use Rattle.characters.proofs.Laws.{run-more, run-stop, run-end}
+use Rattle.tokens.specs.Tokens.{isPlain, goesOn, tidyWord, tokensFrom, after}
 
 -- WORDS
 tidy-cons : (c : ℕ) (w : List ℕ) → isUnderscore c ≡ false → tidy (c ∷ w) ≡ tidy w
@@ -38,6 +40,91 @@ pub tidy-end : (w : List ℕ) (i : ℕ) → length w ≤ i → tidy (drop i w) �
 unfolding tidy
 tidy-end w i h = rw (drop-of-length-le w h)
 
+run-cons : (f : ℕ → Bool) (c : ℕ) (s : List ℕ) → f c ≡ true → run f (c ∷ s) ≡ suc (run f s)
+unfolding run
+run-cons f c s e = simp (run, e)
+
+run-none : (f : ℕ → Bool) (c : ℕ) (s : List ℕ) → f c ≡ false → run f (c ∷ s) ≡ 0
+unfolding run
+run-none f c s e = simp (run, e)
+
+-- what `goesOn` tells by the tests of the first byte, n and u, and of the next, p
+plain-on : (n u p : Bool) → (n && not u) || (u && p) ≡ true → u ≡ false → n ≡ true
+plain-on true u p e q = refl
+plain-on false true p e q = clash (sym q)
+plain-on false false p e q = e
+
+plain-off : (n u p : Bool) → (n && not u) || (u && p) ≡ false → u ≡ false → n ≡ false
+plain-off true true p e q = q
+plain-off true false p e q = e
+plain-off false u p e q = refl
+
+under-next : (n u p b : Bool) → (n && not u) || (u && p) ≡ b → u ≡ true → p ≡ b
+under-next true true p b e q = e
+under-next false true p b e q = e
+under-next n false p b e q = clash q
+
+under-name : (c : ℕ) → isUnderscore c ≡ true → isNameByte c ≡ true
+under-name c e = rw (eqb-true c 95 e)
+
+word-cons : (c : ℕ) (s : List ℕ) → isNameByte c ≡ true → tidyWord (c ∷ s) ≡ tidy (c ∷ take (run isNameByte s) s)
+unfolding tidyWord
+word-cons c s e = rw (run-cons isNameByte c s e)
+
+-- an underscore with a letter or a digit behind it, or with none
+under-cons : (c d : ℕ) (s : List ℕ) (b n : Bool) → isUnderscore c ≡ true → isPlain d ≡ b → isNameByte d ≡ n → tidyWord (c ∷ d ∷ s) ≡ b && tidyWord (d ∷ s)
+unfolding tidy
+under-cons c d s b true q e p =
+    let z : b ≡ not (isUnderscore d) = sym e ∙ ap (λ x. x && not (isUnderscore d)) p in
+    word-cons c (d ∷ s) (under-name c q) ∙ rw (run-cons isNameByte d s p, word-cons d s p, z) (simp q)
+under-cons c d s b false q e p =
+    let z : b ≡ false = sym e ∙ ap (λ x. x && not (isUnderscore d)) p in
+    word-cons c (d ∷ s) (under-name c q) ∙ rw (run-none isNameByte d s p, z) (simp q)
+
+under-word : (c : ℕ) (s : List ℕ) (b : Bool) → isUnderscore c ≡ true → starts isPlain s ≡ b → tidyWord (c ∷ s) ≡ b && tidyWord s
+unfolding tidy run
+under-word c [] true q e = clash e
+under-word c [] false q e = word-cons c [] (under-name c q) ∙ simp q
+under-word c (d ∷ s) b q e = under-cons c d s b (isNameByte d) q e refl
+
+word-on : (c : ℕ) (s : List ℕ) (u : Bool) → isUnderscore c ≡ u → goesOn (c ∷ s) ≡ true → (isNameByte c ≡ true) × (tidyWord (c ∷ s) ≡ tidyWord s)
+unfolding tidyWord
+word-on c s false q e =
+    let n = plain-on (isNameByte c) (isUnderscore c) (starts isPlain s) e q in
+    (n, word-cons c s n ∙ tidy-cons c (take (run isNameByte s) s) q)
+word-on c s true q e = (under-name c q, under-word c s true q (under-next (isNameByte c) (isUnderscore c) (starts isPlain s) true e q))
+
+module _ (s : List ℕ) (i : ℕ) (h : i < length s) where
+  pub goes : (p u n : Bool) → isPlain (getD s i 0) ≡ p → isUnderscore (getD s i 0) ≡ u → starts isPlain (drop (i + 1) s) ≡ n → goesOn (drop i s) ≡ p || (u && n)
+  goes p u n ep eu en = let q = rw add-one at en in rw (drop-cons s i 0 h) (λ j. ep j || (eu j && q j))
+
+  pub word-more : goesOn (drop i s) ≡ true
+      → (i + run isNameByte (drop i s) ≡ i + 1 + run isNameByte (drop (i + 1) s)) × (tidyWord (drop i s) ≡ tidyWord (drop (i + 1) s))
+  word-more e =
+      let p = word-on (getD s i 0) (drop (suc i) s) (isUnderscore (getD s i 0)) refl (rw (drop-cons s i 0 h) at e) in
+      (run-more isNameByte s i h (p .0), rw (add-one, drop-cons s i 0 h) (p .1))
+
+  pub word-stray : goesOn (drop i s) ≡ false → getD s i 0 ≡ 95 → tidyWord (drop i s) ≡ false
+  word-stray e q =
+      let u = eq-eqb (getD s i 0) 95 q in
+      let g = rw (drop-cons s i 0 h) at e in
+      rw (drop-cons s i 0 h) (
+      under-word (getD s i 0) (drop (suc i) s) false u
+      (under-next (isNameByte (getD s i 0)) (isUnderscore (getD s i 0)) (starts isPlain (drop (suc i) s)) false g u)
+      )
+
+  pub word-ends : goesOn (drop i s) ≡ false → (getD s i 0 ≡ 95 → ⊥) → (i + run isNameByte (drop i s) ≡ i) × (tidyWord (drop i s) ≡ true)
+  unfolding tidyWord tidy
+  word-ends e q =
+      let u = ne-eqb (getD s i 0) 95 q in
+      let g = rw (drop-cons s i 0 h) at e in
+      let n = plain-off (isNameByte (getD s i 0)) (isUnderscore (getD s i 0)) (starts isPlain (drop (suc i) s)) g u in
+      (run-stop isNameByte s i h n, rw (drop-cons s i 0 h, run-none isNameByte (getD s i 0) (drop (suc i) s) n))
+
+pub word-none : (s : List ℕ) (i : ℕ) → length s ≤ i → (i + run isNameByte (drop i s) ≡ i) × (tidyWord (drop i s) ≡ true)
+unfolding tidyWord tidy run
+word-none s i h = (run-end isNameByte s i h, rw (drop-of-length-le s h))
+
 -- NUMBERS
 module _ (s : List ℕ) (i : ℕ) where
   pub point-here : (d : Bool) → i < length s → getD s i 0 ≡ 46 → d ≡ starts isDigit (drop (i + 1) s)
@@ -58,13 +145,21 @@ number s a e p h q =
     omega (arith, h, z)
 
 -- PIECES
-pub word-piece : (s : List ℕ) (e k : ℕ) → 0 < length s → e ≡ 1 + run isNameByte (drop 1 s) → k ≡ wordKind (take e s)
+pub word-some : (s : List ℕ) → 0 < length s → startsName (getD s 0 0) ≡ true → 0 < run isNameByte s
+word-some [] h n = absurd (omega arith)
+word-some (c ∷ s) h n = omega (arith, run-cons isNameByte c s (simp n))
+
+pub word-tidy : (s : List ℕ) (e : ℕ) (b : Bool) → e ≡ run isNameByte s → b ≡ tidyWord s → tidy (take e s) ≡ b
+unfolding tidyWord
+word-tidy s e b p q = rw (p, q)
+
+pub word-piece : (s : List ℕ) (e k : ℕ) → 0 < length s → startsName (getD s 0 0) ≡ true → e ≡ run isNameByte s → k ≡ wordKind (take e s)
     → piece k (e - 1) ≡ wordPiece (getD s 0 0) (drop 1 s)
 unfolding wordPiece
-word-piece [] e k h p q = absurd (omega arith)
-word-piece (c ∷ s) e k h p q =
-    let z : e ≡ suc (run isNameByte s) = omega (arith, p) in
-    let y : e - 1 ≡ run isNameByte s = omega (arith, p) in
+word-piece [] e k h n p q = absurd (omega arith)
+word-piece (c ∷ s) e k h n p q =
+    let z : e ≡ suc (run isNameByte s) = p ∙ run-cons isNameByte c s (simp n) in
+    let y : e - 1 ≡ run isNameByte s = omega (arith, z) in
     rw (y, q, z)
 
 -- n bytes more

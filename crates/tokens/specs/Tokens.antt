@@ -1,15 +1,30 @@
--- A helper: the tokens of a text from a place on, by the model's `scan`, and the first of them as the scanner gives it.
+-- Helpers: a word byte by byte; the tokens of a text from a place on, by the model's `scan`, and the first of them as the
+-- scanner gives it.
 -- `begun` of cursor/proofs/Laws ties those from 0 on to the model's `tokens`.
-use mathlib.Core.List.{List, []}
+use mathlib.Core.Bool.{Bool, false, _&&_, _||_, not}
+use mathlib.Core.List.{List, [], _∷_}
 use Prim.Native.Nat.{ℕ}
 use lib.Dec.{eqb}
-use lib.ListN.{drop}
+use lib.ListN.{take, drop}
 use lib.Seq.{slice}
-use Rattle.model.specs.Basic.{if_then_else_}
+use Rattle.model.specs.Basic.{if_then_else_, run}
 use Rattle.model.specs.Keywords.{END}
-use Rattle.model.specs.Tokens.{Token as ModelToken, token, Piece as ModelPiece, piece, scan}
+use Rattle.model.specs.Tokens.{isUnderscore, isNameByte, starts, tidy, Token as ModelToken, token, Piece as ModelPiece, piece, scan}
 use Rattle.tokens.specs.declared.Token.{Token}
 use Rattle.tokens.specs.declared.Piece.{Piece}
+
+-- a letter or a digit
+abbrev pub isPlain : ℕ → Bool
+isPlain c = isNameByte c && not (isUnderscore c)
+
+-- the first byte is one of a word that is tidy so far
+abbrev pub goesOn : List ℕ → Bool
+goesOn [] = false
+goesOn (c ∷ s) = isPlain c || (isUnderscore c && starts isPlain s)
+
+-- whether the word at the start is tidy
+unfoldable pub tidyWord : List ℕ → Bool
+tidyWord s = tidy (take (run isNameByte s) s)
 
 unfoldable pub tokensFrom : List ℕ → ℕ → List ModelToken
 tokensFrom s at = scan 0 at (drop at s)

@@ -6,8 +6,8 @@ ghost use Prim.Native.Nat.{suc, _+_, _≤_, _<_};
 ghost use lib.Dec.{eqb};
 ghost use lib.ListN.{length, drop, getD};
 ghost use Rattle.model.specs.Basic.{if_then_else_, run};
-ghost use Rattle.model.specs.Tokens.{isBlank, isDigit, startsName, isSign, starts, tidy, wordKind, pointPart, numberPart, commentPart, commentPiece, wordPiece, pieceAt};
-ghost use Rattle.tokens.specs.Tokens.{pieceOf, tokensFrom, tokenOf, after};
+ghost use Rattle.model.specs.Tokens.{isBlank, isDigit, startsName, isNameByte, isSign, starts, tidy, wordKind, pointPart, numberPart, commentPart, commentPiece, wordPiece, pieceAt};
+ghost use Rattle.tokens.specs.Tokens.{goesOn, tidyWord, pieceOf, tokensFrom, tokenOf, after};
 
 // A token of the text: its kind, and where it starts and ends.
 pub struct Token {
@@ -78,13 +78,61 @@ pub fn is_tidy(w: &[u8]) -> bool
     true
 }
 
+// The byte at i goes on a tidy word: a letter or a digit, or an underscore with one behind it.
+fn goes_on(s: &[u8], i: usize) -> bool
+    requires { ⌜ i < length (now s) ⌝ }
+    ensures { λ r. ⌜ r ≡ goesOn (drop i (now (s .entry))) ⌝ }
+{
+    if characters::is_plain(s[i]) {
+        return true;
+    }
+    if s[i] != 95 {
+        return false;
+    }
+    i + 1 < s.len() && characters::is_plain(s[i + 1])
+}
+
+// A word at the start of a text: where it ends, and whether it is tidy.
+struct Word {
+    end: usize,
+    tidy: bool,
+}
+
+// The word from i on, where it goes on no further or is not tidy.
+fn stopped(s: &[u8], i: usize) -> Word
+    requires { ⌜ (i < length (now s)) × (goesOn (drop i (now s)) ≡ false) ⌝ }
+    ensures { λ r. ⌜ (r .end ≡ i + run isNameByte (drop i (now (s .entry)))) × (r .tidy ≡ tidyWord (drop i (now (s .entry)))) ⌝ }
+    ensures within { λ r. ⌜ (i ≤ r .end) × (r .end ≤ length (now (s .entry))) ⌝ }
+{
+    if s[i] == 95 {
+        return Word {
+            end: characters::name_end(s, i),
+            tidy: false,
+        };
+    }
+    Word { end: i, tidy: true }
+}
+
+fn word_of(s: &[u8]) -> Word
+    ensures { λ r. ⌜ (r .end ≡ run isNameByte (now (s .entry))) × (r .tidy ≡ tidyWord (now (s .entry))) ⌝ }
+    ensures within { λ r. ⌜ r .end ≤ length (now (s .entry)) ⌝ }
+{
+    let mut i = 0;
+    while i < s.len() {
+        if !goes_on(s, i) {
+            return stopped(s, i);
+        }
+        i += 1;
+    }
+    Word { end: i, tidy: true }
+}
+
+// The kind of a tidy word.
 fn word_kind(w: &[u8]) -> u8
+    requires { ⌜ tidy (now w) ≡ true ⌝ }
     ensures { λ r. ⌜ r ≡ wordKind (now (w .entry)) ⌝ }
     ensures within { λ r. ⌜ 0 < r ⌝ }
 {
-    if !is_tidy(w) {
-        return token_kinds::WRONG;
-    }
     let k = keywords::keyword_at(w);
     if k < keywords::COUNT {
         return token_kinds::ACCU + k as u8;
@@ -93,11 +141,18 @@ fn word_kind(w: &[u8]) -> u8
 }
 
 fn word_piece(rest: &[u8]) -> Piece
-    requires { ⌜ 0 < length (now rest) ⌝ }
+    requires { ⌜ (0 < length (now rest)) × (startsName (getD (now rest) 0 0) ≡ true) ⌝ }
     ensures { λ r. ⌜ pieceOf r ≡ wordPiece (getD (now (rest .entry)) 0 0) (drop 1 (now (rest .entry))) ⌝ }
     ensures within { λ r. ⌜ (0 < r .kind) × (r .more < length (now (rest .entry))) ⌝ }
 {
-    let e = characters::name_end(rest, 1);
+    let w = word_of(rest);
+    let e = w.end;
+    if !w.tidy {
+        return Piece {
+            kind: token_kinds::WRONG,
+            more: e - 1,
+        };
+    }
     Piece {
         kind: word_kind(&rest[..e]),
         more: e - 1,

@@ -19,7 +19,7 @@ starts-name-requires : tie.Need-starts-name-requires
 starts-name-requires c κs = search needs
 
 word-piece-requires : tie.Need-word-piece-requires
-word-piece-requires c κs = search needs
+word-piece-requires c κs = (search needs, sym (c .before .starts-name .ensures) ∙ c .if2 .taken)
 
 returns-2 : tie.Need-returns-2
 unfolding pieceAt
