@@ -1,38 +1,42 @@
--- Four words from a place on, compared one after the other.
-use mathlib.Core.Path.{_≡_, sym, _∙_}
-use mathlib.Core.List.{[], _∷_}
+-- Two names of four words each, compared one word after the other, and the words of a name that a part of the image holds.
+use mathlib.Core.Path.{_≡_, refl, sym, ap, _∙_}
+use mathlib.Core.List.{List, [], _∷_}
 use mathlib.Core.Bool.{true, false, _&&_, and-true}
-use Prim.Native.Nat.{ℕ, suc, _+_}
+use Prim.Native.Nat.{ℕ, suc, _+_, _*_}
 use native.Mathlib.Omega.{arith}
 use borrow.Author.Tests.{eq-eqb, ne-eqb}
 use lib.Dec.{eqb}
+use lib.ListN.{take, drop}
 use Rattle.model.specs.Basic.{same}
-use Rattle.model.specs.Image.{tab}
+use Rattle.model.specs.Image.{wordAt, bytesOf, tab}
+use Rattle.laws.proofs.Places.{tab-at, tab-ext}
+use Rattle.words.proofs.Bytes.{words-at, part-word}
 
-pub four : (f : ℕ → ℕ) (o : ℕ) → tab f 4 o ≡ f o ∷ f (o + 1) ∷ f (o + 2) ∷ f (o + 3) ∷ []
-unfolding tab
-four f o =
-    let p : suc o ≡ o + 1 = omega arith in
-    let q : suc (suc o) ≡ o + 2 = omega arith in
-    let r : suc (suc (suc o)) ≡ o + 3 = omega arith in
-    λ j. f o ∷ f (p j) ∷ f (q j) ∷ f (r j) ∷ []
-
-module _ (f : ℕ → ℕ) (o q : ℕ) where
-  spread : same (tab f 4 o) (tab f 4 q)
-      ≡ eqb (f o) (f q) && (eqb (f (o + 1)) (f (q + 1)) && (eqb (f (o + 2)) (f (q + 2)) && (eqb (f (o + 3)) (f (q + 3)) && true)))
-  spread = λ j. same (four f o j) (four f q j)
+module _ (f g : ℕ → ℕ) where
+  spread : same (tab f 4 0) (tab g 4 0) ≡ eqb (f 0) (g 0) && (eqb (f 1) (g 1) && (eqb (f 2) (g 2) && (eqb (f 3) (g 3) && true)))
+  unfolding tab
+  spread = refl
 
   module _ {x y : ℕ} where
-    pub differs-1 : x ≡ f o → y ≡ f q → (x ≡ y → ⊥) → false ≡ same (tab f 4 o) (tab f 4 q)
-    differs-1 a b h = sym (spread ∙ simp (ne-eqb (f o) (f q) (λ e. h (a ∙ e ∙ sym b))))
+    pub differs-1 : x ≡ f 0 → y ≡ g 0 → (x ≡ y → ⊥) → false ≡ same (tab f 4 0) (tab g 4 0)
+    differs-1 a b h = sym (spread ∙ simp (ne-eqb (f 0) (g 0) (λ e. h (a ∙ e ∙ sym b))))
 
-    pub differs-2 : f o ≡ f q → x ≡ f (o + 1) → y ≡ f (q + 1) → (x ≡ y → ⊥) → false ≡ same (tab f 4 o) (tab f 4 q)
-    differs-2 e₁ a b h = sym (spread ∙ simp (eq-eqb _ _ e₁, ne-eqb (f (o + 1)) (f (q + 1)) (λ e. h (a ∙ e ∙ sym b))))
+    pub differs-2 : f 0 ≡ g 0 → x ≡ f 1 → y ≡ g 1 → (x ≡ y → ⊥) → false ≡ same (tab f 4 0) (tab g 4 0)
+    differs-2 e₁ a b h = sym (spread ∙ simp (eq-eqb _ _ e₁, ne-eqb (f 1) (g 1) (λ e. h (a ∙ e ∙ sym b))))
 
-    pub differs-3 : f o ≡ f q → f (o + 1) ≡ f (q + 1) → x ≡ f (o + 2) → y ≡ f (q + 2) → (x ≡ y → ⊥) → false ≡ same (tab f 4 o) (tab f 4 q)
-    differs-3 e₁ e₂ a b h =
-        sym (spread ∙ simp (eq-eqb _ _ e₁, eq-eqb _ _ e₂, ne-eqb (f (o + 2)) (f (q + 2)) (λ e. h (a ∙ e ∙ sym b))))
+    pub differs-3 : f 0 ≡ g 0 → f 1 ≡ g 1 → x ≡ f 2 → y ≡ g 2 → (x ≡ y → ⊥) → false ≡ same (tab f 4 0) (tab g 4 0)
+    differs-3 e₁ e₂ a b h = sym (spread ∙ simp (eq-eqb _ _ e₁, eq-eqb _ _ e₂, ne-eqb (f 2) (g 2) (λ e. h (a ∙ e ∙ sym b))))
 
-    pub only-last : f o ≡ f q → f (o + 1) ≡ f (q + 1) → f (o + 2) ≡ f (q + 2) → x ≡ f (o + 3) → y ≡ f (q + 3) → eqb x y ≡ same (tab f 4 o) (tab f 4 q)
+    pub only-last : f 0 ≡ g 0 → f 1 ≡ g 1 → f 2 ≡ g 2 → x ≡ f 3 → y ≡ g 3 → eqb x y ≡ same (tab f 4 0) (tab g 4 0)
     only-last e₁ e₂ e₃ a b =
-        (λ j. eqb (a j) (b j)) ∙ sym (spread ∙ simp (eq-eqb _ _ e₁, eq-eqb _ _ e₂, eq-eqb _ _ e₃) (and-true (eqb (f (o + 3)) (f (q + 3)))))
+        (λ j. eqb (a j) (b j)) ∙ sym (spread ∙ simp (eq-eqb _ _ e₁, eq-eqb _ _ e₂, eq-eqb _ _ e₃) (and-true (eqb (f 3) (g 3))))
+
+-- the words of a part, and of the bytes of four words
+pub part-words : (img : List ℕ) (o n : ℕ) → n ≡ 16 → tab (wordAt (take n (drop (o * 4) img))) 4 0 ≡ tab (wordAt img) 4 o
+part-words img o n e =
+    tab-ext (wordAt (take n (drop (o * 4) img))) (wordAt img) 4 0 o
+    (λ k h. ap (wordAt (take n (drop (o * 4) img))) (omega arith) ∙ part-word img o n k (omega (arith, e)))
+
+pub byte-words : (s : List ℕ) (w : ℕ → ℕ) (o : ℕ) → s ≡ bytesOf (tab w 4 o) → tab (wordAt s) 4 0 ≡ tab w 4 o
+unfolding tab
+byte-words s w o e = ap (λ (l : List ℕ). tab (wordAt l) 4 0) e ∙ tab-at (wordAt (bytesOf (tab w 4 o))) 0 (tab w 4 o) (words-at (tab w 4 o))
