@@ -10,7 +10,7 @@ use Rattle.model.specs.Basic.{same}
 use Rattle.model.specs.Image.{wordAt, bytesOf, tab}
 use Rattle.laws.proofs.Slices.{rest}
 use Rattle.laws.proofs.Tests.{both}
-use Rattle.stored_names.proofs.Fours.{part-words, byte-words}
+use Rattle.name_field.proofs.Names.{part-words, byte-words}
 use Rattle.stored_names.proofs.same_name.Statement.{statement}
 use Rattle.stored_names.proofs.same_name.Tie as tie
 
