@@ -1,38 +1,27 @@
--- Four words from a place on, compared one after the other.
-use mathlib.Core.Path.{_≡_, sym, _∙_}
-use mathlib.Core.List.{[], _∷_}
+-- Two names of four words each, compared one word after the other.
+use mathlib.Core.Path.{_≡_, refl, sym, _∙_}
 use mathlib.Core.Bool.{true, false, _&&_, and-true}
-use Prim.Native.Nat.{ℕ, suc, _+_}
-use native.Mathlib.Omega.{arith}
+use Prim.Native.Nat.{ℕ}
 use borrow.Author.Tests.{eq-eqb, ne-eqb}
 use lib.Dec.{eqb}
 use Rattle.model.specs.Basic.{same}
 use Rattle.model.specs.Image.{tab}
 
-pub four : (f : ℕ → ℕ) (o : ℕ) → tab f 4 o ≡ f o ∷ f (o + 1) ∷ f (o + 2) ∷ f (o + 3) ∷ []
-unfolding tab
-four f o =
-    let p : suc o ≡ o + 1 = omega arith in
-    let q : suc (suc o) ≡ o + 2 = omega arith in
-    let r : suc (suc (suc o)) ≡ o + 3 = omega arith in
-    λ j. f o ∷ f (p j) ∷ f (q j) ∷ f (r j) ∷ []
-
-module _ (f : ℕ → ℕ) (o q : ℕ) where
-  spread : same (tab f 4 o) (tab f 4 q)
-      ≡ eqb (f o) (f q) && (eqb (f (o + 1)) (f (q + 1)) && (eqb (f (o + 2)) (f (q + 2)) && (eqb (f (o + 3)) (f (q + 3)) && true)))
-  spread = λ j. same (four f o j) (four f q j)
+module _ (f g : ℕ → ℕ) where
+  spread : same (tab f 4 0) (tab g 4 0) ≡ eqb (f 0) (g 0) && (eqb (f 1) (g 1) && (eqb (f 2) (g 2) && (eqb (f 3) (g 3) && true)))
+  unfolding tab
+  spread = refl
 
   module _ {x y : ℕ} where
-    pub differs-1 : x ≡ f o → y ≡ f q → (x ≡ y → ⊥) → false ≡ same (tab f 4 o) (tab f 4 q)
-    differs-1 a b h = sym (spread ∙ simp (ne-eqb (f o) (f q) (λ e. h (a ∙ e ∙ sym b))))
+    pub differs-1 : x ≡ f 0 → y ≡ g 0 → (x ≡ y → ⊥) → false ≡ same (tab f 4 0) (tab g 4 0)
+    differs-1 a b h = sym (spread ∙ simp (ne-eqb (f 0) (g 0) (λ e. h (a ∙ e ∙ sym b))))
 
-    pub differs-2 : f o ≡ f q → x ≡ f (o + 1) → y ≡ f (q + 1) → (x ≡ y → ⊥) → false ≡ same (tab f 4 o) (tab f 4 q)
-    differs-2 e₁ a b h = sym (spread ∙ simp (eq-eqb _ _ e₁, ne-eqb (f (o + 1)) (f (q + 1)) (λ e. h (a ∙ e ∙ sym b))))
+    pub differs-2 : f 0 ≡ g 0 → x ≡ f 1 → y ≡ g 1 → (x ≡ y → ⊥) → false ≡ same (tab f 4 0) (tab g 4 0)
+    differs-2 e₁ a b h = sym (spread ∙ simp (eq-eqb _ _ e₁, ne-eqb (f 1) (g 1) (λ e. h (a ∙ e ∙ sym b))))
 
-    pub differs-3 : f o ≡ f q → f (o + 1) ≡ f (q + 1) → x ≡ f (o + 2) → y ≡ f (q + 2) → (x ≡ y → ⊥) → false ≡ same (tab f 4 o) (tab f 4 q)
-    differs-3 e₁ e₂ a b h =
-        sym (spread ∙ simp (eq-eqb _ _ e₁, eq-eqb _ _ e₂, ne-eqb (f (o + 2)) (f (q + 2)) (λ e. h (a ∙ e ∙ sym b))))
+    pub differs-3 : f 0 ≡ g 0 → f 1 ≡ g 1 → x ≡ f 2 → y ≡ g 2 → (x ≡ y → ⊥) → false ≡ same (tab f 4 0) (tab g 4 0)
+    differs-3 e₁ e₂ a b h = sym (spread ∙ simp (eq-eqb _ _ e₁, eq-eqb _ _ e₂, ne-eqb (f 2) (g 2) (λ e. h (a ∙ e ∙ sym b))))
 
-    pub only-last : f o ≡ f q → f (o + 1) ≡ f (q + 1) → f (o + 2) ≡ f (q + 2) → x ≡ f (o + 3) → y ≡ f (q + 3) → eqb x y ≡ same (tab f 4 o) (tab f 4 q)
+    pub only-last : f 0 ≡ g 0 → f 1 ≡ g 1 → f 2 ≡ g 2 → x ≡ f 3 → y ≡ g 3 → eqb x y ≡ same (tab f 4 0) (tab g 4 0)
     only-last e₁ e₂ e₃ a b =
-        (λ j. eqb (a j) (b j)) ∙ sym (spread ∙ simp (eq-eqb _ _ e₁, eq-eqb _ _ e₂, eq-eqb _ _ e₃) (and-true (eqb (f (o + 3)) (f (q + 3)))))
+        (λ j. eqb (a j) (b j)) ∙ sym (spread ∙ simp (eq-eqb _ _ e₁, eq-eqb _ _ e₂, eq-eqb _ _ e₃) (and-true (eqb (f 3) (g 3))))

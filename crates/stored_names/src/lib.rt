@@ -1,14 +1,15 @@
 // Names in a stored image: whether one stands at a place, whether two are the same, whether those of tables differ.
 ghost use mathlib.Core.Path.{_≡_};
-ghost use mathlib.Core.Bool.{false, _||_};
+ghost use mathlib.Core.Bool.{false, _&&_, _||_};
 ghost use Prim.Native.Nat.{_-_, _≤_};
+ghost use lib.Dec.{leb};
 ghost use lib.ListN.{length};
 ghost use Rattle.model.specs.Basic.{between, distinct, same};
 ghost use Rattle.model.specs.Tokens.{isName};
 ghost use Rattle.model.specs.Image.{wordAt, tab, nameAt};
 ghost use Rattle.stored_names.specs.Stored.{endsName, tidyAt, tidyEnd, front, wordsIn, absent, apart};
 use bounds::within;
-use words::word;
+use words::whole_word;
 
 fn is_letter(c: u8) -> bool
     ensures { λ r. ⌜ r ≡ between 65 90 c || between 97 122 c ⌝ }
@@ -90,20 +91,47 @@ pub fn name_ok(img: &[u8], o: usize) -> bool
     is_name(&s)
 }
 
+// Two names of 16 bytes.
+fn same_words(a: &[u8], b: &[u8]) -> bool
+    requires { ⌜ (length (now a) ≡ 16) × (length (now b) ≡ 16) ⌝ }
+    ensures { λ r. ⌜ r ≡ same (tab (wordAt (now (a .entry))) 4 0) (tab (wordAt (now (b .entry))) 4 0) ⌝ }
+{
+    if whole_word(a, 0) != whole_word(b, 0) {
+        return false;
+    }
+    if whole_word(a, 1) != whole_word(b, 1) {
+        return false;
+    }
+    if whole_word(a, 2) != whole_word(b, 2) {
+        return false;
+    }
+    whole_word(a, 3) == whole_word(b, 3)
+}
+
+// Whether an image of n bytes goes as far as the end of both names.
+fn holds(n: usize, a: usize, b: usize) -> bool
+    ensures { λ r. ⌜ r ≡ leb a n && leb b n ⌝ }
+{
+    if n < a {
+        return false;
+    }
+    b <= n
+}
+
 pub fn same_name(img: &[u8], o: usize, q: usize) -> bool
     requires { ⌜ (o ≤ 900000000000) × (q ≤ 900000000000) ⌝ }
     ensures { λ r. ⌜ r ≡ same (tab (wordAt (now (img .entry))) 4 o) (tab (wordAt (now (img .entry))) 4 q) ⌝ }
 {
-    if word(img, o) != word(img, q) {
-        return false;
+    let k = o * 4;
+    let l = q * 4;
+    let e = k + bounds::NAME;
+    let f = l + bounds::NAME;
+    if holds(img.len(), e, f) {
+        return same_words(&img[k..e], &img[l..f]);
     }
-    if word(img, o + 1) != word(img, q + 1) {
-        return false;
-    }
-    if word(img, o + 2) != word(img, q + 2) {
-        return false;
-    }
-    word(img, o + 3) == word(img, q + 3)
+    let a = name_field::bytes_at(&img[0..], o);
+    let b = name_field::bytes_at(&img[0..], q);
+    same_words(&a, &b)
 }
 
 // The name at o is none of those of the entries from i on, below n, of the table at q.

@@ -4,10 +4,10 @@ use mathlib.Core.List.{List, [], _∷_}
 use mathlib.Core.Bool.{Bool, true, false, not}
 use Prim.Native.Nat.{ℕ, zero, suc, _+_, _*_, _/_, _%_, _≤_, _<_}
 use native.Mathlib.Omega.{arith}
-use lib.Dec.{leb, eqb}
+use lib.Dec.{leb, ltb, eqb}
 use lib.ListN.{length, take, getD}
-use borrow.Author.Tests.{eq-eqb, eqb-true}
-use Rattle.model.specs.Basic.{run, gather}
+use borrow.Author.Tests.{eq-eqb, ne-eqb, eqb-true, ltb-true, ltb-false}
+use Rattle.model.specs.Basic.{if_then_else_, run, same, gather}
 use Rattle.model.specs.Image.{wordAt, wordBytes, bytesOf, nameWords, nameAt, tab}
 use Rattle.laws.proofs.Tests.{iff, clash}
 use Rattle.words.proofs.Bytes.{words-at}
@@ -35,6 +35,90 @@ dead (c ∷ l) = go (dead l) (eqb c 0) refl
     go ih true e = simp e ih
     go ih false e = simp e ih
 
+-- ONE WORD
+-- a word whose upper bytes are zero
+module _ (x : ℕ) where
+  below-3 : x / 16777216 ≡ 0 → x / 65536 % 256 ≡ 0 → x < 65536
+  below-3 e f = omega arith
+
+  below-2 : x / 16777216 ≡ 0 → x / 65536 % 256 ≡ 0 → x / 256 % 256 ≡ 0 → x < 256
+  below-2 e f g = let h = below-3 e f in omega (arith, h, g)
+
+  below-1 : x / 16777216 ≡ 0 → x / 65536 % 256 ≡ 0 → x / 256 % 256 ≡ 0 → x % 256 ≡ 0 → x < 1
+  below-1 e f g k = let h = below-2 e f g in omega (arith, h, k)
+
+abbrev Zeros : List ℕ → Type 0
+Zeros [] = Unit {0}
+Zeros (c ∷ l) = (c ≡ 0) × Zeros l
+
+module _ (m : ℕ) (h : m ≡ 0 → ⊥) where
+  stays : (l : List ℕ) → Zeros l → padRun m l ≡ m
+  unfolding padRun padStep
+  stays [] z = refl
+  stays (c ∷ l) z = simp (eq-eqb c 0 (z .0), ne-eqb m 0 h) (stays l (z .1))
+
+  breaks : (l : List ℕ) → (Zeros l → ⊥) → padRun m l ≡ 2
+  unfolding padRun padStep
+  breaks [] f = absurd (f tt)
+  breaks (c ∷ l) f = go (λ g. breaks l g) (eqb c 0) refl
+    where
+      go : ((Zeros l → ⊥) → padRun m l ≡ 2) → (b : Bool) → eqb c 0 ≡ b → padRun m (c ∷ l) ≡ 2
+      go ih true e = simp (e, ne-eqb m 0 h) (ih (λ z. f (eqb-true c 0 e, z)))
+      go ih false e = simp (e, ne-eqb m 0 h) (dead l)
+
+  -- x is below n where only zeros follow
+  pub padding : (l : List ℕ) (x n : ℕ) → (Zeros l → x < n) → (x < n → Zeros l) → padRun m l ≡ if ltb x n then m else 2
+  padding l x n f g = go (ltb x n) refl
+    where
+      go : (b : Bool) → ltb x n ≡ b → padRun m l ≡ if b then m else 2
+      go true e = stays l (g (ltb-true x n e))
+      go false e = breaks l (λ z. absurd (omega (arith, f z, ltb-false x n e)))
+
+  pub pad-more : (x : ℕ) → padRun m (wordBytes x) ≡ if ltb x 1 then m else 2
+  pad-more x =
+      padding (wordBytes x) x 1 (λ z. below-1 x (z .1 .1 .1 .0) (z .1 .1 .0) (z .1 .0) (z .0))
+      (λ g. (omega arith, (omega arith, (omega arith, (omega arith, tt)))))
+
+module _ (c : ℕ) (l : List ℕ) where
+  pad-zero : c ≡ 0 → padRun 0 (c ∷ l) ≡ padRun 1 l
+  unfolding padRun padStep
+  pad-zero e = simp (eq-eqb c 0 e)
+
+  pad-letter : (c ≡ 0 → ⊥) → padRun 0 (c ∷ l) ≡ padRun 0 l
+  unfolding padRun padStep
+  pad-letter f = simp (ne-eqb c 0 f)
+
+module _ (x : ℕ) where
+  pub pad-0 : x % 256 ≡ 0 → padRun 0 (wordBytes x) ≡ if ltb x 1 then 1 else 2
+  pad-0 e =
+      pad-zero _ _ e
+      ∙ padding 1 (λ z. omega arith) (x / 256 % 256 ∷ x / 65536 % 256 ∷ x / 16777216 ∷ []) x 1
+      (λ z. below-1 x (z .1 .1 .0) (z .1 .0) (z .0) e) (λ g. (omega arith, (omega arith, (omega arith, tt))))
+
+  module _ (a : x % 256 ≡ 0 → ⊥) where
+    pub pad-1 : x / 256 % 256 ≡ 0 → padRun 0 (wordBytes x) ≡ if ltb x 256 then 1 else 2
+    pad-1 e =
+        pad-letter _ _ a
+        ∙ pad-zero _ _ e
+        ∙ padding 1 (λ z. omega arith) (x / 65536 % 256 ∷ x / 16777216 ∷ []) x 256
+        (λ z. below-2 x (z .1 .0) (z .0) e) (λ g. (omega arith, (omega arith, tt)))
+
+    module _ (b : x / 256 % 256 ≡ 0 → ⊥) where
+      pub pad-2 : x / 65536 % 256 ≡ 0 → padRun 0 (wordBytes x) ≡ if ltb x 65536 then 1 else 2
+      pad-2 e =
+          pad-letter _ _ a
+          ∙ pad-letter _ _ b
+          ∙ pad-zero _ _ e
+          ∙ padding 1 (λ z. omega arith) (x / 16777216 ∷ []) x 65536 (λ z. below-3 x (z .0) e) (λ g. (omega arith, tt))
+
+      module _ (d : x / 65536 % 256 ≡ 0 → ⊥) where
+        pub pad-3 : x / 16777216 ≡ 0 → padRun 0 (wordBytes x) ≡ 1
+        pad-3 e = pad-letter _ _ a ∙ pad-letter _ _ b ∙ pad-letter _ _ d ∙ pad-zero _ _ e ∙ unfold padRun in refl
+
+        pub pad-4 : (x / 16777216 ≡ 0 → ⊥) → padRun 0 (wordBytes x) ≡ 0
+        pad-4 f = pad-letter _ _ a ∙ pad-letter _ _ b ∙ pad-letter _ _ d ∙ pad-letter _ _ f ∙ unfold padRun in refl
+
+-- ALL BYTES
 zeros : (l : List ℕ) → leb (padRun 1 l) 1 ≡ true → (k : ℕ) → 0 ≡ getD l k 0
 unfolding padRun padStep
 zeros [] h k = refl
@@ -150,3 +234,8 @@ module _ (w : ℕ → ℕ) (o : ℕ) where
       let fz : z ≡ w (suc (suc o)) = ez ∙ ap w e2 in
       let fu : u ≡ w (suc (suc (suc o))) = eu ∙ ap w e3 in
       rw (ec, eb, ea) ((λ j. leb (padRun 0 (bytesOf (ex j ∷ fy j ∷ fz j ∷ fu j ∷ []))) 1) ∙ sym name-spelt)
+
+-- only the four words matter
+pub exact-words : (v w : ℕ → ℕ) (o q : ℕ) → tab v 4 o ≡ tab w 4 q → nameExact v o ≡ nameExact w q
+unfolding nameExact nameAt
+exact-words v w o q e = ap (λ (l : List ℕ). same l (nameWords (trim (bytesOf l)))) e

@@ -2,14 +2,16 @@
 ghost use mathlib.Core.Path.{_≡_};
 ghost use mathlib.Core.Bool.{true, false};
 ghost use Prim.Native.Nat.{_+_, _*_, _≤_};
-ghost use lib.Dec.{eqb};
-ghost use Rattle.model.specs.Basic.{every};
+ghost use lib.Dec.{ltb, eqb};
+ghost use lib.ListN.{length};
+ghost use Rattle.model.specs.Basic.{if_then_else_, every};
 ghost use Rattle.model.specs.Image.{wordAt, wordBytes};
 ghost use Rattle.layout.specs.Tables.{sums, termCount, inputTermsIn, outputTermsIn, inputRows, nameExact, headerOk};
 ghost use Rattle.layout.specs.Groups.{tablesOk};
 ghost use Rattle.header.specs.Header.{Heads};
-ghost use Rattle.stored_tables.specs.Tests.{padStep, padRun, rangeTest, defaultTest, inputTest, outputTest, termTest, singletonTest, offsetTests, codeTests, outputRowsFrom, termRowsTo, outputTermRowsFrom, outputPointsFrom, termTests};
+ghost use Rattle.stored_tables.specs.Tests.{padRun, rangeTest, defaultTest, inputTest, outputTest, termTest, singletonTest, offsetTests, codeTests, outputRowsFrom, termRowsTo, outputTermRowsFrom, outputPointsFrom, termTests};
 use header::Header;
+use words::whole_word;
 use words::word;
 
 // The terms of inputs stand before those of outputs.
@@ -24,39 +26,69 @@ struct Rows {
     next: usize,
 }
 
-fn pad_step(m: usize, c: usize) -> usize
-    ensures { λ r. ⌜ r ≡ padStep m c ⌝ }
+// Letters up to a zero byte of a word: nothing but zeros behind them where the word is below a.
+fn pad_from(x: usize, a: usize) -> usize
+    ensures { λ r. ⌜ r ≡ if ltb x a then 1 else 2 ⌝ }
 {
-    if c == 0 {
-        if m == 0 {
-            return 1;
-        }
-        return m;
-    }
-    if m == 0 {
-        return 0;
+    if x < a {
+        return 1;
     }
     2
+}
+
+// One word more of a name that has been letters so far.
+fn first_pad(x: usize) -> usize
+    ensures { λ r. ⌜ r ≡ padRun 0 (wordBytes x) ⌝ }
+{
+    if x % 256 == 0 {
+        return pad_from(x, 1);
+    }
+    if x / 256 % 256 == 0 {
+        return pad_from(x, 256);
+    }
+    if x / 65536 % 256 == 0 {
+        return pad_from(x, 65536);
+    }
+    if x / 16777216 == 0 {
+        return 1;
+    }
+    0
 }
 
 fn pad_word(m: usize, x: usize) -> usize
     ensures { λ r. ⌜ r ≡ padRun m (wordBytes x) ⌝ }
 {
-    let a = pad_step(m, x % 256);
-    let b = pad_step(a, x / 256 % 256);
-    let c = pad_step(b, x / 65536 % 256);
-    pad_step(c, x / 16777216)
+    if m == 0 {
+        return first_pad(x);
+    }
+    if x == 0 {
+        return m;
+    }
+    2
 }
 
 // A name of 16 bytes, zero padded.
+fn is_padded(s: &[u8]) -> bool
+    requires { ⌜ length (now s) ≡ 16 ⌝ }
+    ensures { λ r. ⌜ r ≡ nameExact (wordAt (now (s .entry))) 0 ⌝ }
+{
+    let a = pad_word(0, whole_word(s, 0));
+    let b = pad_word(a, whole_word(s, 1));
+    let c = pad_word(b, whole_word(s, 2));
+    pad_word(c, whole_word(s, 3)) <= 1
+}
+
 fn name_exact(img: &[u8], o: usize) -> bool
     requires { ⌜ o ≤ 900000000000 ⌝ }
     ensures { λ r. ⌜ r ≡ nameExact (wordAt (now (img .entry))) o ⌝ }
 {
-    let a = pad_word(0, word(img, o));
-    let b = pad_word(a, word(img, o + 1));
-    let c = pad_word(b, word(img, o + 2));
-    pad_word(c, word(img, o + 3)) <= 1
+    let k = o * 4;
+    let e = k + bounds::NAME;
+    if e <= img.len() {
+        return is_padded(&img[k..e]);
+    }
+    let s = name_field::bytes_at(&img[0..], o);
+    is_padded(&s)
 }
 
 // A table that starts at a, of n rows of s words, ends at e.

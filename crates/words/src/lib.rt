@@ -1,7 +1,7 @@
 // The words of a stored image, read where they stand. A byte past the end counts as 0, so no place needs a bound.
 ghost use mathlib.Core.Path.{_≡_};
 ghost use Prim.Native.Nat.{_+_, _*_, _≤_};
-ghost use lib.ListN.{getD};
+ghost use lib.ListN.{length, getD};
 ghost use Rattle.model.specs.Image.{wordAt, crispOf};
 use model::Crisp;
 
@@ -29,19 +29,28 @@ fn joined(a: u32, b: u32, c: u32, d: u32) -> usize
     (a + b * 256 + c * 65536 + d * 16777216) as usize
 }
 
-// The word at place i: one load where all its bytes are there.
+// The word at place i, which is within the image: one load.
+pub fn whole_word(img: &[u8], i: usize) -> usize
+    requires { ⌜ i * 4 + 4 ≤ length (now img) ⌝ }
+    ensures { λ r. ⌜ (r ≡ wordAt (now (img .entry)) i) × (r ≤ 4294967295) ⌝ }
+{
+    let k = i * 4;
+    joined(
+        wide(img[k]),
+        wide(img[k + 1]),
+        wide(img[k + 2]),
+        wide(img[k + 3]),
+    )
+}
+
+// The word at place i.
 pub fn word(img: &[u8], i: usize) -> usize
     requires { ⌜ i ≤ 1000000000000 ⌝ }
     ensures { λ r. ⌜ (r ≡ wordAt (now (img .entry)) i) × (r ≤ 4294967295) ⌝ }
 {
     let k = i * 4;
     if k + 4 <= img.len() {
-        return joined(
-            wide(img[k]),
-            wide(img[k + 1]),
-            wide(img[k + 2]),
-            wide(img[k + 3]),
-        );
+        return whole_word(img, i);
     }
     joined(
         wide(byte(img, k)),

@@ -1,36 +1,29 @@
-use mathlib.Core.Path.{ap, _∙_}
-use Prim.Native.Nat.{ℕ, _/_, _%_}
-use Rattle.stored_tables.specs.Tests.{padStep, padRun}
+use mathlib.Core.Path.{sym, ap, _∙_}
+use Prim.Native.Nat.{ℕ}
+use native.Mathlib.Omega.{arith}
 use borrow.Author.Needs.{needs}
+use borrow.Author.Tests.{lt-ltb, le-ltb}
+use Rattle.model.specs.Image.{wordBytes}
+use Rattle.stored_tables.specs.Tests.{padRun}
+use Rattle.stored_tables.proofs.Names.{pad-more}
 use Rattle.stored_tables.proofs.pad_word.Statement.{statement}
 use Rattle.stored_tables.proofs.pad_word.Tie as tie
 
-pad-step-requires : tie.Need-pad-step-requires
-pad-step-requires c κs = search needs
-
-pad-step-requires-2 : tie.Need-pad-step-requires-2
-pad-step-requires-2 c κs = search needs
-
-pad-step-requires-3 : tie.Need-pad-step-requires-3
-pad-step-requires-3 c κs = search needs
-
-pad-step-requires-4 : tie.Need-pad-step-requires-4
-pad-step-requires-4 c κs = search needs
+first-pad-requires : tie.Need-first-pad-requires
+first-pad-requires c κs = search needs
 
 returns : tie.Need-returns
-unfolding padRun
-returns c =
-    let x = c .before .before .before .before .args .x in
-    let e2 = c .before .before .pad-step2 .ensures ∙ ap (λ (k : ℕ). padStep k (x / 256 % 256)) (c .before .before .before .pad-step .ensures) in
-    let e3 = c .before .pad-step3 .ensures ∙ ap (λ (k : ℕ). padStep k (x / 65536 % 256)) e2 in
-    c .pad-step4 .ensures ∙ ap (λ (k : ℕ). padStep k (x / 16777216)) e3
+returns c = c .first-pad .ensures ∙ ap (λ (m : ℕ). padRun m (wordBytes (c .before .before .args .x))) (sym (c .before .if1 .taken))
+
+returns-2 : tie.Need-returns-2
+returns-2 c =
+    let x = c .before .before .args .x in
+    sym (pad-more _ (c .before .if1 .left) x ∙ simp (lt-ltb x 1 (omega (arith, c .if2 .taken))))
+
+returns-3 : tie.Need-returns-3
+returns-3 c =
+    let x = c .before .before .args .x in
+    sym (pad-more _ (c .before .if1 .left) x ∙ simp (le-ltb x 1 (omega (arith, c .if2 .left))))
 
 pub pad-word-spec : {M : Type 1} → statement M
-pad-word-spec =
-    tie.close
-    (tie.spec
-    pad-step-requires
-    pad-step-requires-2
-    pad-step-requires-3
-    pad-step-requires-4
-    returns)
+pad-word-spec = tie.close (tie.spec first-pad-requires returns returns-2 returns-3)
