@@ -1,12 +1,13 @@
 -- What each part of FUZZIFY comes to, by the tests that the code makes.
 use mathlib.Core.Path.{_≡_, refl, sym, ap, _∙_}
-use mathlib.Core.Bool.{Bool, true, false, not}
+use mathlib.Core.Bool.{Bool, true, false, not, true≢false}
 use mathlib.Core.List.{List, [], _∷_, _++_, map}
 use Prim.Native.Nat.{ℕ, zero, suc, _+_, _*_, _-_, _≤_, _<_}
+use native.Mathlib.Numerals.{add-one}
 use native.Mathlib.Omega.{arith}
 use borrow.Author.Tests.{eq-eqb, ne-eqb, lt-ltb, le-ltb, lt-leb, le-leb}
 use lib.Dec.{ltb}
-use lib.IntN.{ℤ}
+use lib.IntN.{ℤ, pos}
 use lib.ListN.{length, getD, set, length-set}
 use lib.Seq.{slice, getD-set-same, getD-set-other}
 use lib.Signed.{ltZ}
@@ -37,9 +38,10 @@ use Rattle.parse_state.specs.declared.ParseState.{ParseState}
 use Rattle.parse_state.specs.Reads.{view, Good, Reads}
 use Rattle.parse_state.proofs.Laws as reading
 use Rattle.parse_state.proofs.Laws.{at, kind-view, text-view, block-view}
+use Rattle.fuzzify_text.specs.declared.PointRead.{PointRead}
 use Rattle.fuzzify_text.specs.declared.Shape.{Shape}
 use Rattle.fuzzify_text.specs.declared.TermName.{TermName}
-use Rattle.fuzzify_text.specs.Terms.{pointAt, withTerm, rises, positionAfter, endAfter, pointsRead, noPoints, Place, blockWith, viewAt, Room, Reads as ReadsShape, Ends, termFrom, Terms, Names}
+use Rattle.fuzzify_text.specs.Terms.{withTerm, rises, positionAfter, endAfter, Place, blockWith, viewWith, pointOf, pointsWith, Ends, ReadsPoint, pointAt, pointsRead, noPoints, viewAt, Room, Reads as ReadsShape, termFrom, Terms, Names}
 
 -- A POSITION, THE END OF THE POINTS
 module _ (s : List ℕ) (c d : Cursor) where
@@ -111,59 +113,166 @@ unfolding mayFollow tab
 may-tab f zero p x = ap (λ (k : ℕ). ltZ (f k .at) x) (omega arith)
 may-tab f (suc m) p x = may-tab f m (suc p) x ∙ ap (λ (k : ℕ). ltZ (f k .at) x) (omega arith)
 
+pub ends-none : (last : ℤ) → Ends [] 0 last
+unfolding rises mayFollow
+ends-none last = record { count = refl; may = λ x. refl }
+
+points-count : (p : Shape) → length (pointsRead p) ≡ p .count
+unfolding pointsRead
+points-count p = length-tab (pointAt (p .points)) (p .count) 0
+
+-- one more
 module _ (p : Shape) where
-  pub ends-none : (last : ℤ) → p .count ≡ 0 → Ends p last
-  unfolding rises tab mayFollow pointsRead
-  ends-none last z = record {
-    may = λ x. ap (λ (k : ℕ). mayFollow (map (λ q. q .at) (tab (pointAt (p .points)) k 0)) x) z ∙ sym (simp (eq-eqb _ _ z));
-  }
-
-  pub ends-some : (p .count ≡ 0 → ⊥) → Ends p (getD (p .points) (p .count - 1) no-point .at .0)
-  unfolding rises pointsRead pointAt
-  ends-some z = record {
-    may = λ x.
-        let q : p .count ≡ suc (p .count - 1) = omega arith in
-        let l : 0 + (p .count - 1) ≡ p .count - 1 = omega arith in
-        ap (λ (k : ℕ). mayFollow (map (λ q. q .at) (tab (pointAt (p .points)) k 0)) x) q
-        ∙ may-tab (pointAt (p .points)) (p .count - 1) 0 x
-        ∙ ap (λ (k : ℕ). ltZ (getD (p .points) k no-point .at .0) x) l
-        ∙ sym (simp (ne-eqb _ _ z));
-  }
-
-  points-count : length (pointsRead p) ≡ p .count
-  unfolding pointsRead
-  points-count = length-tab (pointAt (p .points)) (p .count) 0
-
-  -- one more
   abbrev pub longer : Cursor → Point → Shape
   longer d q = record { cursor = d; count = p .count + 1; points = set (p .points) (p .count) q }
 
-  read-more : (d : Cursor) (q : Point) → p .count < length (p .points)
-      → pointsRead (longer d q) ≡ pointsRead p ++ (record { at = q .at .0; degree = q .degree .0 } ∷ [])
-  unfolding pointsRead pointAt
-  read-more d q h =
-      let n = p .count in
-      tab-more (pointAt (p .points)) (pointAt (set (p .points) n q)) n (record { at = q .at .0; degree = q .degree .0 })
-      (λ k l. let e = getD-set-other (p .points) n k q no-point (λ z. omega arith) in λ j. record { at = e j .at .0; degree = e j .degree .0 })
-      (let e = getD-set-same (p .points) n q no-point h in λ j. record { at = e j .at .0; degree = e j .degree .0 })
+  module _ (d : Cursor) (q : Point) (h : p .count < length (p .points)) where
+    pub read-more : pointsRead (longer d q) ≡ pointsRead p ++ (pointOf q ∷ [])
+    unfolding pointsRead pointAt
+    read-more =
+        let n = p .count in
+        tab-more (pointAt (p .points)) (pointAt (set (p .points) n q)) n (pointOf q)
+        (λ k l. ap pointOf (getD-set-other (p .points) n k q no-point (λ z. omega arith))) (ap pointOf (getD-set-same (p .points) n q no-point h))
 
-module _ (s : List ℕ) (x : Place) (p : Shape) where
-  kind-at : kind (viewAt s x p) ≡ p .cursor .kind
-  unfolding viewAt
-  kind-at = kind-seen s (p .cursor) (blockWith x (pointsRead p)) 0
+    pub ends-more : Ends (pointsRead (longer d q)) (p .count + 1) (q .at .0)
+    unfolding rises pointsRead pointAt
+    ends-more = record {
+      count = points-count (longer d q);
+      may = λ x.
+          let n = p .count in
+          let f : ℕ → block.Point = pointAt (set (p .points) n q) in
+          let z : 0 + n ≡ n = omega arith in
+          ap (λ (k : ℕ). mayFollow (map (λ q. q .at) (tab f k 0)) x) (add-one n)
+          ∙ may-tab f n 0 x
+          ∙ ap (λ (k : ℕ). ltZ (f k .at) x) z
+          ∙ ap (λ (v : Point). ltZ (v .at .0) x) (getD-set-same (p .points) n q no-point h)
+          ∙ sym (simp (ne-eqb (n + 1) 0 (λ z. omega arith)));
+    }
 
-  text-at : text (viewAt s x p) ≡ textOf s (p .cursor)
-  unfolding viewAt
-  text-at = text-seen s (p .cursor) (blockWith x (pointsRead p)) 0
+module _ (s : List ℕ) (x : Place) (ps : List block.Point) (c : Cursor) where
+  kind-with : kind (viewWith s x ps c) ≡ c .kind
+  unfolding viewWith
+  kind-with = kind-seen s c (blockWith x ps) 0
 
-  points-at : pointsOf (x .input) (viewAt s x p .block) ≡ pointsRead p
-  unfolding viewAt
-  points-at =
-      ap (pointsOf (x .input)) (block-seen s (p .cursor) (blockWith x (pointsRead p)) 0)
-      ∙ last-in (x .input) (record { name = x .name; points = pointsRead p }) (x .block) (x .known)
+  text-with : text (viewWith s x ps c) ≡ textOf s c
+  unfolding viewWith
+  text-with = text-seen s c (blockWith x ps) 0
 
-  count-at : length (pointsOf (x .input) (viewAt s x p .block)) ≡ p .count
-  count-at = ap length points-at ∙ points-count p
+  points-with : pointsOf (x .input) (viewWith s x ps c .block) ≡ ps
+  unfolding viewWith
+  points-with =
+      ap (pointsOf (x .input)) (block-seen s c (blockWith x ps) 0) ∙ last-in (x .input) (record { name = x .name; points = ps }) (x .block) (x .known)
+
+  step-with : {part : Part} {d : Cursor} → Step part s c d → viewWith s x ps d ≡ part (viewWith s x ps c)
+  unfolding viewWith
+  step-with q = q .reads (blockWith x ps) 0
+
+-- A POINT
+module _ (s : List ℕ) (c d : Cursor) (n : ℕ) (last : ℤ) where
+  -- refused
+  refused : {part : ℕ → Part} (w : ℕ) (q : Point) → Step (refuse w) s c d → (d .why ≡ 0 → ⊥)
+      → ((x : Place) (ps : List block.Point) → Ends ps n last → part (x .input) (viewWith s x ps c) ≡ refuse w (viewWith s x ps c))
+      → ReadsPoint part n last s c (record { cursor = d; read = false; point = q })
+  refused w q y h e = record {
+    reads = λ x ps z. step-with s x ps c y ∙ sym (e x ps z);
+    fewer = y .fewer;
+    fits = y .fits;
+    stops = λ z. h;
+  }
+
+  pub degree-bad : (q : Point) (v : ℤ) (w : ℕ) → ((b : Block) (m : ℕ) → w ≡ fault (aUnit (seen s c b m))) → (w ≡ 0 → ⊥) → Step (refuse w) s c d
+      → (d .why ≡ 0 → ⊥) → ReadsPoint (λ i. pointDegree i v) n last s c (record { cursor = d; read = false; point = q })
+  unfolding pointDegree viewWith
+  degree-bad q v w f h y k =
+      refused w q y k (λ x ps z. judged-bad (viewWith s x ps c) _ w (aUnit (viewWith s x ps c)) [] (sym (f (blockWith x ps) 0)) h)
+
+  pub degree-good : (q : Point) → ((b : Block) (m : ℕ) → 0 ≡ fault (aUnit (seen s c b m))) → q .degree .0 ≡ unitOf (textOf s c)
+      → c .why ≡ 0 → Step advance s c d → ReadsPoint (λ i. pointDegree i (q .at .0)) n last s c (record { cursor = d; read = true; point = q })
+  unfolding pointDegree viewWith numbered judged
+  degree-good q f e k y = record {
+    reads = λ x ps z.
+        let b = blockWith x ps in
+        let add : ℕ → Block → Block = λ v. addPoint (x .input) (record { at = q .at .0; degree = v }) in
+        y .reads (blockWith x (ps ++ (pointOf q ∷ []))) 0
+        ∙ ap (λ (a : Block). advance (seen s c a 0)) (sym (point-in (x .input) (record { name = x .name; points = ps }) (x .block) (pointOf q)))
+        ∙ ap advance (sym (cursor.changed s c b 0 (add (q .degree .0)) k))
+        ∙ ap (λ (v : ℕ). advance (change (add v) (seen s c b 0))) (e ∙ ap unitOf (sym (text-seen s c b 0)))
+        ∙ sym (judged-good (seen s c b 0) _ (aUnit (seen s c b 0)) [] refl (sym (f b 0)));
+    fewer = y .fewer;
+    fits = y .fits;
+    stops = λ z k. true≢false z;
+  }
+
+  pub point-none : (q : Point) → (c .kind ≡ 40 → ⊥) → Step (refuse 2) s c d → (d .why ≡ 0 → ⊥)
+      → ReadsPoint point n last s c (record { cursor = d; read = false; point = q })
+  unfolding point judged
+  point-none q h y k = refused 2 q y k (λ x ps z. simp (kind-with, ne-eqb _ _ h))
+
+  module _ (h : c .kind ≡ 40) where
+    point-then : (x : Place) (ps : List block.Point) → length ps ≡ n → point (x .input) (viewWith s x ps c)
+        ≡ (if ltb n 4 then pointBody (x .input) (advance (viewWith s x ps c)) else refuse 6 (viewWith s x ps c))
+    unfolding point judged
+    point-then x ps e = simp (kind-with, eq-eqb _ _ h, points-with, e)
+
+    pub point-full : (q : Point) → 4 ≤ n → Step (refuse 6) s c d → (d .why ≡ 0 → ⊥)
+        → ReadsPoint point n last s c (record { cursor = d; read = false; point = q })
+    point-full q l y k = refused 6 q y k (λ x ps z. point-then x ps (z .count) ∙ simp (le-ltb _ _ l))
+
+    pub point-good : (r : PointRead) → n < 4 → Step advance s c d → ReadsPoint pointBody n last s d r → ReadsPoint point n last s c r
+    point-good r l y z = record {
+      reads = λ x ps e.
+          z .reads x ps e ∙ ap (pointBody (x .input)) (step-with s x ps c y) ∙ sym (point-then x ps (e .count) ∙ simp (lt-ltb _ _ l));
+      fewer = let a = z .fewer in let b = y .fewer in omega arith;
+      fits = z .fits;
+      stops = z .stops;
+    }
+
+  position-is : (x : Place) (ps : List block.Point) → Ends ps n last → pointPosition (x .input) (viewWith s x ps c) ≡ positionAfter n last (viewWith s x ps c)
+  unfolding pointPosition positionAfter
+  position-is x ps z =
+      ap (λ (b : Bool). judged (aCrisp (viewWith s x ps c) ((b, 7) ∷ [])) (viewWith s x ps c) (advance (viewWith s x ps c)))
+      (ap (λ (l : List block.Point). mayFollow (map (λ q. q .at) l) (valueHere (viewWith s x ps c))) (points-with s x ps c) ∙ z .may _)
+
+  lost-from : Fits s d → (d .why ≡ 0 → ⊥) → (v : ℤ) (x : Place) (ps : List block.Point)
+      → viewWith s x ps d ≡ expect CLOSE (pointDegree (x .input) v (expect COMMA (viewWith s x ps d)))
+  unfolding pointDegree viewWith
+  lost-from f h v x ps =
+      let b = blockWith x ps in
+      let l = cursor.lost-expect s d f h b 0 in
+      sym (ap (λ (r : Parse). expect CLOSE (pointDegree (x .input) v r)) (l COMMA (λ q. omega arith))
+      ∙ ap (expect CLOSE) (cursor.lost-judged s d f h b 0 NUMBER _ _ (λ q. omega arith))
+      ∙ l CLOSE (λ q. omega arith))
+
+  module _ (y : Step (positionAfter n last) s c d) where
+    -- from behind the position on
+    body-then : (v : ℤ) → v ≡ valueOf (textOf s c) → (x : Place) (ps : List block.Point) → Ends ps n last
+        → expect CLOSE (pointDegree (x .input) v (expect COMMA (viewWith s x ps d))) ≡ pointBody (x .input) (viewWith s x ps c)
+    unfolding pointBody
+    body-then v o x ps z =
+        ap (λ (a : Parse). expect CLOSE (pointDegree (x .input) v (expect COMMA a))) (step-with s x ps c y ∙ sym (position-is x ps z))
+        ∙ ap (λ (a : ℤ). expect CLOSE (pointDegree (x .input) a (expect COMMA (pointPosition (x .input) (viewWith s x ps c)))))
+        (o ∙ sym (ap valueOf (text-with s x ps c)))
+
+    pub from-lost : (q : Point) → (d .why ≡ 0 → ⊥) → ReadsPoint pointBody n last s c (record { cursor = d; read = false; point = q })
+    from-lost q h = record {
+      reads = λ x ps z. lost-from (y .fits) h _ x ps ∙ body-then (valueOf (textOf s c)) refl x ps z;
+      fewer = y .fewer;
+      fits = y .fits;
+      stops = λ z. h;
+    }
+
+    pub from-good : (e : Cursor) (r : PointRead) (f : Cursor) (v : ℤ) → v ≡ valueOf (textOf s c) → Step (expect COMMA) s d e
+        → ReadsPoint (λ i. pointDegree i v) n last s e r → Step (expect CLOSE) s (r .cursor) f
+        → ReadsPoint pointBody n last s c (record { cursor = f; read = r .read; point = r .point })
+    from-good e r f v o k w l = record {
+      reads = λ x ps z.
+          step-with s x (pointsWith ps r) (r .cursor) l
+          ∙ ap (expect CLOSE) (w .reads x ps z ∙ ap (pointDegree (x .input) v) (step-with s x ps d k))
+          ∙ body-then v o x ps z;
+      fewer = let a = w .fewer in omega (arith, y .fewer, k .fewer, l .fewer);
+      fits = l .fits;
+      stops = λ z q. w .stops z (l .sticky q);
+    }
 
 -- one part after the other, a step of the cursor, the same part by another name
 abbrev pub moved : Cursor → Shape → Shape
@@ -171,8 +280,12 @@ moved c p = record { cursor = c; count = p .count; points = p .points }
 
 pub step : {part : Part} {s : List ℕ} {c d : Cursor} (p : Shape) → p .count ≤ 4 → length (p .points) ≡ 4 → Step part s c d
     → ReadsShape (λ i. part) s (moved c p) (moved d p)
-unfolding viewAt pointsRead
-step p f l q = record { reads = λ x. q .reads (blockWith x (pointsRead p)) 0; fewer = q .fewer; room = record { fits = q .fits; few = f; size = l } }
+unfolding pointsRead
+step {part} {s} {c} p f l q = record {
+  reads = λ x. step-with s x (pointsRead p) c q;
+  fewer = q .fewer;
+  room = record { fits = q .fits; few = f; size = l };
+}
 
 pub next : {f g : ℕ → Part} {s : List ℕ} {a b c : Shape} → ReadsShape f s a b → ReadsShape g s b c → ReadsShape (λ i r. g i (f i r)) s a c
 next {f} {g} p q = record {
@@ -185,126 +298,88 @@ pub also : {f g : ℕ → Part} {s : List ℕ} {a b : Shape} → ReadsShape f s 
     → ((x : Place) → f (x .input) (viewAt s x a) ≡ g (x .input) (viewAt s x a)) → ReadsShape g s a b
 also p e = record { reads = λ x. p .reads x ∙ e x; fewer = p .fewer; room = p .room }
 
--- A POINT
-module _ (s : List ℕ) (p : Shape) (g : Room s p) (d : Cursor) where
-  module _ (x : ℤ) where
-    pub degree-bad : (w : ℕ) → ((b : Block) (m : ℕ) → w ≡ fault (aUnit (seen s (p .cursor) b m))) → (w ≡ 0 → ⊥) → Step (refuse w) s (p .cursor) d
-        → ReadsShape (λ i. pointDegree i x) s p (moved d p)
-    unfolding pointDegree viewAt
-    degree-bad w f h q = also (step p (g .few) (g .size) q) (λ y. sym (judged-bad (viewAt s y p) _ w (aUnit (viewAt s y p)) [] (sym (f _ 0)) h))
-
-  pub degree-good : (x : Point) → ((b : Block) (m : ℕ) → 0 ≡ fault (aUnit (seen s (p .cursor) b m))) → x .degree .0 ≡ unitOf (textOf s (p .cursor))
-      → p .count < 4 → (p .cursor .kind ≡ 0 → ⊥) → Step advance s (p .cursor) d → ReadsShape (λ i. pointDegree i (x .at .0)) s p (longer p d x)
-  unfolding pointDegree viewAt numbered judged
-  degree-good x f e l k q = record {
-    reads = λ y.
-        let c = p .cursor in
-        let b = blockWith y (pointsRead p) in
-        let add : ℕ → Block → Block = λ v. addPoint (y .input) (record { at = x .at .0; degree = v }) in
-        let w = point-in (y .input) (record { name = y .name; points = pointsRead p }) (y .block) (record { at = x .at .0; degree = x .degree .0 }) in
-        q .reads (blockWith y (pointsRead (longer p d x))) 0
-        ∙ ap (λ (a : Block). advance (seen s c a 0)) (ap (blockWith y) (read-more p d x (omega (arith, g .size))) ∙ sym w)
-        ∙ ap advance (sym (cursor.changed s c b 0 (add (x .degree .0)) (g .fits .halted k)))
-        ∙ ap (λ (v : ℕ). advance (change (add v) (seen s c b 0))) (e ∙ ap unitOf (sym (text-seen s c b 0)))
-        ∙ sym (judged-good (seen s c b 0) _ (aUnit (seen s c b 0)) [] refl (sym (f b 0)));
-    fewer = q .fewer;
-    room = record { fits = q .fits; few = omega arith; size = simp length-set (g .size) };
-  }
-
-  pub point-none : (p .cursor .kind ≡ 40 → ⊥) → Step (refuse 2) s (p .cursor) d → ReadsShape point s p (moved d p)
-  unfolding point judged
-  point-none h q = also (step p (g .few) (g .size) q) (λ x. sym (simp (kind-at, ne-eqb _ _ h)))
-
-  module _ (h : p .cursor .kind ≡ 40) where
-    point-then : (x : Place) → point (x .input) (viewAt s x p)
-        ≡ (if ltb (p .count) 4 then pointBody (x .input) (advance (viewAt s x p)) else refuse 6 (viewAt s x p))
-    unfolding point judged
-    point-then x = simp (kind-at, eq-eqb _ _ h, count-at)
-
-    pub point-full : 4 ≤ p .count → Step (refuse 6) s (p .cursor) d → ReadsShape point s p (moved d p)
-    point-full l q = also (step p (g .few) (g .size) q) (λ x. sym (point-then x ∙ simp (le-ltb _ _ l)))
-
-    pub point-good : (r : Shape) → p .count < 4 → Step advance s (p .cursor) d → ReadsShape pointBody s (moved d p) r → ReadsShape point s p r
-    point-good r l q z = also (next (step p (g .few) (g .size) q) z) (λ x. sym (point-then x ∙ simp (lt-ltb _ _ l)))
-
-module _ (s : List ℕ) (p : Shape) (g : Room s p) (last : ℤ) (z : Ends p last) where
-  position-is : (x : Place) → pointPosition (x .input) (viewAt s x p) ≡ positionAfter (p .count) last (viewAt s x p)
-  unfolding pointPosition positionAfter
-  position-is x =
-      ap (λ (b : Bool). judged (aCrisp (viewAt s x p) ((b, 7) ∷ [])) (viewAt s x p) (advance (viewAt s x p)))
-      (ap (λ (ps : List block.Point). mayFollow (map (λ q. q .at) ps) (valueHere (viewAt s x p))) (points-at s x p) ∙ z .may _)
-
-  lost-from : (d : Cursor) → Fits s d → (d .why ≡ 0 → ⊥) → (v : ℤ) (x : Place)
-      → viewAt s x (moved d p) ≡ expect CLOSE (pointDegree (x .input) v (expect COMMA (viewAt s x (moved d p))))
-  unfolding pointDegree viewAt
-  lost-from d f h v x =
-      let b = blockWith x (pointsRead (moved d p)) in
-      let l = cursor.lost-expect s d f h b 0 in
-      sym (ap (λ (r : Parse). expect CLOSE (pointDegree (x .input) v r)) (l COMMA (λ q. omega arith))
-      ∙ ap (expect CLOSE) (cursor.lost-judged s d f h b 0 NUMBER _ _ (λ q. omega arith))
-      ∙ l CLOSE (λ q. omega arith))
-
-  pub from-lost : (d : Cursor) → Step (positionAfter (p .count) last) s (p .cursor) d → (d .why ≡ 0 → ⊥) → ReadsShape pointBody s p (moved d p)
-  unfolding pointBody
-  from-lost d q h =
-      let y = step p (g .few) (g .size) q in
-      also y (λ x. sym (y .reads x) ∙ lost-from d (q .fits) h _ x
-      ∙ ap (λ (r : Parse). expect CLOSE (pointDegree (x .input) (valueHere (viewAt s x p)) (expect COMMA r))) (y .reads x ∙ sym (position-is x)))
-
-  pub from-good : (d e : Cursor) (r : Shape) (f : Cursor) (v : ℤ) → v ≡ valueOf (textOf s (p .cursor))
-      → Step (positionAfter (p .count) last) s (p .cursor) d → Step (expect COMMA) s d e → ReadsShape (λ i. pointDegree i v) s (moved e p) r
-      → Step (expect CLOSE) s (r .cursor) f
-      → ReadsShape pointBody s p (moved f r)
-  unfolding pointBody
-  from-good d e r f v o q k y l =
-      also (next (next (next (step p (g .few) (g .size) q) (step p (g .few) (g .size) k)) y) (step r (y .room .few) (y .room .size) l))
-      (λ x. ap (λ (a : Parse). expect CLOSE (pointDegree (x .input) v (expect COMMA a))) (sym (position-is x))
-      ∙ ap (λ (a : ℤ). expect CLOSE (pointDegree (x .input) a (expect COMMA (pointPosition (x .input) (viewAt s x p)))))
-      (o ∙ sym (ap valueOf (text-at s x p))))
-
--- POINTS, one after each comma
+-- POINTS, one after each comma: they are read up to p, and what the next one comes to leads on
 abbrev again : ℕ → Part
 again i r = point i (expect COMMA r)
 
-abbrev pub Going : List ℕ → Shape → Shape → Type 0
-Going s q₀ q = (left s (q .cursor) ≤ left s (q₀ .cursor)) × Room s q
-    × ((x : Place) → Again (repeats COMMA (again (x .input))) (left s (q .cursor)) (viewAt s x q) (repeated COMMA (again (x .input)) (viewAt s x q₀)))
-
 module _ (s : List ℕ) where
-  pub begins : (q : Shape) → Room s q → Going s q q
-  unfolding repeated viewAt
-  begins q g = (omega arith, g, λ x. (suc (length (viewAt s x q .rest)), cursor.enough s (q .cursor) (blockWith x (pointsRead q)) 0, refl))
+  abbrev Leads : Shape → Shape → Place → Type 0
+  Leads p₀ r x = Again (repeats COMMA (again (x .input))) (left s (r .cursor)) (viewAt s x r) (listed (point (x .input)) (viewAt s x p₀))
 
-  expect-comma : (q : Shape) → q .cursor .kind ≡ COMMA → (x : Place) → expect COMMA (viewAt s x q) ≡ advance (viewAt s x q)
-  unfolding expect
-  expect-comma q h x = simp (kind-at, eq-eqb _ _ h)
+  abbrev pub Going : Shape → Shape → ℤ → Type 0
+  Going p₀ p last = Room s p × Ends (pointsRead p) (p .count) last × (left s (p .cursor) ≤ left s (p₀ .cursor))
+      × ((r : Shape) (x : Place) → viewAt s x r ≡ point (x .input) (viewAt s x p) → left s (r .cursor) ≤ left s (p .cursor) → Leads p₀ r x)
 
-  pub goes : (q₀ q r : Shape) (d : Cursor) → Going s q₀ q → q .cursor .kind ≡ COMMA → Step advance s (q .cursor) d → left s d < left s (q .cursor)
-      → ReadsShape point s (moved d q) r → Going s q₀ r
-  goes q₀ q r d g h a m y =
-      let f = y .fewer in
-      let z = step q (g .1 .few) (g .1 .size) a in
-      let one : (x : Place) (n : ℕ) → repeatOn (suc n) COMMA (again (x .input)) (viewAt s x q) ≡ repeatOn n COMMA (again (x .input)) (viewAt s x r) =
-      λ x n. turn COMMA (again (x .input)) n (viewAt s x q) (eq-eqb _ _ (kind-at s x q ∙ h))
-      ∙ ap (repeatOn n COMMA (again (x .input)))
-      (ap (point (x .input)) (expect-comma q h x ∙ sym (z .reads x)) ∙ sym (y .reads x)) in
-      (omega arith, y .room, λ x. again-more (repeats COMMA (again (x .input))) (one x) (omega arith) (g .2 x))
+  pub begins : (c : Cursor) → Fits s c → Going (noPoints c) (noPoints c) (pos 0)
+  unfolding repeated listed viewWith pointsRead tab
+  begins c f = (
+    record { fits = f; few = omega arith; size = refl },
+    ends-none (pos 0),
+    omega arith,
+    λ r x e m. (
+      suc (length (viewAt s x r .rest)),
+      cursor.enough s (r .cursor) (blockWith x (pointsRead r)) 0,
+      ap (repeated COMMA (again (x .input))) e,
+    ),
+  )
 
-  pub leaves : (p q₀ q : Shape) → ReadsShape point s p q₀ → Going s q₀ q → (q .cursor .kind ≡ COMMA → ⊥) → ReadsShape (λ i. listed (point i)) s p q
-  unfolding listed
-  leaves p q₀ q y g h = record {
-    reads = λ x.
-        again-end (repeats COMMA (again (x .input)))
-        (λ n. no-turn COMMA (again (x .input)) n (viewAt s x q) (ne-eqb _ _ (λ z. h (sym (kind-at s x q) ∙ z)))) (g .2 x)
-        ∙ ap (repeated COMMA (again (x .input))) (y .reads x);
-    fewer = let f = y .fewer in omega (arith, g .0);
-    room = g .1;
-  }
+  module _ (p₀ p : Shape) (last : ℤ) (g : Going p₀ p last) (a : PointRead) (y : ReadsPoint point (p .count) last s (p .cursor) a) where
+    read-with : (x : Place) → viewWith s x (pointsWith (pointsRead p) a) (a .cursor) ≡ point (x .input) (viewAt s x p)
+    read-with x = y .reads x (pointsRead p) (g .1)
+
+    ends-with : (r : Shape) → Room s r → left s (r .cursor) ≤ left s (p .cursor)
+        → ((x : Place) → viewAt s x r ≡ point (x .input) (viewAt s x p)) → (r .cursor .kind ≡ COMMA → ⊥)
+        → ReadsShape (λ i. listed (point i)) s p₀ r
+    ends-with r o l e h = record {
+      reads = λ x.
+          again-end (repeats COMMA (again (x .input)))
+          (λ f. no-turn COMMA (again (x .input)) f (viewAt s x r) (ne-eqb _ _ (λ z. h (sym (kind-with s x (pointsRead r) (r .cursor)) ∙ z))))
+          (g .3 r x (e x) l);
+      fewer = omega (arith, g .2);
+      room = o;
+    }
+
+    pub stops : a .read ≡ false → ReadsShape (λ i. listed (point i)) s p₀ (moved (a .cursor) p)
+    unfolding pointsRead
+    stops h =
+        ends-with (moved (a .cursor) p) (record { fits = y .fits; few = g .0 .few; size = g .0 .size }) (y .fewer)
+        (λ x. ap (λ (t : Bool). viewWith s x (if t then pointsRead p ++ (pointOf (a .point) ∷ []) else pointsRead p) (a .cursor)) (sym h) ∙ read-with x)
+        (λ z. omega (arith, cursor.lost-kind s (a .cursor) (y .fits) (y .stops h)))
+
+    module _ (h : a .read ≡ true) (l : p .count < 4) where
+      more-read : (x : Place) → viewAt s x (longer p (a .cursor) (a .point)) ≡ point (x .input) (viewAt s x p)
+      more-read x =
+          ap (λ (ps : List block.Point). viewWith s x ps (a .cursor)) (read-more p (a .cursor) (a .point) (omega (arith, g .0 .size)))
+          ∙ ap (λ (t : Bool). viewWith s x (if t then pointsRead p ++ (pointOf (a .point) ∷ []) else pointsRead p) (a .cursor)) (sym h) ∙ read-with x
+
+      more-room : Room s (longer p (a .cursor) (a .point))
+      more-room = record { fits = y .fits; few = omega arith; size = simp length-set (g .0 .size) }
+
+      pub leaves : (a .cursor .kind ≡ COMMA → ⊥) → ReadsShape (λ i. listed (point i)) s p₀ (longer p (a .cursor) (a .point))
+      leaves k = ends-with (longer p (a .cursor) (a .point)) more-room (y .fewer) more-read k
+
+      pub goes : (d : Cursor) → a .cursor .kind ≡ COMMA → Step advance s (a .cursor) d → left s d < left s (a .cursor)
+          → Going p₀ (longer p d (a .point)) (a .point .at .0)
+      unfolding expect pointsRead
+      goes d k q m = (
+        record { fits = q .fits; few = omega arith; size = simp length-set (g .0 .size) },
+        ends-more p d (a .point) (omega (arith, g .0 .size)),
+        omega (arith, y .fewer, g .2),
+        λ r x e n.
+            let u = longer p (a .cursor) (a .point) in
+            let v = viewAt s x u in
+            again-more (repeats COMMA (again (x .input)))
+            (λ f. turn COMMA (again (x .input)) f v (eq-eqb _ _ (kind-with s x (pointsRead u) (a .cursor) ∙ k))
+            ∙ ap (λ (w : Parse). repeatOn f COMMA (again (x .input)) (point (x .input) w))
+            (simp (kind-with, eq-eqb _ _ k) (sym (step-with s x (pointsRead u) (a .cursor) q)))
+            ∙ ap (repeatOn f COMMA (again (x .input))) (sym e))
+            (omega arith) (g .3 u x (more-read x) (y .fewer)),
+      )
 
 -- A TERM
 pub points-end : (s : List ℕ) (p : Shape) (x : Place) → endAfter (p .count) (viewAt s x p) ≡ endOfPoints (x .input) (viewAt s x p)
 unfolding endAfter endOfPoints
-points-end s p x = simp count-at
+points-end s p x = simp (points-with, points-count)
 
 -- refused at its name
 pub term-lost : (s : List ℕ) (i : ℕ) (b : Block) (c d e : Cursor) → inputTerm i (seen s c b 0) ≡ termFrom i (termName i (seen s d b 0))
@@ -374,7 +449,7 @@ module _ (s : List ℕ) (t : Tables) (i : ℕ) where
         → ReadsShape termFrom s (noPoints (a .cursor)) q
         → Changes s t u (withTerm i (record { name = slice (a .start) (a .end) s; points = tab (pointAt (q .points)) (q .count) 0 }))
         → Reads (inputTerm i) s (at c t) (at (q .cursor) u)
-    unfolding view viewAt pointsRead tab
+    unfolding view viewWith pointsRead tab
     turn-good q u h w m y z =
         let x : Place = record { input = i; name = slice (a .start) (a .end) s; block = blockView s t; known = terms-known h .input } in
         record {

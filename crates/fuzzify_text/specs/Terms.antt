@@ -2,7 +2,7 @@
 -- block with these points in the last term of an input; `Reads` ties it to a `Part` of the model, and `position-is` and
 -- `points-end` of proofs/Laws tie the checks to the model's `pointPosition` and `endOfPoints`.
 use mathlib.Core.Path.{_≡_}
-use mathlib.Core.Bool.{Bool, true}
+use mathlib.Core.Bool.{Bool, true, false}
 use mathlib.Core.List.{List, [], _∷_, _++_, map}
 use Prim.Native.Nat.{ℕ, _+_, _*_, _≤_, _<_}
 use lib.Dec.{eqb, leb}
@@ -24,6 +24,7 @@ use Rattle.cursor.specs.declared.Cursor.{Cursor}
 use Rattle.cursor.specs.View.{seen, Fits, left}
 use Rattle.block_tables.specs.declared.Point.{Point}
 use Rattle.block_tables.specs.View.{no-point}
+use Rattle.fuzzify_text.specs.declared.PointRead.{PointRead}
 use Rattle.fuzzify_text.specs.declared.Shape.{Shape}
 use Rattle.fuzzify_text.specs.declared.TermName.{TermName}
 
@@ -43,19 +44,7 @@ unfoldable pub endAfter : ℕ → Part
 endAfter n r = judged ((is SEMICOLON r, 2) ∷ (leb pointLeast n, 7) ∷ []) r (advance r)
 
 -- POINTS
--- the point at place k of an array
-unfoldable pub pointAt : List Point → ℕ → block.Point
-pointAt ps k = record { at = getD ps k no-point .at .0; degree = getD ps k no-point .degree .0 }
-
--- the points so far
-unfoldable pub pointsRead : Shape → List block.Point
-pointsRead p = tab (pointAt (p .points)) (p .count) 0
-
--- none yet
-abbrev pub noPoints : Cursor → Shape
-noPoints c = record { cursor = c; count = 0; points = replicate pointLimit no-point }
-
--- the term that they are read for: of this name, behind the other terms of an input in a block
+-- the term that points are read for: of this name, behind the other terms of an input in a block
 pub record Place : Type 0 where
   pub input : ℕ
   pub name : List ℕ
@@ -65,8 +54,42 @@ pub record Place : Type 0 where
 abbrev pub blockWith : Place → List block.Point → Block
 blockWith x ps = withTerm (x .input) (record { name = x .name; points = ps }) (x .block)
 
-unfoldable pub viewAt : List ℕ → Place → Shape → Parse
-viewAt s x p = seen s (p .cursor) (blockWith x (pointsRead p)) 0
+-- with these points so far
+unfoldable pub viewWith : List ℕ → Place → List block.Point → Cursor → Parse
+viewWith s x ps c = seen s c (blockWith x ps) 0
+
+abbrev pub pointOf : Point → block.Point
+pointOf q = record { at = q .at .0; degree = q .degree .0 }
+
+-- with one that is read, or not
+abbrev pub pointsWith : List block.Point → PointRead → List block.Point
+pointsWith ps r = if r .read then ps ++ (pointOf (r .point) ∷ []) else ps
+
+-- there are n of them, and the last position is this one
+pub record Ends (ps : List block.Point) (n : ℕ) (last : ℤ) : Type 0 where
+  pub count : length ps ≡ n
+  pub may : (x : ℤ) → mayFollow (map (λ q. q .at) ps) x ≡ rises n last x
+
+pub record ReadsPoint (part : ℕ → Part) (n : ℕ) (last : ℤ) (s : List ℕ) (c : Cursor) (r : PointRead) : Type 0 where
+  pub reads : (x : Place) (ps : List block.Point) → Ends ps n last
+      → viewWith s x (pointsWith ps r) (r .cursor) ≡ part (x .input) (viewWith s x ps c)
+  pub fewer : left s (r .cursor) ≤ left s c
+  pub fits : Fits s (r .cursor)
+  pub stops : r .read ≡ false → r .cursor .why ≡ 0 → ⊥
+
+-- the points of an array
+unfoldable pub pointAt : List Point → ℕ → block.Point
+pointAt ps k = pointOf (getD ps k no-point)
+
+unfoldable pub pointsRead : Shape → List block.Point
+pointsRead p = tab (pointAt (p .points)) (p .count) 0
+
+-- none yet
+abbrev pub noPoints : Cursor → Shape
+noPoints c = record { cursor = c; count = 0; points = replicate pointLimit no-point }
+
+abbrev pub viewAt : List ℕ → Place → Shape → Parse
+viewAt s x p = viewWith s x (pointsRead p) (p .cursor)
 
 pub record Room (s : List ℕ) (p : Shape) : Type 0 where
   pub fits : Fits s (p .cursor)
@@ -77,10 +100,6 @@ pub record Reads (part : ℕ → Part) (s : List ℕ) (p r : Shape) : Type 0 whe
   pub reads : (x : Place) → viewAt s x r ≡ part (x .input) (viewAt s x p)
   pub fewer : left s (r .cursor) ≤ left s (p .cursor)
   pub room : Room s r
-
--- the n positions so far end at this one
-pub record Ends (p : Shape) (last : ℤ) : Type 0 where
-  pub may : (x : ℤ) → mayFollow (map (λ q. q .at) (pointsRead p)) x ≡ rises (p .count) last x
 
 -- what follows the name of a term
 abbrev pub termFrom : ℕ → Part

@@ -1,6 +1,8 @@
 // FUZZIFY parts: the terms of an input, each a name and two to four points whose positions rise.
 ghost use mathlib.Core.Path.{_≡_};
-ghost use Prim.Native.Nat.{_+_, _*_, _≤_, _<_};
+ghost use mathlib.Core.Bool.{true};
+ghost use Prim.Native.Nat.{ℕ, _+_, _*_, _≤_, _<_};
+ghost use lib.IntN.{ℤ};
 ghost use Rattle.model.specs.Bounds.{inputLimit, termLimit, pointLimit, inputTermLimit};
 ghost use Rattle.model.specs.Tokens.{valueOf};
 ghost use Rattle.model.specs.Keywords.{TERM, FUZZIFY};
@@ -10,7 +12,7 @@ ghost use Rattle.model.specs.Declarations.{pointDegree as aDegree, pointBody, p
 ghost use Rattle.lookup.specs.Names.{Placed};
 ghost use Rattle.cursor.specs.View.{textOf, Fits, Step, Moves};
 ghost use Rattle.parse_state.specs.Reads.{Good, Reads};
-ghost use Rattle.fuzzify_text.specs.Terms.{rises, positionAfter, endAfter, noPoints, Room, Reads as ReadsShape, Ends, termFrom, Terms, Names as Reached, Named};
+ghost use Rattle.fuzzify_text.specs.Terms.{rises, positionAfter, endAfter, ReadsPoint, noPoints, Reads as ReadsShape, termFrom, Terms, Names as Reached, Named};
 use block_tables::Point;
 use cursor::Cursor;
 use lookup::Names;
@@ -22,6 +24,13 @@ use parse_state::ParseState;
 struct At {
     cursor: Cursor,
     value: Crisp,
+}
+
+// The cursor behind a point, and the point, where it is read as far as its degree.
+struct PointRead {
+    cursor: Cursor,
+    read: bool,
+    point: Point,
 }
 
 // The points of a term so far.
@@ -77,91 +86,123 @@ fn position(s: &[u8], c: Cursor, n: usize, last: Crisp) -> At
     }
 }
 
-// The degree at position x: one point more.
-fn degree(s: &[u8], p: Shape, x: Crisp) -> Shape
-    requires { ⌜ Room (now s) p × (p .count < pointLimit) ⌝ }
-    ensures { λ r. ⌜ ReadsShape (λ i. aDegree i (x .0)) (now (s .entry)) p r ⌝ }
+// The degree at position x.
+fn degree(s: &[u8], c: Cursor, x: Crisp) -> PointRead
+    requires { ⌜ Fits (now s) c ⌝ }
+    ensures { λ r. ⌜ ((n : ℕ) (last : ℤ) → ReadsPoint (λ i. aDegree i (x .0)) n last (now (s .entry)) c r) ⌝ }
 {
-    let c = p.cursor;
     let w = number_tokens::unit_here(s, c);
-    let mut r = p;
-    if w.fault != 0 {
-        let d = cursor::refuse(c, w.fault);
-        r.cursor = d;
-        return r;
-    }
     let y = w.value;
     let q = Point { at: x, degree: y };
-    let n = p.count;
+    if w.fault != 0 {
+        let d = cursor::refuse(c, w.fault);
+        return PointRead {
+            cursor: d,
+            read: false,
+            point: q,
+        };
+    }
     let d = cursor::advance(s, c);
-    r.cursor = d;
-    r.points[n] = q;
-    r.count = n + 1;
-    r
+    PointRead {
+        cursor: d,
+        read: true,
+        point: q,
+    }
 }
 
-// A point behind its parenthesis, the last position given.
-fn point_from(s: &[u8], p: Shape, last: Crisp) -> Shape
-    requires { ⌜ Room (now s) p × (p .count < pointLimit) × Ends p (last .0) ⌝ }
-    ensures { λ r. ⌜ ReadsShape pointBody (now (s .entry)) p r ⌝ }
+// A point behind its parenthesis, after n others, the last position given.
+fn point_from(s: &[u8], c: Cursor, n: usize, last: Crisp) -> PointRead
+    requires { ⌜ Fits (now s) c ⌝ }
+    ensures { λ r. ⌜ ReadsPoint pointBody n (last .0) (now (s .entry)) c r ⌝ }
 {
-    let c = p.cursor;
-    let a = position(s, c, p.count, last);
+    let a = position(s, c, n, last);
     let d = a.cursor;
-    let mut q = p;
-    q.cursor = d;
+    let x = a.value;
     if d.why != 0 {
-        return q;
+        let z = Point {
+            at: x,
+            degree: Degree(0),
+        };
+        return PointRead {
+            cursor: d,
+            read: false,
+            point: z,
+        };
     }
     let e = cursor::expect(s, d, token_kinds::COMMA);
-    q.cursor = e;
-    let x = a.value;
-    let mut r = degree(s, q, x);
+    let mut r = degree(s, e, x);
     let f = r.cursor;
     let g = cursor::expect(s, f, token_kinds::CLOSE);
     r.cursor = g;
     r
 }
 
-fn point(s: &[u8], p: Shape) -> Shape
-    requires { ⌜ Room (now s) p ⌝ }
-    ensures { λ r. ⌜ ReadsShape aPoint (now (s .entry)) p r ⌝ }
+// A point after n others, the last position given.
+fn point(s: &[u8], c: Cursor, n: usize, last: Crisp) -> PointRead
+    requires { ⌜ Fits (now s) c ⌝ }
+    ensures { λ r. ⌜ ReadsPoint aPoint n (last .0) (now (s .entry)) c r ⌝ }
+    ensures few { λ r. ⌜ (r .read ≡ true → n < pointLimit) ⌝ }
 {
-    let c = p.cursor;
-    let n = p.count;
-    let mut q = p;
+    let z = Point {
+        at: last,
+        degree: Degree(0),
+    };
     if c.kind != token_kinds::OPEN {
         let d = cursor::refuse(c, 2);
-        q.cursor = d;
-        return q;
+        return PointRead {
+            cursor: d,
+            read: false,
+            point: z,
+        };
     }
     if bounds::POINTS <= n {
         let d = cursor::refuse(c, 6);
-        q.cursor = d;
-        return q;
+        return PointRead {
+            cursor: d,
+            read: false,
+            point: z,
+        };
     }
     let d = cursor::advance(s, c);
-    q.cursor = d;
-    if n == 0 {
-        return point_from(s, q, Crisp(0));
-    }
-    let o = p.points[n - 1];
-    let last = o.at;
-    point_from(s, q, last)
+    point_from(s, d, n, last)
 }
 
-fn points(s: &[u8], p: Shape) -> Shape
-    requires { ⌜ Room (now s) p ⌝ }
-    ensures { λ r. ⌜ ReadsShape (λ i. listed (aPoint i)) (now (s .entry)) p r ⌝ }
+// Points, one or more.
+fn points(s: &[u8], c: Cursor) -> Shape
+    requires { ⌜ Fits (now s) c ⌝ }
+    ensures { λ r. ⌜ ReadsShape (λ i. listed (aPoint i)) (now (s .entry)) (noPoints c) r ⌝ }
 {
-    let mut q = point(s, p);
-    while q.cursor.kind == token_kinds::COMMA {
-        let c = q.cursor;
-        let d = cursor::advance(s, c);
-        q.cursor = d;
-        q = point(s, q);
+    let mut last = Crisp(0);
+    let z = Point {
+        at: last,
+        degree: Degree(0),
+    };
+    let mut ps = [z; bounds::POINTS];
+    let mut n: usize = 0;
+    let mut d = c;
+    loop {
+        let a = point(s, d, n, last);
+        let e = a.cursor;
+        if !a.read {
+            return Shape {
+                cursor: e,
+                count: n,
+                points: ps,
+            };
+        }
+        let q = a.point;
+        ps[n] = q;
+        n += 1;
+        if e.kind != token_kinds::COMMA {
+            return Shape {
+                cursor: e,
+                count: n,
+                points: ps,
+            };
+        }
+        last = q.at;
+        d = cursor::advance(s, e);
     }
-    q
 }
 
 // The semicolon behind n points.
@@ -184,18 +225,7 @@ fn term_points(s: &[u8], c: Cursor) -> Shape
     ensures { λ r. ⌜ ReadsShape termFrom (now (s .entry)) (noPoints c) r ⌝ }
 {
     let d = cursor::expect(s, c, token_kinds::ASSIGN);
-    let z = Point {
-        at: Crisp(0),
-        degree: Degree(0),
-    };
-    let mut r = points(
-        s,
-        Shape {
-            cursor: d,
-            count: 0,
-            points: [z; bounds::POINTS],
-        },
-    );
+    let mut r = points(s, d);
     let e = r.cursor;
     let f = end_of_points(s, e, r.count);
     r.cursor = f;

@@ -16,47 +16,26 @@ refuse-requires c κs = search needs
 
 returns : tie.Need-returns
 returns c =
-    let c3 = c .before .before .before in
-    let a = c3 .before .before .before .args in
-    let g = c3 .before .before .before .pre in
-    laws.degree-bad (a .s .now) (a .p) (g .0) (c .refuse .result) (a .x .0) _ (c3 .unit-here .ensures .0) (c .before .if1 .taken)
-    (c .refuse .ensures .0 _ (g .0 .fits))
+    let w = c .before .before .before .before .unit-here in
+    let a = c .before .before .before .before .before .before .args in
+    let g = c .before .before .before .before .before .before .pre in
+    λ n last. laws.degree-bad (a .s .now) (a .c) (c .refuse .result) n last _ (a .x .0) _ (w .ensures .0) (c .before .if1 .taken)
+    (c .refuse .ensures .0 _ g) (c .refuse .ensures .1 .1)
 
 advance-requires : tie.Need-advance-requires
-advance-requires c κs =
-    let c3 = c .before .before .before in
-    (c3 .before .before .before .pre .0 .fits, λ z. omega (arith, c3 .unit-here .ensures .1 .1 (c .before .if1 .left)))
-
-mul-q : tie.Need-mul-q
-mul-q c = search needs
-
-element-set-from-q : tie.Need-element-set-from-q
-element-set-from-q c = search needs
-
-add-r : tie.Need-add-r
-add-r c = search needs
+advance-requires c κs = (c .before .before .before .before .before .pre, λ z. omega (arith, c .before .before .before .unit-here .ensures .1 .1 (c .if1 .left)))
 
 returns-2 : tie.Need-returns-2
 returns-2 c =
-    let c4 = c .before .before .before .before in
-    let a = c4 .before .before .before .args in
-    let g = c4 .before .before .before .pre in
-    let z = c .before .before .if1 .left in
-    let w = c4 .unit-here .ensures in
-    laws.degree-good (a .s .now) (a .p) (g .0) (c .advance .result) (record { at = a .x; degree = c4 .unit-here .result .value })
-    (λ b m. sym z ∙ w .0 b m)
-    (value-here (c4 .unit-here .result .fault) (c4 .unit-here .result .value .0) (unitOf (textOf (a .s .now) (a .p .cursor))) 0 (w .1 .0) z) (g .1)
-    (λ q. omega (arith, w .1 .1 z)) (c .advance .ensures .0)
+    let w = c .before .before .before .before .unit-here in
+    let a = c .before .before .before .before .before .before .args in
+    let g = c .before .before .before .before .before .before .pre in
+    let z = c .before .if1 .left in
+    λ n last. laws.degree-good (a .s .now) (a .c) (c .advance .result) n last (record { at = a .x; degree = w .result .value })
+    (λ b m. sym z ∙ w .ensures .0 b m)
+    (value-here (w .result .fault) (w .result .value .0) (unitOf (textOf (a .s .now) (a .c))) 0 (w .ensures .1 .0) z)
+    (g .halted (λ q. omega (arith, w .ensures .1 .1 z))) (c .advance .ensures .0)
 
 pub degree-spec : {M : Type 1} → statement M
 degree-spec =
-    tie.close
-    (tie.spec
-    unit-here-requires
-    refuse-requires
-    returns
-    advance-requires
-    mul-q
-    element-set-from-q
-    add-r
-    returns-2)
+    tie.close (tie.spec unit-here-requires refuse-requires returns advance-requires returns-2)

@@ -1,3 +1,5 @@
+use native.Mathlib.Omega.{arith}
+use lib.IntN.{pos}
 use Rattle.fuzzify_text.proofs.Laws as laws
 use borrow.Author.Needs.{needs}
 use Rattle.fuzzify_text.proofs.point_from.Statement.{statement}
@@ -8,10 +10,9 @@ position-requires c κs = search needs
 
 returns : tie.Need-returns
 returns c =
-    let c3 = c .before .before .before in
-    let a = c3 .before .before .before .args in
-    let g = c3 .before .before .before .pre in
-    laws.from-lost (a .s .now) (a .p) (g .0) (a .last .0) (g .2) (c3 .position .result .cursor) (c3 .position .ensures .0) (c .if1 .taken)
+    let y = c .before .before .before .before .position in
+    let a = c .before .before .before .before .before .before .args in
+    laws.from-lost (a .s .now) (a .c) (y .result .cursor) (a .n) (a .last .0) (y .ensures .0) _ (c .if1 .taken)
 
 expect-requires : tie.Need-expect-requires
 expect-requires c κs = search needs
@@ -20,17 +21,16 @@ degree-requires : tie.Need-degree-requires
 degree-requires c κs = search needs
 
 expect-requires-2 : tie.Need-expect-requires-2
-expect-requires-2 c κs = search needs
+expect-requires-2 c κs = (c .before .degree .ensures 0 (pos 0) .fits, omega arith)
 
 returns-2 : tie.Need-returns-2
 returns-2 c =
-    let c4 = c .before .before .before .before in
-    let c8 = c4 .before .before .before .before in
-    let a = c8 .before .before .before .args in
-    let g = c8 .before .before .before .pre in
+    let e = c .before .before .before .expect in
+    let y = c .before .before .before .before .before .before .before .before .position in
+    let a = c .before .before .before .before .before .before .before .before .before .before .args in
     let r = c .before .before .degree in
-    laws.from-good (a .s .now) (a .p) (g .0) (a .last .0) (g .2) (c8 .position .result .cursor) (c4 .expect .result) (r .result) (c .expect2 .result) _
-    (c8 .position .ensures .1 (c4 .before .if1 .left)) (c8 .position .ensures .0) (c4 .expect .ensures .0) (r .ensures) (c .expect2 .ensures .0)
+    laws.from-good (a .s .now) (a .c) (y .result .cursor) (a .n) (a .last .0) (y .ensures .0) (e .result) (r .result) (c .expect2 .result) _
+    (y .ensures .1 (c .before .before .before .before .if1 .left)) (e .ensures .0) (r .ensures (a .n) (a .last .0)) (c .expect2 .ensures .0)
 
 pub point-from-spec : {M : Type 1} → statement M
 point-from-spec =

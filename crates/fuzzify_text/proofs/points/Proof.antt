@@ -1,47 +1,70 @@
+use mathlib.Core.List.{List}
+use Prim.Native.Nat.{ℕ}
 use native.Mathlib.Omega.{arith}
+use borrow.Author.Tests.{not-true, not-false}
+use Rattle.cursor.specs.declared.Cursor.{Cursor}
 use Rattle.cursor.specs.View.{left}
+use Rattle.block_tables.specs.declared.Point.{Point}
+use Rattle.fuzzify_text.specs.declared.Shape.{Shape}
+use Rattle.fuzzify_text.specs.Terms.{noPoints}
 use Rattle.fuzzify_text.proofs.Laws as laws
-use borrow.Author.Needs.{needs}
 use Rattle.fuzzify_text.proofs.points.Statement.{statement}
 use Rattle.fuzzify_text.proofs.points.Tie as tie
 
+abbrev shape : Cursor → ℕ → List Point → Shape
+shape c n ps = record { cursor = c; count = n; points = ps }
+
 abbrev Inv-loop : tie.InvT-loop
-Inv-loop s q₀ q = laws.Going s q₀ q
+Inv-loop s last₀ ps₀ n₀ d₀ last ps n d = laws.Going s (shape d₀ n₀ ps₀) (shape d n ps) (last .0)
 
 abbrev μ-loop : tie.MeasureT-loop
-μ-loop s q₀ q = left s (q .cursor)
-
-point-requires : tie.Need-point-requires Inv-loop μ-loop
-point-requires c κs = search needs
+μ-loop s last₀ ps₀ n₀ d₀ last ps n d = left s d
 
 loop-holds : tie.Need-loop-holds Inv-loop μ-loop
-loop-holds c = laws.begins _ (c .point .result) (c .point .ensures .room)
+loop-holds c = laws.begins (c .before .args .s .now) (c .before .args .c) (c .before .pre)
 
-advance-requires : tie.Need-advance-requires Inv-loop μ-loop
-advance-requires c κs = (c .before .before .before .loop .inv .1 .fits, λ z. omega (arith, c .before .if1 .taken))
-
-point-requires-2 : tie.Need-point-requires-2 Inv-loop μ-loop
-point-requires-2 c κs =
-    let g = c .before .before .before .before .loop .inv .1 in
-    record { fits = c .advance .ensures .0 .fits; few = g .few; size = g .size }
-
-loop-less : tie.Need-loop-less Inv-loop μ-loop
-loop-less c = omega (arith, c .point2 .ensures .fewer, c .before .advance .ensures .1 .0)
-
-loop-again : tie.Need-loop-again Inv-loop μ-loop
-loop-again c =
-    let c3 = c .before .before .before in
-    let c5 = c3 .before .before in
-    let a = c5 .before .before .before .args in
-    let d = c .before .advance in
-    laws.goes (a .s .now) (c5 .before .point .result) (c5 .loop .q) (c .point2 .result) (d .result) (c5 .loop .inv) (c3 .if1 .taken) (d .ensures .0)
-    (d .ensures .1 .0) (c .point2 .ensures)
+point-requires : tie.Need-point-requires Inv-loop μ-loop
+point-requires c κs = c .loop .inv .0 .fits
 
 returns : tie.Need-returns Inv-loop μ-loop
 returns c =
-    let c2 = c .before .before in
-    let a = c2 .before .before .before .args in
-    laws.leaves (a .s .now) (a .p) (c2 .before .point .result) (c2 .loop .q) (c2 .before .point .ensures) (c2 .loop .inv) (c .if1 .left)
+    let l = c .before .before .before .before .loop in
+    let a = c .before .before .before .before .before .before .args in
+    let r = c .before .before .before .point in
+    laws.stops (a .s .now) (noPoints (a .c)) (shape (l .d) (l .n) (l .ps)) (l .last .0) (l .inv) (r .result) (r .ensures .0) (not-true _ (c .if1 .taken))
+
+mul-ps : tie.Need-mul-ps Inv-loop μ-loop
+mul-ps c = omega (arith, c .before .before .before .before .point .ensures .1 (not-false _ (c .before .if1 .left)))
+
+array-set-from-ps : tie.Need-array-set-from-ps Inv-loop μ-loop
+array-set-from-ps c = omega (arith, c .before .before .before .before .point .ensures .1 (not-false _ (c .before .if1 .left)), c .before .before .before .before .before .loop .inv .0 .size)
+
+add-n : tie.Need-add-n Inv-loop μ-loop
+add-n c = omega (arith, c .before .before .before .before .point .ensures .1 (not-false _ (c .before .if1 .left)))
+
+returns-2 : tie.Need-returns-2 Inv-loop μ-loop
+returns-2 c =
+    let l = c .before .before .before .before .before .before .before .loop in
+    let a = c .before .before .before .before .before .before .before .before .before .args in
+    let r = c .before .before .before .before .before .before .point in
+    let h = not-false _ (c .before .before .before .if1 .left) in
+    laws.leaves (a .s .now) (noPoints (a .c)) (shape (l .d) (l .n) (l .ps)) (l .last .0) (l .inv) (r .result) (r .ensures .0) h (r .ensures .1 h)
+    (c .if2 .taken)
+
+advance-requires : tie.Need-advance-requires Inv-loop μ-loop
+advance-requires c κs = (c .before .before .before .before .before .before .before .point .ensures .0 .fits, λ z. omega (arith, c .before .if2 .left))
+
+loop-less : tie.Need-loop-less Inv-loop μ-loop
+loop-less c = omega (arith, c .advance .ensures .1 .0, c .before .before .before .before .before .before .before .before .point .ensures .0 .fewer)
+
+loop-again : tie.Need-loop-again Inv-loop μ-loop
+loop-again c =
+    let l = c .before .before .before .before .before .before .before .before .before .loop in
+    let a = c .before .before .before .before .before .before .before .before .before .before .before .args in
+    let r = c .before .before .before .before .before .before .before .before .point in
+    let h = not-false _ (c .before .before .before .before .before .if1 .left) in
+    laws.goes (a .s .now) (noPoints (a .c)) (shape (l .d) (l .n) (l .ps)) (l .last .0) (l .inv) (r .result) (r .ensures .0) h (r .ensures .1 h)
+    (c .advance .result) (c .before .before .if2 .left) (c .advance .ensures .0) (c .advance .ensures .1 .0)
 
 pub points-spec : {M : Type 1} → statement M
 points-spec =
@@ -49,10 +72,13 @@ points-spec =
     (tie.spec
     Inv-loop
     μ-loop
-    point-requires
     loop-holds
+    point-requires
+    returns
+    mul-ps
+    array-set-from-ps
+    add-n
+    returns-2
     advance-requires
-    point-requires-2
     loop-less
-    loop-again
-    returns)
+    loop-again)
