@@ -1,26 +1,30 @@
 -- What an accepted image says of its inputs, and of a term's points.
 use mathlib.Core.Path.{_≡_, sym, ap, _∙_, subst}
 use mathlib.Core.Bool.{true, _&&_}
+use mathlib.Core.List.{List, map}
 use Prim.Native.Nat.{ℕ, zero, suc, _+_, _*_, _%_, _≤_, _<_}
 use native.Mathlib.Omega.{arith}
 use borrow.Author.Tests.{leb-true}
 use lib.Dec.{leb, eqb}
 use lib.IntN.{natAbs}
-use lib.ListN.{length}
+use lib.ListN.{length, take}
+use lib.Seq.{take-at}
 use Rattle.model.specs.Basic.{all}
 use Rattle.model.specs.Bounds.{M, crispLimit}
 use Rattle.model.specs.Block.{Point as BlockPoint}
 use Rattle.model.specs.WellFormed.{unitOk, pointOk, termOk, inputOk}
-use Rattle.model.specs.Image.{tab, pointAt, termAt, inputAt, decode}
+use Rattle.model.specs.Image.{termPlace, tab, pointAt, termAt, inputAt, decode}
 use Rattle.laws.proofs.Lists.{all-at}
 use Rattle.laws.proofs.Tests.{both, passed}
 use Rattle.terms.specs.declared.Point.{Point}
-use Rattle.terms.specs.Points.{PointOk, pointView}
+use Rattle.terms.specs.Points.{PointOk, pointView, noPoint, pointViews}
 use Rattle.laws.proofs.Places.{length-tab}
+use Rattle.laws.proofs.Arrays.{map-take}
 use Rattle.layout.specs.Tables.{sums, inputCount, termCount}
 use Rattle.layout.specs.Groups.{Sound, tablesOk, variablesOk}
 use Rattle.layout.proofs.Sound.{runs-at}
 use Rattle.layout.proofs.Parts.{inputFirst, inputFirsts-run}
+use Rattle.fuzzification.specs.Filled.{filled}
 
 pub sums-last : (c : ℕ → ℕ) (k s : ℕ) → sums c (k + 1) s ≡ sums c k s + c (s + k)
 unfolding sums
@@ -83,7 +87,18 @@ module _ (w : ℕ → ℕ) where
       let e = ef ∙ sym (first-is i s h) in
       (omega (arith, terms-few i k), (λ j. all termOk (tab (termAt w) (ec j) (e j))) ∙ terms-ok i k)
 
--- A POINT
+-- THE POINTS OF A TERM in an array of 4
+views-are : (ps : List Point) (xs : List BlockPoint) (n : ℕ) → length xs ≡ n → map pointView ps ≡ filled 4 (pointView noPoint) xs → pointViews ps n ≡ xs
+views-are ps xs n e h = map-take pointView n ps ∙ ap (take n) h ∙ take-at xs _ n e
+
+-- as the words that were read say where they stand
+pub points-read : (w : ℕ → ℕ) (t n first : ℕ) (ps : List Point) → n ≡ termCount w t → first ≡ w (termPlace w t + 4)
+    → map pointView ps ≡ filled 4 (pointView noPoint) (tab (pointAt w) n first) → pointViews ps n ≡ termAt w t .points
+unfolding termAt
+points-read w t n first ps en ef h =
+    views-are ps (tab (pointAt w) n first) n (length-tab (pointAt w) n first) h ∙ (λ j. tab (pointAt w) (en j) (ef j))
+
+-- of a point that is accepted
 pub fine : (p : Point) → pointOk (pointView p) ≡ true → PointOk p
 unfolding pointOk unitOk
 fine p h =
