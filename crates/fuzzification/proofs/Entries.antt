@@ -1,7 +1,7 @@
 -- What an accepted image says of its inputs, and of a term's points.
 use mathlib.Core.Path.{_≡_, sym, ap, _∙_, subst}
 use mathlib.Core.Bool.{true, _&&_}
-use mathlib.Core.List.{List, [], _∷_, map}
+use mathlib.Core.List.{List, map}
 use Prim.Native.Nat.{ℕ, zero, suc, _+_, _*_, _%_, _≤_, _<_}
 use native.Mathlib.Omega.{arith}
 use borrow.Author.Tests.{leb-true}
@@ -17,7 +17,7 @@ use Rattle.model.specs.Image.{termPlace, tab, pointAt, termAt, inputAt, decode}
 use Rattle.laws.proofs.Lists.{all-at}
 use Rattle.laws.proofs.Tests.{both, passed}
 use Rattle.terms.specs.declared.Point.{Point}
-use Rattle.terms.specs.Points.{PointOk, pointView, noPoint, pointViews, pointAt as point}
+use Rattle.terms.specs.Points.{PointOk, pointView, noPoint, pointViews}
 use Rattle.laws.proofs.Places.{length-tab}
 use Rattle.laws.proofs.Arrays.{map-take}
 use Rattle.layout.specs.Tables.{sums, inputCount, termCount}
@@ -98,16 +98,13 @@ unfolding termAt
 points-read w t n first ps en ef h =
     views-are ps (tab (pointAt w) n first) n (length-tab (pointAt w) n first) h ∙ (λ j. tab (pointAt w) (en j) (ef j))
 
-fine : (p : Point) → pointOk (pointView p) ≡ true → PointOk p
+-- of a point that is accepted
+pub fine : (p : Point) → pointOk (pointView p) ≡ true → PointOk p
 unfolding pointOk unitOk
 fine p h =
     let d = p .degree .0 in
     let b = both (leb (natAbs (p .at .0)) crispLimit) (leb d M && eqb (d % 1000) 0) h in
     (leb-true _ _ (b .0), leb-true d M (both (leb d M) (eqb (d % 1000) 0) (b .1) .0))
 
-pub each-fine : (ps : List Point) (n : ℕ) → all pointOk (pointViews ps n) ≡ true → (k : ℕ) → k < n → PointOk (point ps k)
-unfolding all
-each-fine [] n h k l = (omega arith, omega arith)
-each-fine (p ∷ ps) zero h k l = absurd (omega arith)
-each-fine (p ∷ ps) (suc n) h zero l = fine p (both (pointOk (pointView p)) (all pointOk (pointViews ps n)) h .0)
-each-fine (p ∷ ps) (suc n) h (suc k) l = each-fine ps n (both (pointOk (pointView p)) (all pointOk (pointViews ps n)) h .1) k (omega arith)
+pub low : (p : BlockPoint) → pointOk p ≡ true → p .degree ≤ M
+low p h = fine (record { at = record { 0 = p .at }; degree = record { 0 = p .degree } }) h .1

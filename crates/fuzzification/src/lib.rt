@@ -11,14 +11,16 @@ use words::word;
 ghost use mathlib.Core.Path.{_≡_};
 ghost use mathlib.Core.Bool.{true};
 ghost use mathlib.Core.List.{map};
-ghost use Prim.Native.Nat.{_≤_};
+ghost use Prim.Native.Nat.{_+_, _-_, _≤_, _<_};
 ghost use lib.IntN.{pos};
 ghost use lib.ListN.{length};
+ghost use lib.Signed.{_≤ℤ_};
+ghost use Rattle.model.specs.Basic.{all};
 ghost use Rattle.model.specs.Bounds.{M, inputLimit, pointLimit, inputTermLimit};
-ghost use Rattle.model.specs.Degrees.{termDegree};
+ghost use Rattle.model.specs.Degrees.{degreeFrom, termDegree};
 ghost use Rattle.model.specs.Evaluation.{termDegrees};
 ghost use Rattle.model.specs.Image.{wordAt, tab, pointAt, termAt, inputAt, decode};
-ghost use Rattle.model.specs.WellFormed.{termOk};
+ghost use Rattle.model.specs.WellFormed.{pointOk, termOk};
 ghost use Rattle.header.specs.Header.{Heads};
 ghost use Rattle.crisp.specs.Crisp.{InCrisp};
 ghost use Rattle.terms.specs.Points.{pointView, noPoint};
@@ -27,14 +29,29 @@ ghost use Rattle.degrees.specs.Tables.{numbers, Low};
 ghost use Rattle.fuzzification.specs.Filled.{filled, figures, AllCrisp};
 ghost use Rattle.fuzzification.specs.Values.{valuesRead};
 
+// The position of point i, its degree, and both.
+fn place_at(img: &[u8], h: Header, i: usize) -> Crisp
+    requires { ⌜ Heads (wordAt (now img)) h × (i ≤ 5000000000) ⌝ }
+    ensures { λ r. ⌜ r .0 ≡ pointAt (wordAt (now (img .entry))) i .at ⌝ }
+{
+    crisp_at(img, header::point_row(h, i))
+}
+
+fn degree_at(img: &[u8], h: Header, i: usize) -> Degree
+    requires { ⌜ Heads (wordAt (now img)) h × (i ≤ 5000000000) ⌝ }
+    ensures { λ r. ⌜ r .0 ≡ pointAt (wordAt (now (img .entry))) i .degree ⌝ }
+{
+    let row = header::point_row(h, i);
+    Degree(word(img, row + header::POINT_DEGREE) as u32)
+}
+
 fn point_at(img: &[u8], h: Header, i: usize) -> Point
     requires { ⌜ Heads (wordAt (now img)) h × (i ≤ 5000000000) ⌝ }
     ensures { λ r. ⌜ pointView r ≡ pointAt (wordAt (now (img .entry))) i ⌝ }
 {
-    let row = header::point_row(h, i);
     Point {
-        at: crisp_at(img, row),
-        degree: Degree(word(img, row + header::POINT_DEGREE) as u32),
+        at: place_at(img, h, i),
+        degree: degree_at(img, h, i),
     }
 }
 
@@ -56,6 +73,24 @@ pub fn term_points(img: &[u8], h: Header, first: usize, n: usize) -> [Point; bou
     ps
 }
 
+// The degree at x of a term whose points go from the first to the one before `end`, where x is not below the first.
+fn degree_from(img: &[u8], h: Header, first: usize, end: usize, x: Crisp) -> Degree
+    requires { ⌜ Heads (wordAt (now img)) h × (first < end) × (end ≤ 5000000000) × InCrisp (x .0) ⌝ }
+    requires { ⌜ (pointAt (wordAt (now img)) first .at ≤ℤ x .0)
+        × (all pointOk (tab (pointAt (wordAt (now img))) (end - first) first) ≡ true) ⌝ }
+    ensures { λ r. ⌜ (r .0 ≡ degreeFrom (x .0) (pointAt (wordAt (now (img .entry))) first)
+        (tab (pointAt (wordAt (now (img .entry)))) (end - (first + 1)) (first + 1))) × (r .0 ≤ M) ⌝ }
+{
+    let mut i = first;
+    while i + 1 < end {
+        if crisp::less(x, place_at(img, h, i + 1)) {
+            return terms::on_line(x, point_at(img, h, i), point_at(img, h, i + 1));
+        }
+        i += 1;
+    }
+    degree_at(img, h, i)
+}
+
 fn input_term_degree(img: &[u8], h: Header, t: usize, x: Crisp) -> Degree
     requires { ⌜ Heads (wordAt (now img)) h × (t ≤ 5000000000) ⌝ }
     requires { ⌜ InCrisp (x .0) × (termOk (termAt (wordAt (now img)) t) ≡ true) ⌝ }
@@ -64,8 +99,10 @@ fn input_term_degree(img: &[u8], h: Header, t: usize, x: Crisp) -> Degree
     let row = header::term_row(h, t);
     let n = word(img, row + header::TERM_POINTS);
     let first = word(img, row + header::TERM_FIRST);
-    let ps = term_points(img, h, first, n);
-    terms::term_degree(ps, n, x)
+    if crisp::not_above(x, place_at(img, h, first)) {
+        return degree_at(img, h, first);
+    }
+    degree_from(img, h, first, first + n, x)
 }
 
 // The degrees of all input terms at the inputs' values.

@@ -1,4 +1,4 @@
--- A helper: the points of a term as the code holds them, and as a block has them. `points-read` and `each-fine` of
+-- A helper: the points of a term as the code holds them, and as a block has them. `points-read` and `fine` of
 -- fuzzification/proofs/Entries tie them to the points of model's `termAt` and to its `pointOk`.
 use mathlib.Core.List.{List, map}
 use Prim.Native.Nat.{ℕ, _≤_}
