@@ -8,12 +8,13 @@ ghost use Rattle.model.specs.Parse.{refuse as refused, advance as advanced, exp
 ghost use Rattle.model.specs.Tokens.{tokens};
 ghost use Rattle.cursor.specs.View.{seen, Fits, left, Step, Moves, fault};
 
+// The bytes stand last: a padding between the fields would be copied with them in pieces.
 pub struct Cursor {
-    pub kind: u8,
     pub start: usize,
     pub end: usize,
-    pub why: u8,
     pub place: usize,
+    pub kind: u8,
+    pub why: u8,
 }
 
 // At the first token.

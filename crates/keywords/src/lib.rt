@@ -1,9 +1,11 @@
 // The keywords. Each is alone in its slot, a number by its length, first byte and last byte, so that a word is compared with
 // one of them at most.
 ghost use mathlib.Core.Path.{_≡_};
+ghost use mathlib.Core.Bool.{true};
 ghost use mathlib.Core.List.{[]};
 ghost use Prim.Native.Nat.{_+_, _*_, _%_, _≤_, _<_};
-ghost use lib.ListN.{length, getD};
+ghost use lib.Dec.{ltb};
+ghost use lib.ListN.{getD};
 ghost use Rattle.model.specs.Basic.{same};
 ghost use Rattle.model.specs.Keywords.{keywords, keywordAt};
 ghost use Rattle.keywords.specs.Slots.{slotOf, Others};
@@ -31,10 +33,10 @@ fn is_word(w: &[u8], t: &[u8]) -> bool
     true
 }
 
-// The place of the keyword t, the one of the word's slot, where it is the word.
-fn place(w: &[u8], t: &[u8], i: usize) -> usize
-    requires { ⌜ slotOf (now w) ≡ slotOf (now t) ⌝ }
-    requires row { ⌜ (now t ≡ getD keywords i []) × (i < 43) ⌝ }
+// The place i of the keyword t, which has the word's slot h, where it is the word.
+fn place(w: &[u8], h: usize, t: &[u8], i: usize) -> usize
+    requires { ⌜ (h ≡ slotOf (now w)) × (h ≡ slotOf (now t)) ⌝ }
+    requires row { ⌜ (now t ≡ getD keywords i []) × (ltb i 43 ≡ true) ⌝ }
     ensures { λ r. ⌜ (r ≡ keywordAt (now (w .entry))) × (r ≤ 43) ⌝ }
 {
     if is_word(w, t) {
@@ -57,49 +59,49 @@ fn in_slot(w: &[u8], h: usize) -> usize
     ensures { λ r. ⌜ (r ≡ keywordAt (now (w .entry))) × (r ≤ 43) ⌝ }
 {
     match h {
-        100 => place(w, b"ACCU", 0),
-        85 => place(w, b"ACT", 1),
-        53 => place(w, b"AND", 2),
-        84 => place(w, b"ASUM", 3),
-        76 => place(w, b"BDIF", 4),
-        90 => place(w, b"BSUM", 5),
-        59 => place(w, b"CoA", 6),
-        71 => place(w, b"CoG", 7),
-        108 => place(w, b"CoGS", 8),
-        27 => place(w, b"DEFAULT", 9),
-        63 => place(w, b"DEFUZZIFY", 10),
-        121 => place(w, b"END_DEFUZZIFY", 11),
-        30 => place(w, b"END_FUNCTION_BLOCK", 12),
-        95 => place(w, b"END_FUZZIFY", 13),
-        83 => place(w, b"END_OPTIONS", 14),
-        93 => place(w, b"END_RULEBLOCK", 15),
-        29 => place(w, b"END_VAR", 16),
-        112 => place(w, b"FUNCTION_BLOCK", 17),
-        49 => place(w, b"FUZZIFY", 18),
-        92 => place(w, b"IF", 19),
-        118 => place(w, b"IS", 20),
-        124 => place(w, b"LM", 21),
-        37 => place(w, b"MAX", 22),
-        36 => place(w, b"METHOD", 23),
-        17 => place(w, b"MIN", 24),
-        116 => place(w, b"NC", 25),
-        35 => place(w, b"NOT", 26),
-        34 => place(w, b"NSUM", 27),
-        91 => place(w, b"OPTIONS", 28),
-        24 => place(w, b"OR", 29),
-        28 => place(w, b"PROD", 30),
-        55 => place(w, b"RANGE", 31),
-        32 => place(w, b"RM", 32),
-        42 => place(w, b"RULE", 33),
-        119 => place(w, b"RULEBLOCK", 34),
-        70 => place(w, b"TERM", 35),
-        72 => place(w, b"THEN", 36),
-        79 => place(w, b"VAR", 37),
-        33 => place(w, b"VAR_INPUT", 38),
-        46 => place(w, b"VAR_OUTPUT", 39),
-        78 => place(w, b"WITH", 40),
-        56 => place(w, b"REAL", 41),
-        5 => place(w, b"INT", 42),
+        100 => place(w, h, b"ACCU", 0),
+        85 => place(w, h, b"ACT", 1),
+        53 => place(w, h, b"AND", 2),
+        84 => place(w, h, b"ASUM", 3),
+        76 => place(w, h, b"BDIF", 4),
+        90 => place(w, h, b"BSUM", 5),
+        59 => place(w, h, b"CoA", 6),
+        71 => place(w, h, b"CoG", 7),
+        108 => place(w, h, b"CoGS", 8),
+        27 => place(w, h, b"DEFAULT", 9),
+        63 => place(w, h, b"DEFUZZIFY", 10),
+        121 => place(w, h, b"END_DEFUZZIFY", 11),
+        30 => place(w, h, b"END_FUNCTION_BLOCK", 12),
+        95 => place(w, h, b"END_FUZZIFY", 13),
+        83 => place(w, h, b"END_OPTIONS", 14),
+        93 => place(w, h, b"END_RULEBLOCK", 15),
+        29 => place(w, h, b"END_VAR", 16),
+        112 => place(w, h, b"FUNCTION_BLOCK", 17),
+        49 => place(w, h, b"FUZZIFY", 18),
+        92 => place(w, h, b"IF", 19),
+        118 => place(w, h, b"IS", 20),
+        124 => place(w, h, b"LM", 21),
+        37 => place(w, h, b"MAX", 22),
+        36 => place(w, h, b"METHOD", 23),
+        17 => place(w, h, b"MIN", 24),
+        116 => place(w, h, b"NC", 25),
+        35 => place(w, h, b"NOT", 26),
+        34 => place(w, h, b"NSUM", 27),
+        91 => place(w, h, b"OPTIONS", 28),
+        24 => place(w, h, b"OR", 29),
+        28 => place(w, h, b"PROD", 30),
+        55 => place(w, h, b"RANGE", 31),
+        32 => place(w, h, b"RM", 32),
+        42 => place(w, h, b"RULE", 33),
+        119 => place(w, h, b"RULEBLOCK", 34),
+        70 => place(w, h, b"TERM", 35),
+        72 => place(w, h, b"THEN", 36),
+        79 => place(w, h, b"VAR", 37),
+        33 => place(w, h, b"VAR_INPUT", 38),
+        46 => place(w, h, b"VAR_OUTPUT", 39),
+        78 => place(w, h, b"WITH", 40),
+        56 => place(w, h, b"REAL", 41),
+        5 => place(w, h, b"INT", 42),
         _ => no_place(w, h),
     }
 }

@@ -24,22 +24,6 @@ unfolding tidy
 tidy-cons c [] e = simp e
 tidy-cons c (d ∷ w) e = simp e
 
-module _ (w : List ℕ) (i : ℕ) (h : i < length w) where
-  pub tidy-plain : (getD w i 0 ≡ 95 → ⊥) → tidy (drop i w) ≡ tidy (drop (i + 1) w)
-  tidy-plain n = rw (add-one, drop-cons w i 0 h) (tidy-cons (getD w i 0) (drop (suc i) w) (ne-eqb _ _ n))
-
-  pub tidy-last : getD w i 0 ≡ 95 → length w ≤ i + 1 → tidy (drop i w) ≡ false
-  unfolding tidy
-  tidy-last e l = rw (drop-cons w i 0 h, drop-of-length-le w {i = suc i} (omega arith)) (simp (eq-eqb _ _ e))
-
-  pub tidy-pair : getD w i 0 ≡ 95 → i + 1 < length w → tidy (drop i w) ≡ not (isUnderscore (getD w (i + 1) 0)) && tidy (drop (i + 1) w)
-  unfolding tidy
-  tidy-pair e l = rw (add-one, drop-cons w i 0 h, drop-cons w (suc i) 0 (omega arith)) (simp (eq-eqb _ _ e))
-
-pub tidy-end : (w : List ℕ) (i : ℕ) → length w ≤ i → tidy (drop i w) ≡ true
-unfolding tidy
-tidy-end w i h = rw (drop-of-length-le w h)
-
 run-cons : (f : ℕ → Bool) (c : ℕ) (s : List ℕ) → f c ≡ true → run f (c ∷ s) ≡ suc (run f s)
 unfolding run
 run-cons f c s e = simp (run, e)

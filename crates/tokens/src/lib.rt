@@ -1,7 +1,7 @@
 // Tokens of a text: kind and place of the first one from a place on.
 ghost use mathlib.Core.Path.{_≡_};
 ghost use mathlib.Core.List.{_∷_};
-ghost use mathlib.Core.Bool.{true, false, _&&_, not};
+ghost use mathlib.Core.Bool.{true, false, _&&_};
 ghost use Prim.Native.Nat.{suc, _+_, _≤_, _<_};
 ghost use lib.Dec.{eqb};
 ghost use lib.ListN.{length, drop, getD};
@@ -55,27 +55,6 @@ fn number_part(s: &[u8], from: usize) -> usize
         return characters::digits_end(s, e + 1) - from;
     }
     e - from
-}
-
-// The byte at i is an underscore that is last or has another behind it.
-fn is_stray(w: &[u8], i: usize) -> bool
-    requires { ⌜ i < length (now w) ⌝ }
-    ensures { λ r. ⌜ tidy (drop i (now (w .entry))) ≡ not r && tidy (drop (i + 1) (now (w .entry))) ⌝ }
-{
-    w[i] == 95 && (w.len() <= i + 1 || w[i + 1] == 95)
-}
-
-pub fn is_tidy(w: &[u8]) -> bool
-    ensures { λ r. ⌜ r ≡ tidy (now (w .entry)) ⌝ }
-{
-    let mut i = 0;
-    while i < w.len() {
-        if is_stray(w, i) {
-            return false;
-        }
-        i += 1;
-    }
-    true
 }
 
 // The byte at i goes on a tidy word: a letter or a digit, or an underscore with one behind it.
