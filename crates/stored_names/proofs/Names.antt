@@ -17,7 +17,7 @@ use Rattle.laws.proofs.Tests.{Every, one-fails, iff}
 use Rattle.laws.proofs.Places.{same-eq, same-refl}
 use Rattle.layout.specs.Tables.{nameExact}
 use Rattle.stored_names.specs.Stored.{tidyEnd, front}
-use Rattle.stored_names.proofs.Spelling.{tidy-ends, untidy-none, all-run, all-past, zero-ends, zero-after, name-within}
+use Rattle.stored_names.proofs.Spelling.{letters, tidy-ends, untidy-none, all-run, all-past, zero-ends, zero-after, name-within}
 
 -- NAMES
 pub starts-take : (f : ℕ → Bool) (s : List ℕ) (n : ℕ) → 0 < n → n ≤ length s → starts f (take n s) ≡ f (getD s 0 0)
@@ -50,33 +50,30 @@ no-name s h = go (tidy (take (run isNameByte s) s)) refl
 
 -- n name bytes, tidy, from the start of s on; 0 where they are not
 module _ (s : List ℕ) (n : ℕ) (e : n ≡ tidyEnd false 0 s) where
-  abbrev letters : ℕ
-  letters = run (λ c. not (eqb c 0)) s
-
-  longer : run isNameByte s < letters → isName (front s) ≡ false
+  longer : run isNameByte s < letters s → isName (front s) ≡ false
   longer h = sym (name-spelt (front s)) ∙ one-fails (nameTests (front s)) 1 (all-past isNameByte (λ c. not (eqb c 0)) s h)
 
   pub untidy : n ≡ 0 → isName (front s) ≡ false
-  untidy h = go (ltb (run isNameByte s) letters) refl
+  untidy h = go (ltb (run isNameByte s) (letters s)) refl
     where
-      go : (b : Bool) → ltb (run isNameByte s) letters ≡ b → isName (front s) ≡ false
+      go : (b : Bool) → ltb (run isNameByte s) (letters s) ≡ b → isName (front s) ≡ false
       go true q = longer (ltb-true _ _ q)
       go false q =
-          let z : letters ≡ run isNameByte s = omega (arith, name-within s, ltb-false (run isNameByte s) letters q) in
+          let z : letters s ≡ run isNameByte s = omega (arith, name-within s, ltb-false (run isNameByte s) (letters s) q) in
           ap (λ (k : ℕ). isName (take k s)) z ∙ no-name s (sym e ∙ h)
 
   pub byte-after : 0 < n → (getD s n 0 ≡ 0 → ⊥) → isName (front s) ≡ false
-  byte-after h f = go (ltb (run isNameByte s) letters) refl
+  byte-after h f = go (ltb (run isNameByte s) (letters s)) refl
     where
-      go : (b : Bool) → ltb (run isNameByte s) letters ≡ b → isName (front s) ≡ false
+      go : (b : Bool) → ltb (run isNameByte s) (letters s) ≡ b → isName (front s) ≡ false
       go true q = longer (ltb-true _ _ q)
       go false q =
-          let z : letters ≡ n = omega (arith, name-within s, ltb-false (run isNameByte s) letters q, tidy-ends n s e h .0) in
+          let z : letters s ≡ n = omega (arith, name-within s, ltb-false (run isNameByte s) (letters s) q, tidy-ends n s e h .0) in
           absurd (f (ap (λ (k : ℕ). getD s k 0) (sym z) ∙ zero-after s))
 
   pub front-is : 0 < n → getD s n 0 ≡ 0 → front s ≡ take n s
   front-is h f =
-      let z : letters ≡ n = omega (arith, name-within s, zero-ends s n f, tidy-ends n s e h .0) in
+      let z : letters s ≡ n = omega (arith, name-within s, zero-ends s n f, tidy-ends n s e h .0) in
       ap (λ (k : ℕ). take k s) z
 
   pub spelt : 0 < n → n ≤ length s → length s ≤ 16 → startsName (getD s 0 0) ≡ true → Every (take 4 (nameTests (take n s)))
@@ -95,12 +92,9 @@ pub same-names : (w : ℕ → ℕ) (o q : ℕ) → nameExact w o ≡ true → na
 unfolding nameExact nameAt sameName
 same-names w o q g h =
     iff (same (tab w 4 o) (tab w 4 q)) (same (nameAt w o) (nameAt w q))
-    (λ e. subst (λ (v : List ℕ). same (nameAt w o) (front v) ≡ true) (same-eq (tab w 4 o) (tab w 4 q) e) (same-refl (nameAt w o)))
+    (λ e. subst (λ (v : List ℕ). same (nameAt w o) (front (bytesOf v)) ≡ true) (same-eq (tab w 4 o) (tab w 4 q) e) (same-refl (nameAt w o)))
     (λ e. subst (λ (v : List ℕ). same (tab w 4 o) v ≡ true) (words e) (same-refl (tab w 4 o)))
   where
-    front : List ℕ → List ℕ
-    front v = take (run (λ c. not (eqb c 0)) (bytesOf v)) (bytesOf v)
-
     words : same (nameAt w o) (nameAt w q) ≡ true → tab w 4 o ≡ tab w 4 q
     words e =
         same-eq (tab w 4 o) (nameWords (nameAt w o)) g

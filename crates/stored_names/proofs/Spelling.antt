@@ -181,7 +181,7 @@ module _ (f : ℕ → Bool) where
       go ih false d true e = rw (run-in g c s e) (simp d)
       go ih a d false e = absurd (omega (arith, h, run-out g c s e))
 
-abbrev letters : List ℕ → ℕ
+abbrev pub letters : List ℕ → ℕ
 letters s = run (λ c. not (eqb c 0)) s
 
 -- the bytes before the first zero end at a zero, and the name bytes are among them

@@ -1,6 +1,6 @@
 -- A helper: the bytes of one name, and tables of entries that begin with a name of four words, and names that differ, by
--- their words. `name-bytes` ties them to model's `isName`, `distinct-names` and `joined-names` to its `sameName` and
--- `distinct`.
+-- their words. `tidy-ends` ties them to model's `run` and `tidy`, `distinct-names` and `joined-names` to its `sameName`
+-- and `distinct`.
 use mathlib.Core.Bool.{Bool, not}
 use mathlib.Core.List.{List, [], _∷_}
 use Prim.Native.Nat.{ℕ, suc, _+_, _*_}
