@@ -82,8 +82,8 @@ fn new_fault(s: &[u8], names: &Names, inputs: usize, outputs: usize, room: bool,
 // One input more, beside m outputs.
 fn input(s: &[u8], names: &mut Names, p: DeclaredInputs, m: usize) -> DeclaredInputs
     requires { ⌜ Ready (now s) (withInputs m (now names) p) ⌝ }
-    ensures { λ r. ⌜ Collects (variable addInput inputCount inputLimit) (now (s .entry)) (withInputs m (now (names .entry)) p)
-        (withInputs m (now (names .exit)) r) ⌝ }
+    ensures { λ r. ⌜ Collects (variable addInput inputCount inputLimit) (now (s .entry))
+        (withInputs m (now (names .entry)) p) (withInputs m (now (names .exit)) r) ⌝ }
     ensures moves { λ r. ⌜ Moves (now (s .entry)) (p .cursor) (r .cursor) ⌝ }
 {
     let c = p.cursor;
@@ -111,8 +111,8 @@ fn input(s: &[u8], names: &mut Names, p: DeclaredInputs, m: usize) -> DeclaredIn
 // One output more, beside m inputs.
 fn output(s: &[u8], names: &mut Names, p: DeclaredOutputs, m: usize) -> DeclaredOutputs
     requires { ⌜ Ready (now s) (withOutputs m (now names) p) ⌝ }
-    ensures { λ r. ⌜ Collects (variable addOutput outputCount outputLimit) (now (s .entry)) (withOutputs m (now (names .entry)) p)
-        (withOutputs m (now (names .exit)) r) ⌝ }
+    ensures { λ r. ⌜ Collects (variable addOutput outputCount outputLimit) (now (s .entry))
+        (withOutputs m (now (names .entry)) p) (withOutputs m (now (names .exit)) r) ⌝ }
     ensures moves { λ r. ⌜ Moves (now (s .entry)) (p .cursor) (r .cursor) ⌝ }
 {
     let c = p.cursor;
@@ -144,8 +144,8 @@ fn output(s: &[u8], names: &mut Names, p: DeclaredOutputs, m: usize) -> Declared
 
 fn inputs(s: &[u8], names: &mut Names, p: DeclaredInputs, m: usize) -> DeclaredInputs
     requires { ⌜ Ready (now s) (withInputs m (now names) p) ⌝ }
-    ensures { λ r. ⌜ Collects (listed (variable addInput inputCount inputLimit)) (now (s .entry)) (withInputs m (now (names .entry)) p)
-        (withInputs m (now (names .exit)) r) ⌝ }
+    ensures { λ r. ⌜ Collects (listed (variable addInput inputCount inputLimit)) (now (s .entry))
+        (withInputs m (now (names .entry)) p) (withInputs m (now (names .exit)) r) ⌝ }
     ensures moves { λ r. ⌜ Moves (now (s .entry)) (p .cursor) (r .cursor) ⌝ }
 {
     let mut q = input(s, names, p, m);
@@ -160,8 +160,8 @@ fn inputs(s: &[u8], names: &mut Names, p: DeclaredInputs, m: usize) -> DeclaredI
 
 fn outputs(s: &[u8], names: &mut Names, p: DeclaredOutputs, m: usize) -> DeclaredOutputs
     requires { ⌜ Ready (now s) (withOutputs m (now names) p) ⌝ }
-    ensures { λ r. ⌜ Collects (listed (variable addOutput outputCount outputLimit)) (now (s .entry)) (withOutputs m (now (names .entry)) p)
-        (withOutputs m (now (names .exit)) r) ⌝ }
+    ensures { λ r. ⌜ Collects (listed (variable addOutput outputCount outputLimit)) (now (s .entry))
+        (withOutputs m (now (names .entry)) p) (withOutputs m (now (names .exit)) r) ⌝ }
     ensures moves { λ r. ⌜ Moves (now (s .entry)) (p .cursor) (r .cursor) ⌝ }
 {
     let mut q = output(s, names, p, m);
@@ -197,8 +197,8 @@ fn input_type(s: &[u8], p: DeclaredInputs, n: usize) -> DeclaredInputs
 
 fn input_declaration(s: &[u8], names: &mut Names, p: DeclaredInputs, m: usize) -> DeclaredInputs
     requires { ⌜ Ready (now s) (withInputs m (now names) p) ⌝ }
-    ensures { λ r. ⌜ Collects (inputDeclaration) (now (s .entry)) (withInputs m (now (names .entry)) p)
-        (withInputs m (now (names .exit)) r) ⌝ }
+    ensures { λ r. ⌜ Collects inputDeclaration (now (s .entry))
+        (withInputs m (now (names .entry)) p) (withInputs m (now (names .exit)) r) ⌝ }
     ensures moves { λ r. ⌜ Moves (now (s .entry)) (p .cursor) (r .cursor) ⌝ }
 {
     let n = p.count;
@@ -215,8 +215,8 @@ fn input_declaration(s: &[u8], names: &mut Names, p: DeclaredInputs, m: usize) -
 
 fn output_declaration(s: &[u8], names: &mut Names, p: DeclaredOutputs, m: usize) -> DeclaredOutputs
     requires { ⌜ Ready (now s) (withOutputs m (now names) p) ⌝ }
-    ensures { λ r. ⌜ Collects (outputDeclaration) (now (s .entry)) (withOutputs m (now (names .entry)) p)
-        (withOutputs m (now (names .exit)) r) ⌝ }
+    ensures { λ r. ⌜ Collects outputDeclaration (now (s .entry))
+        (withOutputs m (now (names .entry)) p) (withOutputs m (now (names .exit)) r) ⌝ }
     ensures moves { λ r. ⌜ Moves (now (s .entry)) (p .cursor) (r .cursor) ⌝ }
 {
     let mut q = outputs(s, names, p, m);
@@ -230,8 +230,8 @@ fn output_declaration(s: &[u8], names: &mut Names, p: DeclaredOutputs, m: usize)
 
 fn all_inputs(s: &[u8], names: &mut Names, p: DeclaredInputs, m: usize) -> DeclaredInputs
     requires { ⌜ Ready (now s) (withInputs m (now names) p) ⌝ }
-    ensures { λ r. ⌜ Collects (λ q. repeated NAME inputDeclaration (inputDeclaration q)) (now (s .entry)) (withInputs m (now (names .entry)) p)
-        (withInputs m (now (names .exit)) r) ⌝ }
+    ensures { λ r. ⌜ Collects (λ q. repeated NAME inputDeclaration (inputDeclaration q)) (now (s .entry))
+        (withInputs m (now (names .entry)) p) (withInputs m (now (names .exit)) r) ⌝ }
 {
     let mut q = input_declaration(s, names, p, m);
     while q.cursor.kind == token_kinds::NAME {
@@ -242,8 +242,8 @@ fn all_inputs(s: &[u8], names: &mut Names, p: DeclaredInputs, m: usize) -> Decla
 
 fn all_outputs(s: &[u8], names: &mut Names, p: DeclaredOutputs, m: usize) -> DeclaredOutputs
     requires { ⌜ Ready (now s) (withOutputs m (now names) p) ⌝ }
-    ensures { λ r. ⌜ Collects (λ q. repeated NAME outputDeclaration (outputDeclaration q)) (now (s .entry)) (withOutputs m (now (names .entry)) p)
-        (withOutputs m (now (names .exit)) r) ⌝ }
+    ensures { λ r. ⌜ Collects (λ q. repeated NAME outputDeclaration (outputDeclaration q)) (now (s .entry))
+        (withOutputs m (now (names .entry)) p) (withOutputs m (now (names .exit)) r) ⌝ }
 {
     let mut q = output_declaration(s, names, p, m);
     while q.cursor.kind == token_kinds::NAME {

@@ -150,8 +150,8 @@ fn singleton_at(
     start: usize,
     end: usize,
 ) -> Outputs
-    requires { ⌜ Ready (now s) (withOutputs (now names) p) × (o < p .count) × (rowOf p o .terms < termLimit) × (start ≤ end)
-        × (end ≤ length (now s)) ⌝ }
+    requires { ⌜ Ready (now s) (withOutputs (now names) p) × (o < p .count) × (rowOf p o .terms < termLimit)
+        × (start ≤ end) × (end ≤ length (now s)) ⌝ }
     ensures { λ r. ⌜ Collects
         (figure (λ x. withSingleton (record { name = slice start end (now (s .entry)); at = x })) o)
         (now (s .entry)) (withOutputs (now (names .entry)) p)

@@ -1,5 +1,5 @@
-// The keywords. Each is alone in its slot, a number by its length, first byte and last byte, so that a word is compared with
-// one of them at most.
+// The keywords. Each is alone in its slot, a number by its length, first byte and last byte, so that a word is compared
+// with one of them at most.
 ghost use mathlib.Core.Path.{_≡_};
 ghost use mathlib.Core.Bool.{true};
 ghost use mathlib.Core.List.{[]};

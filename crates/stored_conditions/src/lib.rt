@@ -65,7 +65,8 @@ fn negated_form(form: u8) -> u8
 // One more on the first n. Steps answer the height, and 0 where the words are no condition.
 fn push(stack: &mut [u8; ROOM], n: usize, form: u8, depth: usize) -> usize
     requires { ⌜ (length (now stack) ≡ room) × (form ≤ 4) ⌝ }
-    ensures { λ r. ⌜ ((m : ℕ) → view (now (stack .exit)) r ≡ added (shapes m) (shape form depth) (stackOf 0 (now (stack .entry)) n)) ⌝ }
+    ensures { λ r. ⌜ ((m : ℕ) → view (now (stack .exit)) r
+        ≡ added (shapes m) (shape form depth) (stackOf 0 (now (stack .entry)) n)) ⌝ }
     ensures small { λ r. ⌜ (r ≤ room) × (length (now (stack .exit)) ≡ room) ⌝ }
 {
     if depth <= DEPTH {

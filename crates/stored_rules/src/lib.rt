@@ -101,7 +101,8 @@ fn parts_of(img: &[u8], h: Header, i: usize) -> Parts
 // Rule i. The limits of all rules together bound the loops over one.
 fn rule_ok(img: &[u8], h: Header, m: usize, i: usize, p: Parts) -> bool
     requires { ⌜ (tablesOk (wordAt (now img)) ≡ true) × Heads (wordAt (now img)) h
-        × (m ≡ inputTermsIn (wordAt (now img))) × (m ≤ 4294967295) × (i ≤ ruleLimit) × PartsAt (wordAt (now img)) i p ⌝ }
+        × (m ≡ inputTermsIn (wordAt (now img))) × (m ≤ 4294967295) × (i ≤ ruleLimit)
+        × PartsAt (wordAt (now img)) i p ⌝ }
     ensures { λ r. ⌜ r ≡ ruleStored (wordAt (now (img .entry))) i ⌝ }
 {
     if bounds::WORDS < p.words {
@@ -126,7 +127,8 @@ fn rule_ok(img: &[u8], h: Header, m: usize, i: usize, p: Parts) -> bool
 // n condition words and k conclusions stand before the rule's.
 fn row_ok(img: &[u8], h: Header, m: usize, i: usize, p: Parts, n: usize, k: usize) -> bool
     requires { ⌜ (tablesOk (wordAt (now img)) ≡ true) × Heads (wordAt (now img)) h
-        × (m ≡ inputTermsIn (wordAt (now img))) × (m ≤ 4294967295) × (i ≤ ruleLimit) × PartsAt (wordAt (now img)) i p ⌝ }
+        × (m ≡ inputTermsIn (wordAt (now img))) × (m ≤ 4294967295) × (i ≤ ruleLimit)
+        × PartsAt (wordAt (now img)) i p ⌝ }
     ensures { λ r. ⌜ r ≡ rowStored (wordAt (now (img .entry))) i n k ⌝ }
 {
     if p.word_first != n {
@@ -166,7 +168,8 @@ fn rows_ok(img: &[u8], h: Header, m: usize) -> bool
 // Whether no later rule has this number of rule i; it is known where none of theirs leaves its remainder.
 fn differs(img: &[u8], h: Header, i: usize, number: usize, met: bool) -> bool
     requires { ⌜ Heads (wordAt (now img)) h × (h .rules ≤ ruleLimit) × (i < h .rules)
-        × (met ≡ false → all (λ n. not (eqb number n)) (tab (ruleNumber (wordAt (now img))) (h .rules - (i + 1)) (i + 1)) ≡ true) ⌝ }
+        × (met ≡ false → all (λ n. not (eqb number n))
+        (tab (ruleNumber (wordAt (now img))) (h .rules - (i + 1)) (i + 1)) ≡ true) ⌝ }
     ensures { λ r. ⌜ r ≡ all (λ n. not (eqb number n))
         (tab (ruleNumber (wordAt (now (img .entry)))) (h .rules - (i + 1)) (i + 1)) ⌝ }
 {

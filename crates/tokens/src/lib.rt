@@ -80,7 +80,8 @@ struct Word {
 // The word from i on, where it goes on no further or is not tidy.
 fn stopped(s: &[u8], i: usize) -> Word
     requires { ⌜ (i < length (now s)) × (goesOn (drop i (now s)) ≡ false) ⌝ }
-    ensures { λ r. ⌜ (r .end ≡ i + run isNameByte (drop i (now (s .entry)))) × (r .tidy ≡ tidyWord (drop i (now (s .entry)))) ⌝ }
+    ensures { λ r. ⌜ (r .end ≡ i + run isNameByte (drop i (now (s .entry))))
+        × (r .tidy ≡ tidyWord (drop i (now (s .entry)))) ⌝ }
     ensures within { λ r. ⌜ (i ≤ r .end) × (r .end ≤ length (now (s .entry))) ⌝ }
 {
     if s[i] == 95 {
