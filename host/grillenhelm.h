@@ -5,8 +5,8 @@
  * Who owns what: the host owns all memory. Bytes and the held record of grillenhelm_evaluate_held are lent for the
  * time of the call; everything else goes by value. No function allocates, keeps a pointer or has a state of its own,
  * so threads need no lock between them while each lends its own buffer and record. A pointer is never null, even to
- * no bytes, and bytes that are written overlap with no others that are lent. A thread that calls wants 160 KB of
- * stack (the texts in examples were measured to need less than 130).
+ * no bytes, and bytes that are written overlap with no others that are lent. A thread that calls wants 96 KB of
+ * stack (reading was measured to need 52, listing 39, a check or an evaluation 3).
  *
  * No function asks anything of the contents: any bytes and any values get an answer, which is accepted or one
  * numbered refusal. After a refusal a lent buffer or record holds what it came with.

@@ -1,5 +1,5 @@
 #!/usr/bin/env python3
-"""costs.py: what reading and the load check cost, as docs/READER.md has it. Needs `rt check` before it, and valgrind and objdump.
+"""costs.py: what reading costs, and the frames of reading and of the load check, as docs/READER.md has it. Needs `rt check` before it, and valgrind and objdump.
 
 Growth is counted in instructions (valgrind), less those of the same program on an empty file, as multiples of the smallest size;
 stack is the largest frame of each function, and the peak that valgrind sees over all cases of the vectors."""
@@ -73,25 +73,6 @@ def block(rules, words):
     return (HEAD + "".join(f"RULE {i + 1}: IF {condition} THEN y IS k; " for i in range(rules)) + TAIL).encode()
 
 
-def image(rules, words):
-    """the words of block(rules, words), by document 01"""
-    def name(s):
-        padded = s.encode().ljust(16, b"\0")
-        return [int.from_bytes(padded[i:i + 4], "little") for i in range(0, 16, 4)]
-    counts = [1, 1, 2, 3, rules, rules * words, rules]
-    offsets, end = [], 28
-    for n, width in zip(counts, [7, 11, 6, 2, 6, 1, 2]):
-        offsets.append(end)
-        end += n * width
-    condition = [16] + [16, 1] * ((words - 1) // 2)
-    ws = [1, end, *counts, *offsets, 0, 0, 0, 0, *name("f"), *name("r")]
-    ws += [*name("a"), 0, 0, 1, *name("y"), 1, 1, 0, 0, 0, 0, 0, *name("t"), 0, 2, *name("k"), 2, 1]
-    ws += [0, 0, 1000, 1000000, 1000, 1000000]
-    for i in range(rules):
-        ws += [i + 1, i * words, words, i, 1, 1000000]
-    return b"".join(w.to_bytes(4, "little") for w in ws + condition * rules + [0, 1] * rules)
-
-
 if not os.path.exists(binary("text_vectors")):
     sys.exit("costs.py: run `rt check` first")
 sizes = [8192, 16384, 32768, 65536]
@@ -102,8 +83,6 @@ growth("  a run of digits", "text_vectors", sizes, lambda n: b"7" * n)
 growth("  a run of letters", "text_vectors", sizes, lambda n: b"a" * n)
 print("reading, by rules of nine condition words")
 growth("  rules", "text_vectors", [8, 16, 32, 64], lambda n: block(n, 9))
-print("load check, by rules of nine condition words")
-growth("  rules", "image_vectors", [8, 16, 32, 64], lambda n: image(n, 9))
 for name in ["text_vectors", "image_vectors"]:
     print(f"{name}: peak of the stack {peak(name)} bytes; frames of 300 bytes and more")
     frames(name, 300)
