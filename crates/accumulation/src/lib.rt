@@ -9,7 +9,6 @@ ghost use Rattle.header.specs.Header.{Heads};
 ghost use Rattle.layout.specs.Tables.{inputTermsIn};
 ghost use Rattle.layout.specs.Groups.{Sound};
 ghost use Rattle.degrees.specs.Tables.{numbers, Low};
-ghost use Rattle.accumulation.specs.Heights.{afterConclusions};
 use aggregation::condition_degree;
 use bounds::INPUT_TERMS;
 use bounds::OUTPUT_TERMS;

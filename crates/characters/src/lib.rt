@@ -30,7 +30,7 @@ pub fn starts_name(b: u8) -> bool
     is_between(65, 90, b) || (is_between(97, 122, b) || b == 95)
 }
 
-pub fn is_name_byte(b: u8) -> bool
+fn is_name_byte(b: u8) -> bool
     ensures { λ r. ⌜ r ≡ isNameByte b ⌝ }
 {
     starts_name(b) || is_digit(b)

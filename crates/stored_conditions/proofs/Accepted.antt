@@ -105,7 +105,7 @@ accepts-in m ws e =
     ap (isCondition m) (r .1) ∙ condition-postfix m (r .0) ∙ and-i _ _ (allowed-terms m (r .0) (r .2)) (allowed-depth m (r .0) (r .2))
 
 -- what is left of a condition's words
-pub condition-left : (m : ℕ) (ws : List ℕ) → isCondition m ws ≡ true
+condition-left : (m : ℕ) (ws : List ℕ) → isCondition m ws ≡ true
     → pass (shapes m) ws (some []) ≡ some (shape (form (treeOf ws)) (depth (treeOf ws)) ∷ [])
 condition-left m ws e =
     let r = condition-in m ws e in

@@ -5,19 +5,18 @@ use mathlib.Core.Bool.{Bool, true, false}
 use mathlib.Core.Option.{none, some}
 use Prim.Native.Nat.{ℕ, zero, suc, _+_, _-_, _/_, _≤_, _<_, max}
 use native.Mathlib.Omega.{arith}
-use borrow.Author.Tests.{ne-eqb, eqb-true, lt-ltb, le-ltb, ltb-true, ltb-false, le-leb, lt-leb}
+use borrow.Author.Tests.{ne-eqb, lt-ltb, le-ltb, ltb-true, ltb-false, le-leb, lt-leb}
 use lib.Dec.{eqb, ltb, leb}
 use lib.ListN.{length, getD, set}
 use Rattle.model.specs.Block.{Op, and, or}
-use Rattle.model.specs.Parentheses.{rank, negatedForm, form, bareLeft, bareRight, opened, depth}
-use Rattle.model.specs.Image.{treeOf, tab}
+use Rattle.model.specs.Parentheses.{rank, negatedForm, bareLeft, bareRight, opened}
+use Rattle.model.specs.Image.{tab}
 use Rattle.stored_conditions.specs.Machine.{room, added, unary, binary, stackOf}
 use Rattle.stored_conditions.specs.Shapes.{shape, formOf, depthOf, shapes, negatedShape, joinedShape, view}
 use Rattle.stored_conditions.specs.Stored.{conditionStored}
-use Rattle.stored_conditions.proofs.Room.{form-le}
 use Rattle.stored_conditions.proofs.Stacks.{length-stack, stack-push, stack-one, stack-two}
 use Rattle.stored_conditions.proofs.Passes.{Left, left-end, left-none}
-use Rattle.stored_conditions.proofs.Accepted.{form-shape, depth-shape, isOne, accepts, accepts-is, condition-left}
+use Rattle.stored_conditions.proofs.Accepted.{depth-shape, isOne, accepts, accepts-is}
 
 abbrev at′ : List ℕ → ℕ → ℕ
 at′ l i = getD l i 0
@@ -100,22 +99,6 @@ module _ (w : ℕ → ℕ) (d n m i : ℕ) (l : List ℕ) (k : ℕ) where
       let p : Left (shapes m) w d n i none = rw e at q in
       ap isOne (sym (left-none (shapes m) w d n i p)) ∙ accepts-is m (tab w n d)
 
-  module _ (h : n ≤ i) (q : Left (shapes m) w d n i (some (stackOf 0 l k))) where
-    pub ends : eqb k 1 ≡ conditionStored w d n m
-    unfolding accepts conditionStored
-    ends = sym (one-stack l k) ∙ ap isOne (left-end (shapes m) w d n i (some (stackOf 0 l k)) h q) ∙ accepts-is m (tab w n d)
-
-    -- the one that is left is that of the tree
-    left-shape : eqb k 1 ≡ true → at′ l 0 ≡ shape (form (treeOf (tab w n d))) (depth (treeOf (tab w n d)))
-    unfolding conditionStored stackOf
-    left-shape e =
-        let p = left-end (shapes m) w d n i (some (stackOf 0 l k)) h q ∙ condition-left m (tab w n d) (sym ends ∙ e) in
-        let one : k ≡ 1 = eqb-true k 1 e in
-        let r = rw one at p in
-        cc
-
-    pub left-tree : eqb k 1 ≡ true → (formOf (at′ l 0) ≡ form (treeOf (tab w n d))) × (depthOf (at′ l 0) ≡ depth (treeOf (tab w n d)))
-    left-tree e =
-        let c = treeOf (tab w n d) in
-        let q = left-shape e in
-        (ap formOf q ∙ form-shape (form c) (depth c) (form-le c), ap depthOf q ∙ depth-shape (form c) (depth c) (form-le c))
+  pub ends : n ≤ i → Left (shapes m) w d n i (some (stackOf 0 l k)) → eqb k 1 ≡ conditionStored w d n m
+  unfolding accepts conditionStored
+  ends h q = sym (one-stack l k) ∙ ap isOne (left-end (shapes m) w d n i (some (stackOf 0 l k)) h q) ∙ accepts-is m (tab w n d)

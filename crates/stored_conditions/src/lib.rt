@@ -1,11 +1,10 @@
 // Which words of an image are a condition: one pass with a stack of forms and depths.
 ghost use mathlib.Core.Path.{_≡_};
-ghost use mathlib.Core.Bool.{true};
 ghost use Prim.Native.Nat.{ℕ, _≤_};
 ghost use lib.ListN.{length};
 ghost use Rattle.model.specs.Block.{Op};
-ghost use Rattle.model.specs.Parentheses.{rank, negatedForm, form, bareRight, opened, depth};
-ghost use Rattle.model.specs.Image.{wordAt, tab, treeOf};
+ghost use Rattle.model.specs.Parentheses.{rank, negatedForm, bareRight, opened};
+ghost use Rattle.model.specs.Image.{wordAt};
 ghost use Rattle.stored_conditions.specs.Machine.{added, unary, binary, step, room, stackOf};
 ghost use Rattle.stored_conditions.specs.Shapes.{shape, formOf, depthOf, shapes, view};
 ghost use Rattle.stored_conditions.specs.Stored.{conditionStored};
@@ -37,13 +36,6 @@ pub const ROOM: usize = 19;
 
 // A subtree is kept as one number, its shape: eight times the parentheses open at once in it, and its form.
 const FORMS: u8 = 8;
-
-// Whether some words are a condition; of one that they are, its form and the parentheses open at once in it.
-pub struct StoredCondition {
-    pub ok: bool,
-    pub form: u8,
-    pub depth: u8,
-}
 
 // l: the loosest form that stands bare; a looser one carries into the depth.
 fn opening(l: u8, shape: u8) -> usize
@@ -134,12 +126,10 @@ fn step(stack: &mut [u8; ROOM], n: usize, m: usize, w: usize) -> usize
     0
 }
 
-// Whether the n words from place d on are a condition over the first m terms, with its form and depth.
-pub fn stored_condition(img: &[u8], d: usize, n: usize, m: usize) -> StoredCondition
+// Whether the n words from place d on are a condition over the first m terms.
+pub fn stored_condition(img: &[u8], d: usize, n: usize, m: usize) -> bool
     requires { ⌜ (d ≤ 100000000000) × (n ≤ 4294967295) × (m ≤ 4294967295) ⌝ }
-    ensures { λ r. ⌜ r .ok ≡ conditionStored (wordAt (now (img .entry))) d n m ⌝ }
-    ensures tree { λ r. ⌜ (r .ok ≡ true → (r .form ≡ form (treeOf (tab (wordAt (now (img .entry))) n d)))
-        × (r .depth ≡ depth (treeOf (tab (wordAt (now (img .entry))) n d)))) ⌝ }
+    ensures { λ r. ⌜ r ≡ conditionStored (wordAt (now (img .entry))) d n m ⌝ }
 {
     let mut stack = [0; ROOM];
     let mut height = 0;
@@ -147,18 +137,9 @@ pub fn stored_condition(img: &[u8], d: usize, n: usize, m: usize) -> StoredCondi
     while i < n {
         height = step(&mut stack, height, m, word(img, d + i));
         if height == 0 {
-            return StoredCondition {
-                ok: false,
-                form: TERM_FORM,
-                depth: 0,
-            };
+            return false;
         }
         i += 1;
     }
-    let shape = stack[0];
-    StoredCondition {
-        ok: height == 1,
-        form: shape % FORMS,
-        depth: shape / FORMS,
-    }
+    height == 1
 }

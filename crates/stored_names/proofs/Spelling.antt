@@ -12,18 +12,10 @@ use lib.Seq.{drop-cons}
 use Rattle.model.specs.Basic.{if_then_else_, between, all, run}
 use Rattle.model.specs.Tokens.{isDigit, isUnderscore, isNameByte, tidy}
 use Rattle.laws.proofs.Tests.{clash}
+use Rattle.characters.proofs.Laws.{tidy-cons, run-in, run-out}
 use Rattle.stored_names.specs.Stored.{endsName, tidyAt, tidyEnd}
 
 -- ONE BYTE
-module _ (f : ℕ → Bool) (c : ℕ) (s : List ℕ) where
-  run-in : f c ≡ true → run f (c ∷ s) ≡ suc (run f s)
-  unfolding run
-  run-in e = simp (run, e)
-
-  run-out : f c ≡ false → run f (c ∷ s) ≡ 0
-  unfolding run
-  run-out e = simp (run, e)
-
 module _ (u : Bool) (n c : ℕ) (s : List ℕ) where
   end-here : endsName u c ≡ true → tidyEnd u n (c ∷ s) ≡ tidyAt u n
   unfolding tidyEnd
@@ -80,11 +72,6 @@ module _ (u : Bool) (c : ℕ) where
       ∙ ap not (or-last (between 65 90 c) (between 97 122 c) (isDigit c) h ∙ sym q)
 
 -- UNDERSCORES
-tidy-cons : (c : ℕ) (w : List ℕ) → isUnderscore c ≡ false → tidy (c ∷ w) ≡ tidy w
-unfolding tidy
-tidy-cons c [] e = simp e
-tidy-cons c (d ∷ w) e = simp e
-
 -- what follows is tidy; u: an underscore stands before it
 abbrev tidyAfter : Bool → List ℕ → Bool
 tidyAfter true w = tidy (95 ∷ w)

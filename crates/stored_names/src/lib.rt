@@ -118,7 +118,7 @@ fn holds(n: usize, a: usize, b: usize) -> bool
     b <= n
 }
 
-pub fn same_name(img: &[u8], o: usize, q: usize) -> bool
+fn same_name(img: &[u8], o: usize, q: usize) -> bool
     requires { ⌜ (o ≤ 900000000000) × (q ≤ 900000000000) ⌝ }
     ensures { λ r. ⌜ r ≡ same (tab (wordAt (now (img .entry))) 4 o) (tab (wordAt (now (img .entry))) 4 q) ⌝ }
 {
@@ -135,7 +135,7 @@ pub fn same_name(img: &[u8], o: usize, q: usize) -> bool
 }
 
 // The name at o is none of those of the entries from i on, below n, of the table at q.
-pub fn absent_ok(img: &[u8], o: usize, q: usize, s: usize, i: usize, n: usize) -> bool
+fn absent_ok(img: &[u8], o: usize, q: usize, s: usize, i: usize, n: usize) -> bool
     requires { ⌜ (o ≤ 900000000000) × ((q ≤ 200000000000) × ((s ≤ 11) × (n ≤ 4294967295))) ⌝ }
     ensures { λ r. ⌜ r ≡ absent same (tab (wordAt (now (img .entry))) 4 o)
         (tab (wordsIn (wordAt (now (img .entry))) q s) (n - i) i) ⌝ }

@@ -28,7 +28,7 @@ struct Parts {
     conclusions: usize,
 }
 
-pub fn number_ok(img: &[u8], h: Header, i: usize) -> bool
+fn number_ok(img: &[u8], h: Header, i: usize) -> bool
     requires { ⌜ Heads (wordAt (now img)) h × (i ≤ ruleLimit) ⌝ }
     ensures { λ r. ⌜ r ≡ between ruleNumberLeast ruleNumberLimit (ruleAt (wordAt (now (img .entry))) i .number) ⌝ }
 {
@@ -39,7 +39,7 @@ pub fn number_ok(img: &[u8], h: Header, i: usize) -> bool
     )
 }
 
-pub fn weight_ok(img: &[u8], h: Header, i: usize) -> bool
+fn weight_ok(img: &[u8], h: Header, i: usize) -> bool
     requires { ⌜ Heads (wordAt (now img)) h × (i ≤ ruleLimit) ⌝ }
     ensures { λ r. ⌜ r ≡ unitOk (ruleAt (wordAt (now (img .entry))) i .weight) ⌝ }
 {
@@ -120,8 +120,7 @@ fn rule_ok(img: &[u8], h: Header, m: usize, i: usize, p: Parts) -> bool
     if !conclusions_ok(img, h, p.conclusion_first, p.conclusions) {
         return false;
     }
-    let c = stored_conditions::stored_condition(img, h.word_table + p.word_first, p.words, m);
-    c.ok
+    stored_conditions::stored_condition(img, h.word_table + p.word_first, p.words, m)
 }
 
 // n condition words and k conclusions stand before the rule's.

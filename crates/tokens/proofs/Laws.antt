@@ -15,23 +15,10 @@ use Rattle.model.specs.Keywords.{END, WRONG, BLANK}
 use Rattle.model.specs.Tokens.{isUnderscore, isDigit, startsName, isNameByte, isMark, starts, tidy, wordKind, pointPart, numberPart, commentPart, commentPiece, piece, wordPiece, pieceAt, token, placed, scan}
 use Rattle.laws.proofs.Slices.{cut}
 use Rattle.laws.proofs.Tests.{clash}
-use Rattle.characters.proofs.Laws.{run-more, run-stop, run-end}
+use Rattle.characters.proofs.Laws.{tidy-cons, run-in, run-out, run-more, run-stop, run-end}
 use Rattle.tokens.specs.Tokens.{isPlain, goesOn, tidyWord, tokensFrom, after}
 
 -- WORDS
-tidy-cons : (c : ℕ) (w : List ℕ) → isUnderscore c ≡ false → tidy (c ∷ w) ≡ tidy w
-unfolding tidy
-tidy-cons c [] e = simp e
-tidy-cons c (d ∷ w) e = simp e
-
-run-cons : (f : ℕ → Bool) (c : ℕ) (s : List ℕ) → f c ≡ true → run f (c ∷ s) ≡ suc (run f s)
-unfolding run
-run-cons f c s e = simp (run, e)
-
-run-none : (f : ℕ → Bool) (c : ℕ) (s : List ℕ) → f c ≡ false → run f (c ∷ s) ≡ 0
-unfolding run
-run-none f c s e = simp (run, e)
-
 -- what `goesOn` tells by the tests of the first byte, n and u, and of the next, p
 plain-on : (n u p : Bool) → (n && not u) || (u && p) ≡ true → u ≡ false → n ≡ true
 plain-on true u p e q = refl
@@ -53,17 +40,17 @@ under-name c e = rw (eqb-true c 95 e)
 
 word-cons : (c : ℕ) (s : List ℕ) → isNameByte c ≡ true → tidyWord (c ∷ s) ≡ tidy (c ∷ take (run isNameByte s) s)
 unfolding tidyWord
-word-cons c s e = rw (run-cons isNameByte c s e)
+word-cons c s e = rw (run-in isNameByte c s e)
 
 -- an underscore with a letter or a digit behind it, or with none
 under-cons : (c d : ℕ) (s : List ℕ) (b n : Bool) → isUnderscore c ≡ true → isPlain d ≡ b → isNameByte d ≡ n → tidyWord (c ∷ d ∷ s) ≡ b && tidyWord (d ∷ s)
 unfolding tidy
 under-cons c d s b true q e p =
     let z : b ≡ not (isUnderscore d) = sym e ∙ ap (λ x. x && not (isUnderscore d)) p in
-    word-cons c (d ∷ s) (under-name c q) ∙ rw (run-cons isNameByte d s p, word-cons d s p, z) (simp q)
+    word-cons c (d ∷ s) (under-name c q) ∙ rw (run-in isNameByte d s p, word-cons d s p, z) (simp q)
 under-cons c d s b false q e p =
     let z : b ≡ false = sym e ∙ ap (λ x. x && not (isUnderscore d)) p in
-    word-cons c (d ∷ s) (under-name c q) ∙ rw (run-none isNameByte d s p, z) (simp q)
+    word-cons c (d ∷ s) (under-name c q) ∙ rw (run-out isNameByte d s p, z) (simp q)
 
 under-word : (c : ℕ) (s : List ℕ) (b : Bool) → isUnderscore c ≡ true → starts isPlain s ≡ b → tidyWord (c ∷ s) ≡ b && tidyWord s
 unfolding tidy run
@@ -103,7 +90,7 @@ module _ (s : List ℕ) (i : ℕ) (h : i < length s) where
       let u = ne-eqb (getD s i 0) 95 q in
       let g = rw (drop-cons s i 0 h) at e in
       let n = plain-off (isNameByte (getD s i 0)) (isUnderscore (getD s i 0)) (starts isPlain (drop (suc i) s)) g u in
-      (run-stop isNameByte s i h n, rw (drop-cons s i 0 h, run-none isNameByte (getD s i 0) (drop (suc i) s) n))
+      (run-stop isNameByte s i h n, rw (drop-cons s i 0 h, run-out isNameByte (getD s i 0) (drop (suc i) s) n))
 
 pub word-none : (s : List ℕ) (i : ℕ) → length s ≤ i → (i + run isNameByte (drop i s) ≡ i) × (tidyWord (drop i s) ≡ true)
 unfolding tidyWord tidy run
@@ -131,7 +118,7 @@ number s a e p h q =
 -- PIECES
 pub word-some : (s : List ℕ) → 0 < length s → startsName (getD s 0 0) ≡ true → 0 < run isNameByte s
 word-some [] h n = absurd (omega arith)
-word-some (c ∷ s) h n = omega (arith, run-cons isNameByte c s (simp n))
+word-some (c ∷ s) h n = omega (arith, run-in isNameByte c s (simp n))
 
 pub word-tidy : (s : List ℕ) (e : ℕ) (b : Bool) → e ≡ run isNameByte s → b ≡ tidyWord s → tidy (take e s) ≡ b
 unfolding tidyWord
@@ -142,7 +129,7 @@ pub word-piece : (s : List ℕ) (e k : ℕ) → 0 < length s → startsName (get
 unfolding wordPiece
 word-piece [] e k h n p q = absurd (omega arith)
 word-piece (c ∷ s) e k h n p q =
-    let z : e ≡ suc (run isNameByte s) = p ∙ run-cons isNameByte c s (simp n) in
+    let z : e ≡ suc (run isNameByte s) = p ∙ run-in isNameByte c s (simp n) in
     let y : e - 1 ≡ run isNameByte s = omega (arith, z) in
     rw (y, q, z)
 

@@ -1,12 +1,11 @@
 use borrow.Author.Needs.{needs}
-use mathlib.Core.Path.{_≡_, sym, ap, _∙_}
+use mathlib.Core.Path.{sym, ap, _∙_}
 use mathlib.Core.List.{[], _∷_}
 use Prim.Native.Nat.{ℕ, _*_, _≤_}
 use native.Mathlib.Nat.{mul-le-mul-right}
 use native.Mathlib.Omega.{arith}
 use lib.ListN.{length-append}
 use Rattle.laws.proofs.Lists.{total-last}
-use Rattle.crisp.specs.Crisp.{above}
 use Rattle.centre.proofs.Moment.{lifted-last}
 use Rattle.centre.proofs.added.Statement.{statement}
 use Rattle.centre.proofs.added.Tie as tie

@@ -1,12 +1,12 @@
 use borrow.Author.Needs.{needs}
-use mathlib.Core.Path.{_≡_, refl, sym, ap, _∙_}
+use mathlib.Core.Path.{refl, sym, ap, _∙_}
 use Prim.Native.Nat.{ℕ, _≤_, _<_}
 use native.Mathlib.Omega.{arith}
 use lib.Dec.{lit≤}
 use lib.IntN.{subℕ}
 use borrow.Author.Tests.{lt-ltb, le-ltb}
 use Rattle.model.specs.Bounds.{crispLimit}
-use Rattle.model.specs.Degrees.{nearest, nearestℤ}
+use Rattle.model.specs.Degrees.{nearest}
 use Rattle.model.specs.Evaluation.{moment, sumOf}
 use Rattle.nearest.proofs.Laws.{nearest-le}
 use Rattle.centre.proofs.Moment.{nearest-is}

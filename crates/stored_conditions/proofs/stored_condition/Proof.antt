@@ -5,7 +5,6 @@ use native.Mathlib.Omega.{arith}
 use lib.ListN.{length}
 use borrow.Author.Needs.{needs}
 use Rattle.model.specs.Image.{wordAt}
-use Rattle.laws.proofs.Tests.{clash}
 use Rattle.stored_conditions.specs.Machine.{room, stackOf, turn}
 use Rattle.stored_conditions.specs.Shapes.{shapes, view}
 use Rattle.stored_conditions.proofs.Passes.{Left, left-start, left-turn}
@@ -46,7 +45,7 @@ turned c =
     (search needs) (c .before .word .ensures .0) (c .step .ensures .0) (l .inv .3)
 
 returns : tie.Need-returns Inv-loop μ-loop
-returns c = (laws.fails _ _ _ _ _ _ _ (c .if1 .taken) (turned (c .before)), λ e. clash e)
+returns c = laws.fails _ _ _ _ _ _ _ (c .if1 .taken) (turned (c .before))
 
 add-i : tie.Need-add-i Inv-loop μ-loop
 add-i c = search needs
@@ -57,14 +56,10 @@ loop-less c = search needs
 loop-again : tie.Need-loop-again Inv-loop μ-loop
 loop-again c = (search needs, search needs, search needs, laws.goes-on _ _ _ _ _ _ _ (omega arith) (turned (c .before)))
 
-array-read-shape : tie.Need-array-read-shape Inv-loop μ-loop
-array-read-shape c = search needs
-
 returns-2 : tie.Need-returns-2 Inv-loop μ-loop
 returns-2 c =
     let l = c .before .loop in
-    let h = c .loop-test .left in
-    (laws.ends _ _ _ _ (l .i) (l .stack) _ h (l .inv .3), laws.left-tree _ _ _ _ (l .i) (l .stack) _ h (l .inv .3))
+    laws.ends _ _ _ _ (l .i) (l .stack) _ (c .loop-test .left) (l .inv .3)
 
 pub stored-condition-spec : {M : Type 1} → statement M
 stored-condition-spec =
@@ -80,5 +75,4 @@ stored-condition-spec =
     add-i
     loop-less
     loop-again
-    array-read-shape
     returns-2)

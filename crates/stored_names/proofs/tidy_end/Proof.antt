@@ -1,9 +1,7 @@
-use mathlib.Core.Path.{_≡_, refl, sym, ap, _∙_}
+use mathlib.Core.Path.{_≡_, refl, sym, _∙_}
 use mathlib.Core.Bool.{false}
-use Prim.Native.Nat.{ℕ, _+_, _-_, _≤_}
-use native.Mathlib.Numerals.{add-one}
-use native.Mathlib.Omega.{arith}
-use lib.ListN.{length, drop, drop-of-length-le}
+use Prim.Native.Nat.{_-_, _≤_}
+use lib.ListN.{length, drop}
 use borrow.Author.Needs.{needs}
 use Rattle.stored_names.specs.Stored.{tidyEnd}
 use Rattle.stored_names.proofs.Spelling.{at-end, at-more, at-past, tidy-small}

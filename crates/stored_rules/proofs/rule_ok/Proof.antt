@@ -83,7 +83,7 @@ returns-6 c =
     let w = wordAt (a .img .now) in
     let q = s .pre .5 in
     let d : a .h .«word_table» + a .p .«word_first» ≡ w 14 + wordFirst w (a .i) = λ j. s .pre .1 .word-table j + q .word-first j in
-    c .stored-condition .ensures .0
+    c .stored-condition .ensures
     ∙ condition-stored w (s .pre .0) (a .m) (s .pre .2) (a .i) _ _ d (q .words)
     ∙ sym (read s ∙ last-decides (_ ∷ _ ∷ _ ∷ _ ∷ _ ∷ []) _ (
       le-leb _ _ (e1 .if1 .left),
