@@ -4,8 +4,8 @@ ghost use mathlib.Core.Path.{_≡_};
 ghost use mathlib.Core.Bool.{true};
 ghost use mathlib.Core.List.{List};
 ghost use mathlib.Core.Option.{some};
-ghost use Prim.Native.Nat.{ℕ, _≤_};
-ghost use lib.ListN.{getD};
+ghost use Prim.Native.Nat.{ℕ, _+_, _*_, _≤_};
+ghost use lib.ListN.{length, getD};
 ghost use Rattle.model.specs.Bounds.{M};
 ghost use Rattle.model.specs.declared.Pair.{Pair as PairOf};
 ghost use Rattle.model.specs.Degrees.{conditionDegree};
@@ -20,7 +20,7 @@ use stored_conditions::AND_WORD;
 use stored_conditions::NOT_WORD;
 use stored_conditions::ROOM;
 use stored_conditions::TERM_WORD;
-use words::word;
+use words::whole_word;
 
 fn term_degree(ds: &[u32], t: usize) -> Degree
     requires { ⌜ Low (now ds) ⌝ }
@@ -77,7 +77,7 @@ fn step(stack: &mut [u32; ROOM], n: usize, ds: &[u32], p: Pair, w: usize) -> usi
 
 // The degree of the condition whose n words stand from place d on, by the degrees of the input terms in millionths.
 pub fn condition_degree(img: &[u8], d: usize, n: usize, ds: &[u32], p: Pair) -> Degree
-    requires { ⌜ (d ≤ 100000000000) × (n ≤ 4294967295) × Low (now ds) ⌝ }
+    requires { ⌜ Low (now ds) × ((d + n) * 4 ≤ length (now img)) ⌝ }
     ensures { λ r. ⌜ ((m : ℕ) → conditionStored (wordAt (now (img .entry))) d n m ≡ true
         → r .0 ≡ conditionDegree p (now (ds .entry)) (treeOf (tab (wordAt (now (img .entry))) n d))) ⌝ }
     ensures small { λ r. ⌜ r .0 ≤ M ⌝ }
@@ -86,7 +86,7 @@ pub fn condition_degree(img: &[u8], d: usize, n: usize, ds: &[u32], p: Pair) -> 
     let mut height = 0;
     let mut i = 0;
     while i < n {
-        height = step(&mut stack, height, ds, p, word(img, d + i));
+        height = step(&mut stack, height, ds, p, whole_word(img, d + i));
         i += 1;
     }
     Degree(stack[0])

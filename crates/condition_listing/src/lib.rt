@@ -2,12 +2,13 @@
 // parentheses are known before they are written; a chain of equal operators is a loop.
 ghost use mathlib.Core.Path.{_≡_};
 ghost use mathlib.Core.List.{[], _++_};
-ghost use Prim.Native.Nat.{_≤_, _<_};
+ghost use Prim.Native.Nat.{_*_, _≤_, _<_};
+ghost use lib.ListN.{length};
 ghost use Rattle.model.specs.Block.{neg};
 ghost use Rattle.model.specs.Parentheses.{form as formOf, rank};
 ghost use Rattle.model.specs.Image.{wordAt, nameAt, decode, ruleAt, inputPlace, termPlace, RULES};
 ghost use Rattle.model.specs.Listing.{inputTermName, operator as operatorText, wrapped, conditionText};
-ghost use Rattle.header.specs.Header.{Heads};
+ghost use Rattle.header.specs.Header.{Heads, Holds};
 ghost use Rattle.layout.specs.Groups.{Sound};
 ghost use Rattle.listing_writer.specs.Prepends.{Prepends};
 ghost use Rattle.condition_listing.specs.Spans.{Forms, Writes, operatorOf};
@@ -22,7 +23,7 @@ use stored_conditions::NOT_WORD;
 use stored_conditions::OR_FORM;
 use stored_conditions::TERM_FORM;
 use stored_conditions::TERM_WORD;
-use words::word;
+use words::whole_word;
 
 // Where a condition that was written starts, in words, and the bytes written so far.
 struct Written {
@@ -32,7 +33,7 @@ struct Written {
 
 // The input that has term t; the number of inputs where none has.
 fn owner(img: &[u8], h: Header, t: usize) -> usize
-    requires { ⌜ Sound (wordAt (now img)) × Heads (wordAt (now img)) h ⌝ }
+    requires { ⌜ Sound (wordAt (now img)) × Heads (wordAt (now img)) h × Holds (now img) h ⌝ }
     ensures { λ r. ⌜ (r < h .inputs → inputTermName (decode (wordAt (now (img .entry)))) t ≡ record {
       variable = nameAt (wordAt (now (img .entry))) (inputPlace (wordAt (now (img .entry))) r);
       term = nameAt (wordAt (now (img .entry))) (termPlace (wordAt (now (img .entry))) t);
@@ -44,7 +45,8 @@ fn owner(img: &[u8], h: Header, t: usize) -> usize
     let mut i = 0;
     while i < n {
         let row = header::input_row(h, i);
-        if t < word(img, row + header::INPUT_FIRST) + word(img, row + header::INPUT_TERMS) {
+        let first = whole_word(img, row + header::INPUT_FIRST);
+        if t < first + whole_word(img, row + header::INPUT_TERMS) {
             return i;
         }
         i += 1;
@@ -54,7 +56,7 @@ fn owner(img: &[u8], h: Header, t: usize) -> usize
 
 // The input that has term t, what stands between, and the term.
 fn term(out: &mut [u8], k: usize, img: &[u8], h: Header, t: usize, between: &[u8]) -> usize
-    requires { ⌜ Sound (wordAt (now img)) × Heads (wordAt (now img)) h × (t ≤ 4294967295) ⌝ }
+    requires { ⌜ Sound (wordAt (now img)) × Heads (wordAt (now img)) h × (t ≤ 4294967295) × Holds (now img) h ⌝ }
     ensures { λ r. ⌜ Prepends k r
         (inputTermName (decode (wordAt (now (img .entry)))) t .variable
         ++ (now (between .entry) ++ inputTermName (decode (wordAt (now (img .entry)))) t .term))
@@ -90,13 +92,13 @@ fn operator(out: &mut [u8], k: usize, w: usize) -> usize
 
 // The form of the condition that ends before word e: its last two words tell it.
 fn form(img: &[u8], e: usize) -> u8
-    requires { ⌜ e ≤ 100000000000 ⌝ }
+    requires { ⌜ e * 4 ≤ length (now img) ⌝ }
     ensures { λ r. ⌜ Forms (wordAt (now (img .entry))) e r ⌝ }
 {
     if e < 1 {
         return TERM_FORM;
     }
-    let w = word(img, e - 1);
+    let w = whole_word(img, e - 1);
     if TERM_WORD <= w {
         return TERM_FORM;
     }
@@ -106,7 +108,7 @@ fn form(img: &[u8], e: usize) -> u8
     if e < 2 {
         return NOT_FORM;
     }
-    if TERM_WORD <= word(img, e - 2) {
+    if TERM_WORD <= whole_word(img, e - 2) {
         return NOT_TERM_FORM;
     }
     NOT_FORM
@@ -114,7 +116,8 @@ fn form(img: &[u8], e: usize) -> u8
 
 // The condition that ends before word e, in parentheses if its form is looser than l.
 fn operand(out: &mut [u8], k: usize, img: &[u8], h: Header, e: usize, l: u8) -> Written
-    requires { ⌜ Sound (wordAt (now img)) × Heads (wordAt (now img)) h × (e ≤ 100000000000) ⌝ }
+    requires { ⌜ Sound (wordAt (now img)) × Heads (wordAt (now img)) h × (e * 4 ≤ length (now img))
+        × Holds (now img) h ⌝ }
     ensures { λ r. ⌜ Writes (wordAt (now (img .entry)))
         (λ c. wrapped l (formOf c) (conditionText (inputTermName (decode (wordAt (now (img .entry))))) c))
         e k (r .first) (r .k) (now (out .entry)) (now (out .exit)) ⌝ }
@@ -134,7 +137,8 @@ fn operand(out: &mut [u8], k: usize, img: &[u8], h: Header, e: usize, l: u8) -> 
 
 // NOT of the condition that ends before word e; over a term it stands after IS.
 fn negation(out: &mut [u8], k: usize, img: &[u8], h: Header, e: usize) -> Written
-    requires { ⌜ Sound (wordAt (now img)) × Heads (wordAt (now img)) h × (e ≤ 100000000000) ⌝ }
+    requires { ⌜ Sound (wordAt (now img)) × Heads (wordAt (now img)) h × (e * 4 ≤ length (now img))
+        × Holds (now img) h ⌝ }
     ensures { λ r. ⌜ Writes (wordAt (now (img .entry)))
         (λ c. conditionText (inputTermName (decode (wordAt (now (img .entry))))) (neg c))
         e k (r .first) (r .k) (now (out .entry)) (now (out .exit)) ⌝ }
@@ -143,7 +147,7 @@ fn negation(out: &mut [u8], k: usize, img: &[u8], h: Header, e: usize) -> Writte
     if e < 1 {
         return Written { first: 0, k: k };
     }
-    let last = word(img, e - 1);
+    let last = whole_word(img, e - 1);
     if TERM_WORD <= last {
         let n = term(out, k, img, h, last - TERM_WORD, b" IS NOT ");
         return Written { first: e - 1, k: n };
@@ -158,7 +162,8 @@ fn negation(out: &mut [u8], k: usize, img: &[u8], h: Header, e: usize) -> Writte
 
 // The condition that ends before word e. Left of an operator its own form stands bare, right of it the next tighter.
 fn condition(out: &mut [u8], k: usize, img: &[u8], h: Header, e: usize) -> Written
-    requires { ⌜ Sound (wordAt (now img)) × Heads (wordAt (now img)) h × (e ≤ 100000000000) ⌝ }
+    requires { ⌜ Sound (wordAt (now img)) × Heads (wordAt (now img)) h × (e * 4 ≤ length (now img))
+        × Holds (now img) h ⌝ }
     ensures { λ r. ⌜ Writes (wordAt (now (img .entry)))
         (conditionText (inputTermName (decode (wordAt (now (img .entry))))))
         e k (r .first) (r .k) (now (out .entry)) (now (out .exit)) ⌝ }
@@ -167,7 +172,7 @@ fn condition(out: &mut [u8], k: usize, img: &[u8], h: Header, e: usize) -> Writt
     let mut d = e;
     let mut q = k;
     while 0 < d {
-        let w = word(img, d - 1);
+        let w = whole_word(img, d - 1);
         if TERM_WORD <= w {
             let n = term(out, q, img, h, w - TERM_WORD, b" IS ");
             return Written { first: d - 1, k: n };
@@ -189,15 +194,16 @@ fn condition(out: &mut [u8], k: usize, img: &[u8], h: Header, e: usize) -> Writt
 
 // The condition of rule i.
 pub fn rule_condition(out: &mut [u8], k: usize, img: &[u8], h: Header, i: usize) -> usize
-    requires { ⌜ Sound (wordAt (now img)) × Heads (wordAt (now img)) h × (i < wordAt (now img) RULES) ⌝ }
+    requires { ⌜ Sound (wordAt (now img)) × Heads (wordAt (now img)) h × (i < wordAt (now img) RULES)
+        × Holds (now img) h ⌝ }
     ensures { λ r. ⌜ Prepends k r
         (conditionText (inputTermName (decode (wordAt (now (img .entry)))))
         (ruleAt (wordAt (now (img .entry))) i .condition))
         (now (out .entry)) (now (out .exit)) ⌝ }
 {
     let o = header::rule_row(h, i);
-    let first = word(img, o + header::RULE_WORD_FIRST);
-    let n = word(img, o + header::RULE_WORDS);
+    let first = whole_word(img, o + header::RULE_WORD_FIRST);
+    let n = whole_word(img, o + header::RULE_WORDS);
     let m = condition(out, k, img, h, h.word_table + first + n);
     m.k
 }

@@ -1,13 +1,14 @@
 // From the heights of the output terms to the answer of each output, and the held record after it.
 ghost use mathlib.Core.Path.{_≡_};
-ghost use mathlib.Core.List.{map};
-ghost use Prim.Native.Nat.{_≤_, _<_};
-ghost use Rattle.model.specs.Image.{wordAt, tab, singletonAt, outputAt};
+ghost use mathlib.Core.List.{List, map};
+ghost use Prim.Native.Nat.{ℕ, _*_, _≤_, _<_};
+ghost use Rattle.model.specs.Image.{wordAt, singletonAt, outputAt};
 ghost use Rattle.model.specs.Evaluation.{unfired, outputAnswer, noAnswer, padded, heldOf};
-ghost use Rattle.header.specs.Header.{Heads};
-ghost use Rattle.layout.specs.Tables.{inputTermsIn, outputCount, outputFirstAt};
+ghost use Rattle.header.specs.Header.{Heads, Holds};
+ghost use Rattle.layout.specs.Tables.{inputTermsIn};
 ghost use Rattle.layout.specs.Groups.{Sound};
-ghost use Rattle.defuzzification.specs.Outputs.{heightOf, HeightsOk, answersBy};
+ghost use Rattle.centre.specs.Centre.{SumsOf};
+ghost use Rattle.defuzzification.specs.Outputs.{positionsOf, HeightsOk, answersBy};
 use centre::Sums;
 use header::Header;
 use model::Answer;
@@ -15,25 +16,27 @@ use model::Crisp;
 use model::Degree;
 use model::Held;
 use model::Mark;
-use words::crisp_at;
-use words::word;
+use stored_points::place_at;
+use words::whole_crisp;
+use words::whole_word;
 
 // The position of output term t.
 fn position(img: &[u8], h: Header, t: usize) -> Crisp
-    requires { ⌜ Heads (wordAt (now img)) h × (t ≤ 10000000000) ⌝ }
+    requires { ⌜ Sound (wordAt (now img)) × Heads (wordAt (now img)) h × Holds (now img) h
+        × (inputTermsIn (wordAt (now img)) ≤ t) × (t < h .terms) ⌝ }
     ensures { λ r. ⌜ r .0 ≡ singletonAt (wordAt (now (img .entry))) t .at ⌝ }
 {
-    let first = word(img, header::term_row(h, t) + header::TERM_FIRST);
-    crisp_at(img, header::point_row(h, first))
+    let first = whole_word(img, header::term_row(h, t) + header::TERM_FIRST);
+    place_at(img, h, first)
 }
 
 // The answer of output i where no height is above 0.
 fn without_rule(img: &[u8], h: Header, i: usize, held: Crisp) -> Answer
-    requires { ⌜ Heads (wordAt (now img)) h × (i ≤ 4294967295) ⌝ }
+    requires { ⌜ Heads (wordAt (now img)) h × Holds (now img) h × (i < h .outputs) ⌝ }
     ensures { λ r. ⌜ r ≡ unfired (outputAt (wordAt (now (img .entry))) i .default) (held .0) ⌝ }
 {
     let row = header::output_row(h, i);
-    if word(img, row + header::OUTPUT_DEFAULT_KIND) == 0 {
+    if whole_word(img, row + header::OUTPUT_DEFAULT_KIND) == 0 {
         let value = crisp::to_float(held);
         return Answer {
             mark: Mark::Held,
@@ -42,7 +45,7 @@ fn without_rule(img: &[u8], h: Header, i: usize, held: Crisp) -> Answer
             value: value,
         };
     }
-    let declared = crisp_at(img, row + header::OUTPUT_DEFAULT);
+    let declared = whole_crisp(img, row + header::OUTPUT_DEFAULT);
     let value = crisp::to_float(declared);
     Answer {
         mark: Mark::Default,
@@ -52,34 +55,14 @@ fn without_rule(img: &[u8], h: Header, i: usize, held: Crisp) -> Answer
     }
 }
 
-// The answer of output i by the heights of the output terms, of which m is the first.
-fn answer(
-    img: &[u8],
-    h: Header,
-    i: usize,
-    hs: [Degree; bounds::OUTPUT_TERMS],
-    m: usize,
-    held: Crisp,
-) -> Answer
-    requires { ⌜ Sound (wordAt (now img)) × Heads (wordAt (now img)) h × (i < wordAt (now img) 3) ⌝ }
-    requires { ⌜ (m ≡ inputTermsIn (wordAt (now img))) × HeightsOk hs ⌝ }
-    ensures { λ r. ⌜ r ≡ outputAnswer (outputAt (wordAt (now (img .entry))) i)
-        (tab (heightOf hs m) (outputCount (wordAt (now (img .entry))) i) (outputFirstAt (wordAt (now (img .entry))) i))
-        (held .0) ⌝ }
+// The answer of output i by the sums over its terms.
+fn answer(img: &[u8], h: Header, i: usize, sums: Sums, held: Crisp) -> Answer
+    requires { ⌜ Sound (wordAt (now img)) × Heads (wordAt (now img)) h × (i < wordAt (now img) 3)
+        × Holds (now img) h ⌝ }
+    requires { ⌜ (sums .heights ≤ 7000000) × (sums .moment ≤ 2000000000 * sums .heights) ⌝ }
+    ensures { λ r. ⌜ ((hs : List ℕ) → SumsOf sums (positionsOf (wordAt (now (img .entry))) i) hs
+        → r ≡ outputAnswer (outputAt (wordAt (now (img .entry))) i) hs (held .0)) ⌝ }
 {
-    let row = header::output_row(h, i);
-    let first = word(img, row + header::OUTPUT_FIRST);
-    let n = word(img, row + header::OUTPUT_TERMS);
-    let mut sums = Sums {
-        heights: 0,
-        moment: 0,
-    };
-    let mut k = 0;
-    while k < n {
-        let w = hs[first - m + k];
-        sums = centre::added(sums, position(img, h, first + k), w);
-        k += 1;
-    }
     let c = centre::centre_of(sums);
     if c.sum == 0 {
         return without_rule(img, h, i, held);
@@ -112,7 +95,8 @@ pub struct Answered {
     pub held: Held,
 }
 
-// By the heights of the output terms, of which m is the first, and the held record.
+// By the heights of the output terms, of which m is the first, and the held record. An output's heights are summed
+// here, since a function of its own would be given a copy of all.
 pub fn outputs(
     img: &[u8],
     h: Header,
@@ -120,7 +104,7 @@ pub fn outputs(
     m: usize,
     held: Held,
 ) -> Answered
-    requires { ⌜ Sound (wordAt (now img)) × Heads (wordAt (now img)) h ⌝ }
+    requires { ⌜ Sound (wordAt (now img)) × Heads (wordAt (now img)) h × Holds (now img) h ⌝ }
     requires { ⌜ (m ≡ inputTermsIn (wordAt (now img))) × HeightsOk hs ⌝ }
     ensures { λ r. ⌜ r .answers ≡ padded noAnswer (answersBy (wordAt (now (img .entry))) hs m held) ⌝ }
     ensures { λ r. ⌜ r .held
@@ -132,7 +116,20 @@ pub fn outputs(
     let n = h.outputs;
     let mut i = 0usize;
     while i < n {
-        let a = answer(img, h, i, hs, m, kept[i]);
+        let row = header::output_row(h, i);
+        let first = whole_word(img, row + header::OUTPUT_FIRST);
+        let count = whole_word(img, row + header::OUTPUT_TERMS);
+        let mut sums = Sums {
+            heights: 0,
+            moment: 0,
+        };
+        let mut k = 0;
+        while k < count {
+            let w = hs[first - m + k];
+            sums = centre::added(sums, position(img, h, first + k), w);
+            k += 1;
+        }
+        let a = answer(img, h, i, sums, kept[i]);
         answers[i] = a;
         let x = a.thousandths;
         figures[i] = x;

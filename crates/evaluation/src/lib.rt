@@ -5,17 +5,16 @@ ghost use Rattle.model.specs.Outcome.{verdictIn};
 ghost use Rattle.model.specs.Refusals.{refusalOf, verdictOf};
 ghost use Rattle.model.specs.Image.{wordAt, decode};
 ghost use Rattle.model.specs.Evaluation.{evaluateBlock, evaluate, Tells, fresh, recordIn};
-ghost use Rattle.header.specs.Header.{Heads};
-ghost use Rattle.layout.specs.Tables.{inputTermsIn};
-ghost use Rattle.layout.specs.Groups.{Sound};
+ghost use Rattle.load.specs.Judged.{Known};
 use accumulation::heights;
 use defuzzification::no_answer;
 use defuzzification::outputs;
 use fuzzification::input_values;
 use fuzzification::term_degrees;
-use header::Header;
 use held::fresh_record;
 use held::record_ok;
+use load::Examined;
+use load::Loaded;
 use load::examine;
 use model::Crisp;
 use model::Evaluation;
@@ -37,18 +36,19 @@ fn refused(why: Refusal, before: Held) -> Evaluation
     }
 }
 
-// On an accepted image with m input terms.
-pub fn evaluate_accepted(
+// On an accepted image.
+fn evaluate_accepted(
     img: &[u8],
-    h: Header,
-    m: usize,
+    a: Loaded,
     rs: [Reading; bounds::INPUTS],
     n: usize,
     before: Held,
 ) -> Evaluation
-    requires { ⌜ Sound (wordAt (now img)) × Heads (wordAt (now img)) h × (m ≡ inputTermsIn (wordAt (now img))) ⌝ }
+    requires { ⌜ Known (now img) a ⌝ }
     ensures { λ r. ⌜ Tells r before (evaluateBlock (decode (wordAt (now (img .entry)))) rs n before) ⌝ }
 {
+    let h = a.header;
+    let m = a.input_terms;
     let inputs = h.inputs;
     let kept = record_ok(img, h, before);
     if n != inputs {
@@ -65,9 +65,9 @@ pub fn evaluate_accepted(
     let at = v.at;
     let ds = term_degrees(img, h, at);
     let hs = heights(img, h, ds, m);
-    let a = outputs(img, h, hs, m, before);
-    let answers = a.answers;
-    let after = a.held;
+    let given = outputs(img, h, hs, m, before);
+    let answers = given.answers;
+    let after = given.held;
     Evaluation {
         verdict: Verdict::Accepted,
         answers: answers,
@@ -79,12 +79,10 @@ pub fn evaluate_accepted(
 pub fn evaluate(img: &[u8], rs: [Reading; bounds::INPUTS], n: usize, before: Held) -> Evaluation
     ensures { λ r. ⌜ Tells r before (evaluate (now (img .entry)) rs n before) ⌝ }
 {
-    let c = examine(img);
-    if c.ok {
-        let h = c.header;
-        return evaluate_accepted(img, h, c.input_terms, rs, n, before);
+    match examine(img) {
+        Examined::Refused => refused(Refusal::ImageNotAccepted, before),
+        Examined::Accepted(a) => evaluate_accepted(img, a, rs, n, before),
     }
-    refused(Refusal::ImageNotAccepted, before)
 }
 
 // The fresh held record; all zero where the image is not accepted.
@@ -92,19 +90,18 @@ pub fn fresh_of(img: &[u8]) -> Fresh
     ensures { λ r. ⌜ (verdictOf (r .verdict) ≡ verdictIn (fresh (now (img .entry))))
         × (r .held ≡ recordIn (fresh (now (img .entry)))) ⌝ }
 {
-    let c = examine(img);
-    if c.ok {
-        let h = c.header;
-        let held = fresh_record(img, h);
+    let Examined::Accepted(a) = examine(img) else {
         return Fresh {
-            verdict: Verdict::Accepted,
-            held: held,
+            verdict: Verdict::Refused(Refusal::ImageNotAccepted),
+            held: Held {
+                figures: [Crisp(0); bounds::OUTPUTS],
+            },
         };
-    }
+    };
+    let h = a.header;
+    let held = fresh_record(img, h);
     Fresh {
-        verdict: Verdict::Refused(Refusal::ImageNotAccepted),
-        held: Held {
-            figures: [Crisp(0); bounds::OUTPUTS],
-        },
+        verdict: Verdict::Accepted,
+        held: held,
     }
 }

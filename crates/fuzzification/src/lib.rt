@@ -5,9 +5,10 @@ use model::Degree;
 use model::InputType;
 use model::Reading;
 use model::Taken;
+use stored_points::degree_at;
+use stored_points::place_at;
 use terms::Point;
-use words::crisp_at;
-use words::word;
+use words::whole_word;
 ghost use mathlib.Core.Path.{_≡_};
 ghost use mathlib.Core.Bool.{true};
 ghost use mathlib.Core.List.{map};
@@ -21,32 +22,17 @@ ghost use Rattle.model.specs.Degrees.{degreeFrom, termDegree};
 ghost use Rattle.model.specs.Evaluation.{termDegrees};
 ghost use Rattle.model.specs.Image.{wordAt, tab, pointAt, termAt, inputAt, decode};
 ghost use Rattle.model.specs.WellFormed.{pointOk, termOk};
-ghost use Rattle.header.specs.Header.{Heads};
+ghost use Rattle.header.specs.Header.{Heads, Holds};
 ghost use Rattle.crisp.specs.Crisp.{InCrisp};
 ghost use Rattle.terms.specs.Points.{pointView, noPoint};
-ghost use Rattle.layout.specs.Groups.{Sound};
+ghost use Rattle.layout.specs.Tables.{inputTermsIn};
+ghost use Rattle.layout.specs.Groups.{tablesOk, Sound};
 ghost use Rattle.degrees.specs.Tables.{numbers, Low};
 ghost use Rattle.fuzzification.specs.Filled.{filled, figures, AllCrisp};
 ghost use Rattle.fuzzification.specs.Values.{valuesRead};
 
-// The position of point i, its degree, and both.
-fn place_at(img: &[u8], h: Header, i: usize) -> Crisp
-    requires { ⌜ Heads (wordAt (now img)) h × (i ≤ 5000000000) ⌝ }
-    ensures { λ r. ⌜ r .0 ≡ pointAt (wordAt (now (img .entry))) i .at ⌝ }
-{
-    crisp_at(img, header::point_row(h, i))
-}
-
-fn degree_at(img: &[u8], h: Header, i: usize) -> Degree
-    requires { ⌜ Heads (wordAt (now img)) h × (i ≤ 5000000000) ⌝ }
-    ensures { λ r. ⌜ r .0 ≡ pointAt (wordAt (now (img .entry))) i .degree ⌝ }
-{
-    let row = header::point_row(h, i);
-    Degree(word(img, row + header::POINT_DEGREE) as u32)
-}
-
 fn point_at(img: &[u8], h: Header, i: usize) -> Point
-    requires { ⌜ Heads (wordAt (now img)) h × (i ≤ 5000000000) ⌝ }
+    requires { ⌜ Heads (wordAt (now img)) h × Holds (now img) h × (i < h .points) ⌝ }
     ensures { λ r. ⌜ pointView r ≡ pointAt (wordAt (now (img .entry))) i ⌝ }
 {
     Point {
@@ -57,7 +43,7 @@ fn point_at(img: &[u8], h: Header, i: usize) -> Point
 
 // The n points from the first on.
 pub fn term_points(img: &[u8], h: Header, first: usize, n: usize) -> [Point; bounds::POINTS]
-    requires { ⌜ Heads (wordAt (now img)) h × (first ≤ 4294967295) × (n ≤ pointLimit) ⌝ }
+    requires { ⌜ Heads (wordAt (now img)) h × Holds (now img) h × (first + n ≤ h .points) × (n ≤ pointLimit) ⌝ }
     ensures { λ r. ⌜ map pointView r
         ≡ filled pointLimit (pointView noPoint) (tab (pointAt (wordAt (now (img .entry)))) n first) ⌝ }
 {
@@ -75,7 +61,7 @@ pub fn term_points(img: &[u8], h: Header, first: usize, n: usize) -> [Point; bou
 
 // The degree at x of a term whose points go from the first to the one before `end`, where x is not below the first.
 fn degree_from(img: &[u8], h: Header, first: usize, end: usize, x: Crisp) -> Degree
-    requires { ⌜ Heads (wordAt (now img)) h × (first < end) × (end ≤ 5000000000) × InCrisp (x .0) ⌝ }
+    requires { ⌜ Heads (wordAt (now img)) h × (first < end) × (end ≤ h .points) × InCrisp (x .0) × Holds (now img) h ⌝ }
     requires { ⌜ (pointAt (wordAt (now img)) first .at ≤ℤ x .0)
         × (all pointOk (tab (pointAt (wordAt (now img))) (end - first) first) ≡ true) ⌝ }
     ensures { λ r. ⌜ (r .0 ≡ degreeFrom (x .0) (pointAt (wordAt (now (img .entry))) first)
@@ -92,13 +78,14 @@ fn degree_from(img: &[u8], h: Header, first: usize, end: usize, x: Crisp) -> Deg
 }
 
 fn input_term_degree(img: &[u8], h: Header, t: usize, x: Crisp) -> Degree
-    requires { ⌜ Heads (wordAt (now img)) h × (t ≤ 5000000000) ⌝ }
+    requires { ⌜ Heads (wordAt (now img)) h × Holds (now img) h
+        × (tablesOk (wordAt (now img)) ≡ true) × (t < inputTermsIn (wordAt (now img))) ⌝ }
     requires { ⌜ InCrisp (x .0) × (termOk (termAt (wordAt (now img)) t) ≡ true) ⌝ }
     ensures { λ r. ⌜ (r .0 ≡ termDegree (termAt (wordAt (now (img .entry))) t .points) (x .0)) × (r .0 ≤ M) ⌝ }
 {
     let row = header::term_row(h, t);
-    let n = word(img, row + header::TERM_POINTS);
-    let first = word(img, row + header::TERM_FIRST);
+    let n = whole_word(img, row + header::TERM_POINTS);
+    let first = whole_word(img, row + header::TERM_FIRST);
     if crisp::not_above(x, place_at(img, h, first)) {
         return degree_at(img, h, first);
     }
@@ -111,7 +98,7 @@ pub fn term_degrees(
     h: Header,
     xs: [Crisp; bounds::INPUTS],
 ) -> [Degree; bounds::INPUT_TERMS]
-    requires { ⌜ Sound (wordAt (now img)) × Heads (wordAt (now img)) h × AllCrisp (figures xs) ⌝ }
+    requires { ⌜ Sound (wordAt (now img)) × Heads (wordAt (now img)) h × AllCrisp (figures xs) × Holds (now img) h ⌝ }
     ensures { λ r. ⌜ numbers r
         ≡ filled inputTermLimit 0 (termDegrees (decode (wordAt (now (img .entry))) .inputs) (figures xs)) ⌝ }
     ensures low { λ r. ⌜ Low (numbers r) ⌝ }
@@ -121,7 +108,7 @@ pub fn term_degrees(
     let mut first = 0;
     let mut i = 0;
     while i < n {
-        let count = word(img, header::input_row(h, i) + header::INPUT_TERMS);
+        let count = whole_word(img, header::input_row(h, i) + header::INPUT_TERMS);
         let x = xs[i];
         let mut k = 0;
         while k < count {
@@ -142,10 +129,10 @@ pub struct Values {
 }
 
 fn input_type(img: &[u8], h: Header, i: usize) -> InputType
-    requires { ⌜ Heads (wordAt (now img)) h × (i ≤ inputLimit) ⌝ }
+    requires { ⌜ Heads (wordAt (now img)) h × Holds (now img) h × (i < h .inputs) ⌝ }
     ensures { λ r. ⌜ r ≡ inputAt (wordAt (now (img .entry))) i .type ⌝ }
 {
-    if word(img, header::input_row(h, i) + header::INPUT_TYPE) == 0 {
+    if whole_word(img, header::input_row(h, i) + header::INPUT_TYPE) == 0 {
         InputType::Real
     } else {
         InputType::Int
@@ -153,7 +140,7 @@ fn input_type(img: &[u8], h: Header, i: usize) -> InputType
 }
 
 pub fn input_values(img: &[u8], h: Header, rs: [Reading; bounds::INPUTS]) -> Values
-    requires { ⌜ Sound (wordAt (now img)) × Heads (wordAt (now img)) h ⌝ }
+    requires { ⌜ Sound (wordAt (now img)) × Heads (wordAt (now img)) h × Holds (now img) h ⌝ }
     ensures { λ r. ⌜ r .wrong ≡ length (valuesRead (decode (wordAt (now (img .entry))) .inputs) rs) ⌝ }
     ensures at { λ r. ⌜ figures (r .at)
         ≡ filled inputLimit (pos 0) (valuesRead (decode (wordAt (now (img .entry))) .inputs) rs) ⌝ }

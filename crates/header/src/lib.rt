@@ -1,10 +1,11 @@
 // The header of a stored image, read once, and the rows of its tables by name.
 ghost use mathlib.Core.Path.{_≡_};
-ghost use Prim.Native.Nat.{ℕ, _≤_};
+ghost use Prim.Native.Nat.{ℕ, _*_, _≤_};
+ghost use lib.ListN.{length};
 ghost use Rattle.model.specs.Block.{Block};
-ghost use Rattle.model.specs.Image.{wordAt, layoutWord, inputPlace, outputPlace, termPlace, pointPlace, rulePlace, conclusionPlace};
+ghost use Rattle.model.specs.Image.{headerSize, wordAt, layoutWord, inputPlace, outputPlace, termPlace, pointPlace, rulePlace, conclusionPlace};
 ghost use Rattle.header.specs.Header.{Heads};
-use words::word;
+use words::whole_word;
 
 // How many rows each table has, and where it starts, in words.
 pub struct Header {
@@ -119,24 +120,26 @@ pub fn layout_word() -> usize
     1
 }
 
+// Of an image that goes as far as the end of its header.
 pub fn header_of(img: &[u8]) -> Header
+    requires { ⌜ headerSize * 4 ≤ length (now img) ⌝ }
     ensures { λ r. ⌜ Heads (wordAt (now (img .entry))) r ⌝ }
 {
     Header {
-        inputs: word(img, 2),
-        outputs: word(img, 3),
-        terms: word(img, 4),
-        points: word(img, 5),
-        rules: word(img, 6),
-        words: word(img, 7),
-        conclusions: word(img, 8),
-        input_table: word(img, 9),
-        output_table: word(img, 10),
-        term_table: word(img, 11),
-        point_table: word(img, 12),
-        rule_table: word(img, 13),
-        word_table: word(img, 14),
-        conclusion_table: word(img, 15),
+        inputs: whole_word(img, 2),
+        outputs: whole_word(img, 3),
+        terms: whole_word(img, 4),
+        points: whole_word(img, 5),
+        rules: whole_word(img, 6),
+        words: whole_word(img, 7),
+        conclusions: whole_word(img, 8),
+        input_table: whole_word(img, 9),
+        output_table: whole_word(img, 10),
+        term_table: whole_word(img, 11),
+        point_table: whole_word(img, 12),
+        rule_table: whole_word(img, 13),
+        word_table: whole_word(img, 14),
+        conclusion_table: whole_word(img, 15),
     }
 }
 

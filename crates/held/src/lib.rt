@@ -1,6 +1,6 @@
 // The held record of an accepted image: whether one may be passed in, and the fresh one.
 ghost use mathlib.Core.Path.{_≡_};
-ghost use Prim.Native.Nat.{_-_, _≤_};
+ghost use Prim.Native.Nat.{_-_, _≤_, _<_};
 ghost use lib.Dec.{eqb};
 ghost use lib.IntN.{natAbs};
 ghost use Rattle.model.specs.Basic.{all};
@@ -8,42 +8,42 @@ ghost use Rattle.model.specs.Bounds.{outputLimit};
 ghost use Rattle.model.specs.Block.{inRange};
 ghost use Rattle.model.specs.Image.{wordAt, outputAt, tab, decode};
 ghost use Rattle.model.specs.Evaluation.{startOf, figuresOf, heldOk, freshOf};
-ghost use Rattle.header.specs.Header.{Heads};
+ghost use Rattle.header.specs.Header.{Heads, Holds};
 ghost use Rattle.layout.specs.Groups.{Sound};
 ghost use Rattle.held.specs.Places.{fits, isZero};
 use crisp::not_above;
 use header::Header;
 use model::Crisp;
 use model::Held;
-use words::crisp_at;
-use words::word;
+use words::whole_crisp;
+use words::whole_word;
 
 // In the RANGE of output i, if it has one.
 fn in_range_of(img: &[u8], h: Header, i: usize, x: Crisp) -> bool
-    requires { ⌜ Heads (wordAt (now img)) h × (i ≤ 4294967295) ⌝ }
+    requires { ⌜ Heads (wordAt (now img)) h × Holds (now img) h × (i < h .outputs) ⌝ }
     ensures { λ r. ⌜ r ≡ inRange (outputAt (wordAt (now (img .entry))) i .range) (x .0) ⌝ }
 {
     let row = header::output_row(h, i);
-    let ranged = word(img, row + header::OUTPUT_RANGE) != 0;
-    let least = crisp_at(img, row + header::OUTPUT_LEAST);
-    let most = crisp_at(img, row + header::OUTPUT_MOST);
+    let ranged = whole_word(img, row + header::OUTPUT_RANGE) != 0;
+    let least = whole_crisp(img, row + header::OUTPUT_LEAST);
+    let most = whole_crisp(img, row + header::OUTPUT_MOST);
     crisp::in_range(ranged, least, most, x)
 }
 
 // 0, or the end of the RANGE of output i that is nearest 0.
 fn start_of(img: &[u8], h: Header, i: usize) -> Crisp
-    requires { ⌜ Heads (wordAt (now img)) h × (i ≤ 4294967295) ⌝ }
+    requires { ⌜ Heads (wordAt (now img)) h × Holds (now img) h × (i < h .outputs) ⌝ }
     ensures { λ r. ⌜ r .0 ≡ startOf (outputAt (wordAt (now (img .entry))) i .range) ⌝ }
 {
     let row = header::output_row(h, i);
-    if word(img, row + header::OUTPUT_RANGE) == 0 {
+    if whole_word(img, row + header::OUTPUT_RANGE) == 0 {
         return Crisp(0);
     }
-    let least = crisp_at(img, row + header::OUTPUT_LEAST);
+    let least = whole_crisp(img, row + header::OUTPUT_LEAST);
     if crisp::less(Crisp(0), least) {
         return least;
     }
-    let most = crisp_at(img, row + header::OUTPUT_MOST);
+    let most = whole_crisp(img, row + header::OUTPUT_MOST);
     if crisp::less(most, Crisp(0)) {
         return most;
     }
@@ -52,7 +52,7 @@ fn start_of(img: &[u8], h: Header, i: usize) -> Crisp
 
 // The figures of the outputs are in the crisp bounds and in their RANGEs.
 fn figures_ok(img: &[u8], h: Header, held: Held) -> bool
-    requires { ⌜ Heads (wordAt (now img)) h × (h .outputs ≤ outputLimit) ⌝ }
+    requires { ⌜ Heads (wordAt (now img)) h × (h .outputs ≤ outputLimit) × Holds (now img) h ⌝ }
     ensures { λ r. ⌜ r ≡ all (fits (wordAt (now (img .entry))) held) (tab (λ j. j) (h .outputs) 0) ⌝ }
 {
     let figures = held.figures;
@@ -99,7 +99,7 @@ fn is_zero(x: Crisp) -> bool
 
 // Whether this may be the held record of an accepted image.
 pub fn record_ok(img: &[u8], h: Header, held: Held) -> bool
-    requires { ⌜ Sound (wordAt (now img)) × Heads (wordAt (now img)) h ⌝ }
+    requires { ⌜ Sound (wordAt (now img)) × Heads (wordAt (now img)) h × Holds (now img) h ⌝ }
     ensures { λ r. ⌜ r ≡ heldOk (decode (wordAt (now (img .entry))) .outputs) (figuresOf held) ⌝ }
 {
     if !figures_ok(img, h, held) {
@@ -110,7 +110,7 @@ pub fn record_ok(img: &[u8], h: Header, held: Held) -> bool
 
 // The fresh held record of an accepted image.
 pub fn fresh_record(img: &[u8], h: Header) -> Held
-    requires { ⌜ Sound (wordAt (now img)) × Heads (wordAt (now img)) h ⌝ }
+    requires { ⌜ Sound (wordAt (now img)) × Heads (wordAt (now img)) h × Holds (now img) h ⌝ }
     ensures { λ r. ⌜ r ≡ freshOf (decode (wordAt (now (img .entry)))) ⌝ }
 {
     let mut figures = [Crisp(0); bounds::OUTPUTS];

@@ -1,9 +1,9 @@
 // The keywords. Each is alone in its slot, a number by its length, first byte and last byte, so that a word is compared
 // with one of them at most.
 ghost use mathlib.Core.Path.{_≡_};
-ghost use mathlib.Core.Bool.{true};
-ghost use mathlib.Core.List.{[]};
-ghost use Prim.Native.Nat.{_+_, _*_, _%_, _≤_, _<_};
+ghost use mathlib.Core.Bool.{true, false};
+ghost use mathlib.Core.List.{List, []};
+ghost use Prim.Native.Nat.{ℕ, _+_, _*_, _%_, _≤_, _<_};
 ghost use lib.Dec.{ltb};
 ghost use lib.ListN.{getD};
 ghost use Rattle.model.specs.Basic.{same};
@@ -114,6 +114,13 @@ fn slot(n: usize, a: u8, z: u8) -> usize
     (13 * n + 6 * (a as usize) + 2 * (z as usize)) % 128
 }
 
+// Whether a word that begins with this byte may be a keyword.
+pub fn begins(a: u8) -> bool
+    ensures { λ r. ⌜ ((w : List ℕ) → getD w 0 0 ≡ a → r ≡ false → keywordAt w ≡ 43) ⌝ }
+{
+    a <= LAST
+}
+
 // Which keyword the word is; COUNT where it is none.
 pub fn keyword_at(w: &[u8]) -> usize
     ensures { λ r. ⌜ r ≡ keywordAt (now (w .entry)) ⌝ }
@@ -126,7 +133,7 @@ pub fn keyword_at(w: &[u8]) -> usize
     if LONGEST < n {
         return COUNT;
     }
-    if LAST < w[0] {
+    if !begins(w[0]) {
         return COUNT;
     }
     in_slot(w, slot(n, w[0], w[n - 1]))

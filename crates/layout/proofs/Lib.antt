@@ -9,3 +9,4 @@ pub mod Bytes
 pub mod Groups
 pub mod Sound
 pub mod Rules
+pub mod Within

@@ -45,7 +45,7 @@ module _ (w : ℕ → ℕ) where
   abbrev pub inputFirst : ℕ → ℕ
   inputFirst i = w (w 9 + i * 7 + 5)
 
-  abbrev termFirst : ℕ → ℕ
+  abbrev pub termFirst : ℕ → ℕ
   termFirst i = w (w 11 + i * 6 + 4)
 
   abbrev pub wordFirst : ℕ → ℕ
@@ -54,14 +54,14 @@ module _ (w : ℕ → ℕ) where
   abbrev pub conclusionFirst : ℕ → ℕ
   conclusionFirst i = w (w 13 + i * 6 + 3)
 
-  pub input-row : (i n : ℕ) → same (tab w 7 (w 9 + i * 7)) (inputRow n (inputAt w i)) ≡ true
+  input-row : (i n : ℕ) → same (tab w 7 (w 9 + i * 7)) (inputRow n (inputAt w i)) ≡ true
       → (inputFirst i ≡ n) × (inputNext n (inputAt w i) ≡ n + inputCount w i)
   unfolding nameWords inputAt
   input-row i n h =
       let o = w 9 + i * 7 in
       (word-of w o 7 (inputRow n (inputAt w i)) 5 (omega arith) h, ap (λ (x : ℕ). n + x) (length-tab (termAt w) (w (o + 6)) (w (o + 5))))
 
-  pub output-row : (i n : ℕ) → same (tab w 11 (w 10 + i * 11)) (outputRow n (outputAt w i)) ≡ true
+  output-row : (i n : ℕ) → same (tab w 11 (w 10 + i * 11)) (outputRow n (outputAt w i)) ≡ true
       → (outputFirstAt w i ≡ n) × (outputNext n (outputAt w i) ≡ n + outputCount w i)
   unfolding nameWords outputAt
   output-row i n h =
@@ -111,7 +111,7 @@ module _ (w : ℕ → ℕ) where
   outputFirsts-run h =
       runs-from outputRow outputNext (outputAt w) w (w 10) 11 (λ n. n) (outputFirstAt w) (outputCount w) (λ i n e. output-row i n e) (w 3) 0 (inputTermsIn w) h
 
-  pub outputTerms-are : outputRows w ≡ true → outputTerms (decode w) ≡ tab (singletonAt w) (outputTermsIn w) (inputTermsIn w)
+  outputTerms-are : outputRows w ≡ true → outputTerms (decode w) ≡ tab (singletonAt w) (outputTermsIn w) (inputTermsIn w)
   unfolding decode outputAt
   outputTerms-are h =
       gather-runs (λ v. v .terms) (outputAt w) (singletonAt w) (outputFirstAt w) (outputCount w) (w 3) 0 (inputTermsIn w) (each _ (λ j. refl) (w 3) 0)
@@ -124,20 +124,27 @@ module _ (w : ℕ → ℕ) where
       ∙ ap (λ (l : List Term). tab (termAt w) (inputTermsIn w) 0 ++ l)
       (ap (λ (l : List Singleton). map singletonTerm l) (outputTerms-are g) ∙ map-tab singletonTerm (singletonAt w) (outputTermsIn w) (inputTermsIn w))
 
-  pub input-points : inputTermRows w ≡ true → gather (λ t. t .points) (tab (termAt w) (inputTermsIn w) 0) ≡ tab (pointAt w) (inputPointsIn w) 0
-  unfolding inputTermRows termAt
-  input-points h =
-      gather-runs (λ t. t .points) (termAt w) (pointAt w) termFirst (termCount w) (inputTermsIn w) 0 0 (each _ (λ j. refl) (inputTermsIn w) 0)
-      (runs-from termRow termNext (termAt w) w (w 11) 6 (λ n. n) termFirst (termCount w) (λ i n e. term-row i n e) (inputTermsIn w) 0 0 h)
+  pub termFirsts-run : inputTermRows w ≡ true → Runs termFirst (termCount w) (inputTermsIn w) 0 0
+  unfolding inputTermRows
+  termFirsts-run h = runs-from termRow termNext (termAt w) w (w 11) 6 (λ n. n) termFirst (termCount w) (λ i n e. term-row i n e) (inputTermsIn w) 0 0 h
 
-  pub output-points : outputTermRows w ≡ true
+  input-points : inputTermRows w ≡ true → gather (λ t. t .points) (tab (termAt w) (inputTermsIn w) 0) ≡ tab (pointAt w) (inputPointsIn w) 0
+  unfolding termAt
+  input-points h =
+      gather-runs (λ t. t .points) (termAt w) (pointAt w) termFirst (termCount w) (inputTermsIn w) 0 0 (each _ (λ j. refl) (inputTermsIn w) 0) (termFirsts-run h)
+
+  pub outputTermFirsts-run : outputTermRows w ≡ true → Runs termFirst (λ j. 1) (outputTermsIn w) (inputTermsIn w) (inputPointsIn w)
+  unfolding outputTermRows
+  outputTermFirsts-run h =
+      runs-from termRow termNext (outputTermAt w) w (w 11) 6 (λ n. n) termFirst (λ j. 1) (λ i n e. output-term-row i n e) (outputTermsIn w) (inputTermsIn w)
+      (inputPointsIn w) h
+
+  output-points : outputTermRows w ≡ true
       → gather (λ t. t .points) (tab (outputTermAt w) (outputTermsIn w) (inputTermsIn w)) ≡ tab (outputPointAt w) (outputTermsIn w) (inputPointsIn w)
-  unfolding outputTermRows singletonAt tab
+  unfolding singletonAt tab
   output-points h =
       gather-runs (λ t. t .points) (outputTermAt w) (outputPointAt w) termFirst (λ j. 1) (outputTermsIn w) (inputTermsIn w) (inputPointsIn w)
-      (each _ (λ j. refl) (outputTermsIn w) (inputTermsIn w))
-      (runs-from termRow termNext (outputTermAt w) w (w 11) 6 (λ n. n) termFirst (λ j. 1) (λ i n e. output-term-row i n e) (outputTermsIn w) (inputTermsIn w)
-      (inputPointsIn w) h)
+      (each _ (λ j. refl) (outputTermsIn w) (inputTermsIn w)) (outputTermFirsts-run h)
       ∙ ap (λ (n : ℕ). tab (outputPointAt w) n (inputPointsIn w)) (sums-one (outputTermsIn w) (inputTermsIn w))
 
   pub points-are : inputRows w ≡ true → outputRows w ≡ true → inputTermRows w ≡ true → outputTermRows w ≡ true
@@ -147,11 +154,21 @@ module _ (w : ℕ → ℕ) where
       ∙ gather-append (λ t. t .points) (tab (termAt w) (inputTermsIn w) 0) (tab (outputTermAt w) (outputTermsIn w) (inputTermsIn w))
       ∙ (λ j. input-points k j ++ output-points l j)
 
+  pub wordFirsts-run : ruleRows w ≡ true → Runs wordFirst (wordCount w) (w 6) 0 0
+  unfolding ruleRows
+  wordFirsts-run h =
+      runs-from ruleRow ruleNext (ruleAt w) w (w 13) 6 (λ σ. σ .0) wordFirst (wordCount w) (λ i σ e. rule-words-row i σ e) (w 6) 0 (0, 0) h
+
+  pub conclusionFirsts-run : ruleRows w ≡ true → Runs conclusionFirst (conclusionCount w) (w 6) 0 0
+  unfolding ruleRows
+  conclusionFirsts-run h =
+      runs-from ruleRow ruleNext (ruleAt w) w (w 13) 6 (λ σ. σ .1) conclusionFirst (conclusionCount w) (λ i σ e. rule-conclusions-row i σ e) (w 6) 0 (0, 0) h
+
   pub conclusions-are : ruleRows w ≡ true → conclusions (decode w) ≡ tab (conclusionAt w) (conclusionsIn w) 0
-  unfolding ruleRows decode ruleAt
+  unfolding decode ruleAt
   conclusions-are h =
       gather-runs (λ r. r .conclusions) (ruleAt w) (conclusionAt w) conclusionFirst (conclusionCount w) (w 6) 0 0 (each _ (λ j. refl) (w 6) 0)
-      (runs-from ruleRow ruleNext (ruleAt w) w (w 13) 6 (λ σ. σ .1) conclusionFirst (conclusionCount w) (λ i σ e. rule-conclusions-row i σ e) (w 6) 0 (0, 0) h)
+      (conclusionFirsts-run h)
 
   exact-each : (k i : ℕ) → all (conditionExact w) (tab (λ j. j) k i) ≡ true
       → Each (λ j. postfix (ruleAt w j .condition) ≡ tab (λ m. w (w 14 + m)) (wordCount w j) (wordFirst j)) k i
@@ -163,7 +180,6 @@ module _ (w : ℕ → ℕ) where
 
   pub conditions-are : ruleRows w ≡ true → conditionRows w ≡ true
       → gather (λ r. postfix (r .condition)) (decode w .rules) ≡ tab (λ m. w (w 14 + m)) (wordsIn w) 0
-  unfolding ruleRows conditionRows decode
+  unfolding conditionRows decode
   conditions-are h g =
-      gather-runs (λ r. postfix (r .condition)) (ruleAt w) (λ m. w (w 14 + m)) wordFirst (wordCount w) (w 6) 0 0 (exact-each (w 6) 0 g)
-      (runs-from ruleRow ruleNext (ruleAt w) w (w 13) 6 (λ σ. σ .0) wordFirst (wordCount w) (λ i σ e. rule-words-row i σ e) (w 6) 0 (0, 0) h)
+      gather-runs (λ r. postfix (r .condition)) (ruleAt w) (λ m. w (w 14 + m)) wordFirst (wordCount w) (w 6) 0 0 (exact-each (w 6) 0 g) (wordFirsts-run h)

@@ -6,11 +6,13 @@ ghost use Rattle.model.specs.Refusals.{writtenOf};
 ghost use Rattle.model.specs.Image.{wordAt, decode};
 ghost use Rattle.model.specs.Listing.{listing};
 ghost use Rattle.model.specs.Buffers.{listsInto};
-ghost use Rattle.header.specs.Header.{Heads};
+ghost use Rattle.header.specs.Header.{Heads, Holds};
 ghost use Rattle.layout.specs.Groups.{Sound};
 ghost use Rattle.listing_writer.specs.Prepends.{Prepends};
 use header::Header;
 use listing_writer::puts;
+use load::Examined;
+use load::examine;
 use model::Refusal;
 use model::Written;
 
@@ -19,7 +21,7 @@ pub const LONGEST: usize = 31_421;
 
 // The text of an accepted image.
 fn block(out: &mut [u8], k: usize, img: &[u8], h: Header) -> usize
-    requires { ⌜ Sound (wordAt (now img)) × Heads (wordAt (now img)) h ⌝ }
+    requires { ⌜ Sound (wordAt (now img)) × Heads (wordAt (now img)) h × Holds (now img) h ⌝ }
     ensures { λ r. ⌜ Prepends k r (listing (decode (wordAt (now (img .entry))))) (now (out .entry)) (now (out .exit)) ⌝ }
 {
     let a = puts(out, k, b"END_FUNCTION_BLOCK\n");
@@ -41,11 +43,10 @@ pub fn list(img: &[u8], out: &mut [u8]) -> Written
     ensures buffer { λ r. ⌜ now (out .exit)
         ≡ bufferAfter (now (out .entry)) (listsInto (length (now (out .entry))) (now (img .entry))) ⌝ }
 {
-    let c = load::examine(img);
-    if !c.ok {
+    let Examined::Accepted(a) = examine(img) else {
         return Written::Refused(Refusal::ImageNotAccepted);
-    }
-    let h = c.header;
+    };
+    let h = a.header;
     let mut text = [0u8; LONGEST];
     let n = block(&mut text, 0, img, h);
     if out.len() < n {

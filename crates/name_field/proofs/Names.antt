@@ -10,8 +10,8 @@ use lib.ListN.{length, take, drop, getD, length-drop, List·getD-eq-default}
 use lib.Seq.{length-take-le, getD-take, getD-drop}
 use Rattle.model.specs.Basic.{run}
 use Rattle.model.specs.Image.{wordAt, bytesOf, tab, nameAt}
-use Rattle.laws.proofs.Places.{At, tab-at, tab-nth, tab-ext}
-use Rattle.words.proofs.Bytes.{words-at, bytes-at, part-word}
+use Rattle.laws.proofs.Places.{At, tab-nth}
+use Rattle.words.proofs.Bytes.{bytes-at, part-word}
 
 -- what stands past the end is 0
 low : (xs : List ℕ) → ((k : ℕ) → k < length xs → getD xs k 0 < 256) → (k : ℕ) → getD xs k 0 < 256
@@ -76,13 +76,3 @@ pub name-front : (w : ℕ → ℕ) (o : ℕ) (s : List ℕ) (n : ℕ) → s ≡ 
     → take n s ≡ nameAt w o
 unfolding nameAt
 name-front w o s n es en = rw (en, es)
-
--- the words of a part, and of the bytes of four words
-pub part-words : (img : List ℕ) (o n : ℕ) → n ≡ 16 → tab (wordAt (take n (drop (o * 4) img))) 4 0 ≡ tab (wordAt img) 4 o
-part-words img o n e =
-    tab-ext (wordAt (take n (drop (o * 4) img))) (wordAt img) 4 0 o
-    (λ k h. ap (wordAt (take n (drop (o * 4) img))) (omega arith) ∙ part-word img o n k (omega (arith, e)))
-
-pub byte-words : (s : List ℕ) (w : ℕ → ℕ) (o : ℕ) → s ≡ bytesOf (tab w 4 o) → tab (wordAt s) 4 0 ≡ tab w 4 o
-unfolding tab
-byte-words s w o e = ap (λ (l : List ℕ). tab (wordAt l) 4 0) e ∙ tab-at (wordAt (bytesOf (tab w 4 o))) 0 (tab w 4 o) (words-at (tab w 4 o))

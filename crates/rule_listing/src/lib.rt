@@ -2,12 +2,12 @@
 ghost use mathlib.Core.Path.{_≡_};
 ghost use mathlib.Core.Bool.{true};
 ghost use mathlib.Core.List.{map};
-ghost use Prim.Native.Nat.{_<_, _≤_};
+ghost use Prim.Native.Nat.{_<_};
 ghost use Rattle.model.specs.Basic.{gather};
 ghost use Rattle.model.specs.WellFormed.{conclusionOk};
 ghost use Rattle.model.specs.Image.{wordAt, decode, ruleAt, conclusionAt, pairOf, accuOf, actOf};
 ghost use Rattle.model.specs.Listing.{commaed, andText, orText, actText, accuText, conclusionText, weightText, ruleLine, ruleBlockText};
-ghost use Rattle.header.specs.Header.{Heads};
+ghost use Rattle.header.specs.Header.{Heads, Holds};
 ghost use Rattle.layout.specs.Groups.{Sound};
 ghost use Rattle.listing_writer.specs.Prepends.{Prepends};
 use condition_listing::rule_condition;
@@ -19,19 +19,20 @@ use header::term_row;
 use listing_writer::puts;
 use model::Degree;
 use name_listing::name;
-use words::word;
+use words::whole_word;
 
 // Conclusion j, counted over the whole table.
 fn conclusion(out: &mut [u8], k: usize, img: &[u8], h: Header, j: usize) -> usize
-    requires { ⌜ Sound (wordAt (now img)) × Heads (wordAt (now img)) h × (j ≤ 9000000000)
-        × (conclusionOk (decode (wordAt (now img))) (conclusionAt (wordAt (now img)) j) ≡ true) ⌝ }
+    requires { ⌜ Sound (wordAt (now img)) × Heads (wordAt (now img)) h × (j < h .conclusions)
+        × (conclusionOk (decode (wordAt (now img))) (conclusionAt (wordAt (now img)) j) ≡ true)
+        × Holds (now img) h ⌝ }
     ensures { λ r. ⌜ Prepends k r
         (conclusionText (decode (wordAt (now (img .entry)))) (conclusionAt (wordAt (now (img .entry))) j))
         (now (out .entry)) (now (out .exit)) ⌝ }
 {
     let o = conclusion_row(h, j);
-    let output = word(img, o);
-    let term = word(img, o + header::CONCLUSION_TERM);
+    let output = whole_word(img, o);
+    let term = whole_word(img, o + header::CONCLUSION_TERM);
     let a = name(out, k, img, term_row(h, term));
     let b = puts(out, a, b" IS ");
     name(out, b, img, output_row(h, output))
@@ -39,14 +40,14 @@ fn conclusion(out: &mut [u8], k: usize, img: &[u8], h: Header, j: usize) -> usiz
 
 // The conclusions of rule i.
 fn conclusions(out: &mut [u8], k: usize, img: &[u8], h: Header, i: usize) -> usize
-    requires { ⌜ Sound (wordAt (now img)) × Heads (wordAt (now img)) h × (i < h .rules) ⌝ }
+    requires { ⌜ Sound (wordAt (now img)) × Heads (wordAt (now img)) h × (i < h .rules) × Holds (now img) h ⌝ }
     ensures { λ r. ⌜ Prepends k r
         (commaed (map (conclusionText (decode (wordAt (now (img .entry))))) (ruleAt (wordAt (now (img .entry))) i .conclusions)))
         (now (out .entry)) (now (out .exit)) ⌝ }
 {
     let o = rule_row(h, i);
-    let first = word(img, o + header::RULE_CONCLUSION_FIRST);
-    let n = word(img, o + header::RULE_CONCLUSIONS);
+    let first = whole_word(img, o + header::RULE_CONCLUSION_FIRST);
+    let n = whole_word(img, o + header::RULE_CONCLUSIONS);
     if n == 0 {
         return k;
     }
@@ -73,15 +74,19 @@ fn weight(out: &mut [u8], k: usize, d: Degree) -> usize
 
 // The line of rule i.
 fn rule(out: &mut [u8], k: usize, img: &[u8], h: Header, i: usize) -> usize
-    requires { ⌜ Sound (wordAt (now img)) × Heads (wordAt (now img)) h × (i < h .rules) ⌝ }
+    requires { ⌜ Sound (wordAt (now img)) × Heads (wordAt (now img)) h × (i < h .rules) × Holds (now img) h ⌝ }
     ensures { λ r. ⌜ Prepends k r
         (ruleLine (decode (wordAt (now (img .entry)))) (ruleAt (wordAt (now (img .entry))) i))
         (now (out .entry)) (now (out .exit)) ⌝ }
 {
     let o = rule_row(h, i);
-    let number = word(img, o);
+    let number = whole_word(img, o);
     let a = puts(out, k, b";\n");
-    let b = weight(out, a, Degree(word(img, o + header::RULE_WEIGHT) as u32));
+    let b = weight(
+        out,
+        a,
+        Degree(whole_word(img, o + header::RULE_WEIGHT) as u32),
+    );
     let c = conclusions(out, b, img, h, i);
     let d = puts(out, c, b" THEN ");
     let e = rule_condition(out, d, img, h, i);
@@ -91,7 +96,7 @@ fn rule(out: &mut [u8], k: usize, img: &[u8], h: Header, i: usize) -> usize
 }
 
 fn rules(out: &mut [u8], k: usize, img: &[u8], h: Header) -> usize
-    requires { ⌜ Sound (wordAt (now img)) × Heads (wordAt (now img)) h ⌝ }
+    requires { ⌜ Sound (wordAt (now img)) × Heads (wordAt (now img)) h × Holds (now img) h ⌝ }
     ensures { λ r. ⌜ Prepends k r
         (gather (ruleLine (decode (wordAt (now (img .entry))))) (decode (wordAt (now (img .entry))) .rules))
         (now (out .entry)) (now (out .exit)) ⌝ }
@@ -145,16 +150,16 @@ fn accumulation(out: &mut [u8], k: usize, n: usize) -> usize
 }
 
 pub fn rule_block(out: &mut [u8], k: usize, img: &[u8], h: Header) -> usize
-    requires { ⌜ Sound (wordAt (now img)) × Heads (wordAt (now img)) h ⌝ }
+    requires { ⌜ Sound (wordAt (now img)) × Heads (wordAt (now img)) h × Holds (now img) h ⌝ }
     ensures { λ r. ⌜ Prepends k r (ruleBlockText (decode (wordAt (now (img .entry))))) (now (out .entry)) (now (out .exit)) ⌝ }
 {
-    let pair = word(img, header::PAIR);
+    let pair = whole_word(img, header::PAIR);
     let a = puts(out, k, b"END_RULEBLOCK\n");
     let b = rules(out, a, img, h);
     let c = puts(out, b, b";\n");
-    let d = accumulation(out, c, word(img, header::ACCU));
+    let d = accumulation(out, c, whole_word(img, header::ACCU));
     let e = puts(out, d, b";\n  ACCU : ");
-    let f = activation(out, e, word(img, header::ACT));
+    let f = activation(out, e, whole_word(img, header::ACT));
     let g = puts(out, f, b";\n  ACT : ");
     let i = or_algorithm(out, g, pair);
     let j = puts(out, i, b";\n  OR : ");

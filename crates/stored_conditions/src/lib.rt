@@ -1,6 +1,6 @@
 // Which words of an image are a condition: one pass with a stack of forms and depths.
 ghost use mathlib.Core.Path.{_≡_};
-ghost use Prim.Native.Nat.{ℕ, _≤_};
+ghost use Prim.Native.Nat.{ℕ, _+_, _*_, _≤_};
 ghost use lib.ListN.{length};
 ghost use Rattle.model.specs.Block.{Op};
 ghost use Rattle.model.specs.Parentheses.{rank, negatedForm, bareRight, opened};
@@ -9,7 +9,7 @@ ghost use Rattle.stored_conditions.specs.Machine.{added, unary, binary, 
 ghost use Rattle.stored_conditions.specs.Shapes.{shape, formOf, depthOf, shapes, view};
 ghost use Rattle.stored_conditions.specs.Stored.{conditionStored};
 use bounds::DEPTH;
-use words::word;
+use words::whole_word;
 
 // Condition words: the operators, and the first input term; the others follow it.
 pub const NOT_WORD: usize = 0;
@@ -128,14 +128,14 @@ fn step(stack: &mut [u8; ROOM], n: usize, m: usize, w: usize) -> usize
 
 // Whether the n words from place d on are a condition over the first m terms.
 pub fn stored_condition(img: &[u8], d: usize, n: usize, m: usize) -> bool
-    requires { ⌜ (d ≤ 100000000000) × (n ≤ 4294967295) × (m ≤ 4294967295) ⌝ }
+    requires { ⌜ (m ≤ 4294967295) × ((d + n) * 4 ≤ length (now img)) ⌝ }
     ensures { λ r. ⌜ r ≡ conditionStored (wordAt (now (img .entry))) d n m ⌝ }
 {
     let mut stack = [0; ROOM];
     let mut height = 0;
     let mut i = 0;
     while i < n {
-        height = step(&mut stack, height, m, word(img, d + i));
+        height = step(&mut stack, height, m, whole_word(img, d + i));
         if height == 0 {
             return false;
         }

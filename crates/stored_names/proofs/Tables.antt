@@ -4,7 +4,7 @@ use mathlib.Core.List.{List, [], _∷_, _++_}
 use mathlib.Core.Bool.{Bool, true, false, _&&_, not}
 use Prim.Native.Nat.{ℕ, zero, suc, _+_, _*_, _≤_, _<_}
 use native.Mathlib.Omega.{arith}
-use native.Mathlib.Nat.{mul-le-mul-left}
+use native.Mathlib.Nat.{mul-le-mul-right, suc-mul}
 use Rattle.model.specs.Basic.{all, distinct, same}
 use Rattle.model.specs.Tokens.{sameName}
 use Rattle.model.specs.Image.{tab, nameAt}
@@ -13,9 +13,9 @@ use Rattle.layout.specs.Tables.{nameExact}
 use Rattle.stored_names.specs.Stored.{wordsIn, absent, apart}
 use Rattle.stored_names.proofs.Names.{same-names}
 
--- an entry's place, for any width up to 11
-pub entry : (i s : ℕ) → i ≤ 4294967295 → s ≤ 11 → i * s ≤ 47244640245
-entry i s h g = omega (arith, mul-le-mul-left i g)
+-- entry i of n ends within them
+pub entry : (i n s : ℕ) → i < n → i * s + s ≤ n * s
+entry i n s h = omega (arith, suc-mul i s, mul-le-mul-right s h)
 
 crossed : (a b c d e : Bool) → (a && b) && (c && (d && e)) ≡ (a && c) && ((b && d) && e)
 crossed true true true d e = refl

@@ -1,8 +1,7 @@
 // Names in a stored image: whether one stands at a place, whether two are the same, whether those of tables differ.
 ghost use mathlib.Core.Path.{_≡_};
-ghost use mathlib.Core.Bool.{false, _&&_, _||_};
-ghost use Prim.Native.Nat.{_-_, _≤_};
-ghost use lib.Dec.{leb};
+ghost use mathlib.Core.Bool.{false, _||_};
+ghost use Prim.Native.Nat.{_+_, _*_, _-_, _≤_};
 ghost use lib.ListN.{length};
 ghost use Rattle.model.specs.Basic.{between, distinct, same};
 ghost use Rattle.model.specs.Tokens.{isName};
@@ -74,69 +73,41 @@ fn is_name(s: &[u8]) -> bool
     if !characters::starts_name(s[0]) {
         return false;
     }
+    if !keywords::begins(s[0]) {
+        return true;
+    }
     keywords::keyword_at(&s[..n]) == keywords::COUNT
 }
 
 // The four words from place o on hold a name.
 pub fn name_ok(img: &[u8], o: usize) -> bool
-    requires { ⌜ o ≤ 900000000000 ⌝ }
+    requires { ⌜ (o + 4) * 4 ≤ length (now img) ⌝ }
     ensures { λ r. ⌜ r ≡ isName (nameAt (wordAt (now (img .entry))) o) ⌝ }
 {
     let k = o * 4;
     let e = k + bounds::NAME;
-    if e <= img.len() {
-        return is_name(&img[k..e]);
-    }
-    let s = name_field::bytes_at(&img[0..], o);
-    is_name(&s)
-}
-
-// Two names of 16 bytes.
-fn same_words(a: &[u8], b: &[u8]) -> bool
-    requires { ⌜ (length (now a) ≡ 16) × (length (now b) ≡ 16) ⌝ }
-    ensures { λ r. ⌜ r ≡ same (tab (wordAt (now (a .entry))) 4 0) (tab (wordAt (now (b .entry))) 4 0) ⌝ }
-{
-    if whole_word(a, 0) != whole_word(b, 0) {
-        return false;
-    }
-    if whole_word(a, 1) != whole_word(b, 1) {
-        return false;
-    }
-    if whole_word(a, 2) != whole_word(b, 2) {
-        return false;
-    }
-    whole_word(a, 3) == whole_word(b, 3)
-}
-
-// Whether an image of n bytes goes as far as the end of both names.
-fn holds(n: usize, a: usize, b: usize) -> bool
-    ensures { λ r. ⌜ r ≡ leb a n && leb b n ⌝ }
-{
-    if n < a {
-        return false;
-    }
-    b <= n
+    is_name(&img[k..e])
 }
 
 fn same_name(img: &[u8], o: usize, q: usize) -> bool
-    requires { ⌜ (o ≤ 900000000000) × (q ≤ 900000000000) ⌝ }
+    requires { ⌜ ((o + 4) * 4 ≤ length (now img)) × ((q + 4) * 4 ≤ length (now img)) ⌝ }
     ensures { λ r. ⌜ r ≡ same (tab (wordAt (now (img .entry))) 4 o) (tab (wordAt (now (img .entry))) 4 q) ⌝ }
 {
-    let k = o * 4;
-    let l = q * 4;
-    let e = k + bounds::NAME;
-    let f = l + bounds::NAME;
-    if holds(img.len(), e, f) {
-        return same_words(&img[k..e], &img[l..f]);
+    if whole_word(img, o) != whole_word(img, q) {
+        return false;
     }
-    let a = name_field::bytes_at(&img[0..], o);
-    let b = name_field::bytes_at(&img[0..], q);
-    same_words(&a, &b)
+    if whole_word(img, o + 1) != whole_word(img, q + 1) {
+        return false;
+    }
+    if whole_word(img, o + 2) != whole_word(img, q + 2) {
+        return false;
+    }
+    whole_word(img, o + 3) == whole_word(img, q + 3)
 }
 
 // The name at o is none of those of the entries from i on, below n, of the table at q.
 fn absent_ok(img: &[u8], o: usize, q: usize, s: usize, i: usize, n: usize) -> bool
-    requires { ⌜ (o ≤ 900000000000) × ((q ≤ 200000000000) × ((s ≤ 11) × (n ≤ 4294967295))) ⌝ }
+    requires { ⌜ ((o + 4) * 4 ≤ length (now img)) × (4 ≤ s) × ((q + n * s) * 4 ≤ length (now img)) ⌝ }
     ensures { λ r. ⌜ r ≡ absent same (tab (wordAt (now (img .entry))) 4 o)
         (tab (wordsIn (wordAt (now (img .entry))) q s) (n - i) i) ⌝ }
 {
@@ -152,7 +123,7 @@ fn absent_ok(img: &[u8], o: usize, q: usize, s: usize, i: usize, n: usize) -> bo
 
 // The names of a table of n entries of s words are distinct.
 pub fn distinct_ok(img: &[u8], o: usize, s: usize, n: usize) -> bool
-    requires { ⌜ (o ≤ 200000000000) × ((s ≤ 11) × (n ≤ 4294967295)) ⌝ }
+    requires { ⌜ (4 ≤ s) × ((o + n * s) * 4 ≤ length (now img)) ⌝ }
     ensures { λ r. ⌜ r ≡ distinct same (tab (wordsIn (wordAt (now (img .entry))) o s) n 0) ⌝ }
 {
     let mut i: usize = 0;
@@ -167,8 +138,8 @@ pub fn distinct_ok(img: &[u8], o: usize, s: usize, n: usize) -> bool
 
 // No name of the first table stands in the second.
 pub fn apart_ok(img: &[u8], o: usize, s: usize, n: usize, q: usize, t: usize, m: usize) -> bool
-    requires { ⌜ (o ≤ 200000000000) × ((s ≤ 11) × ((n ≤ 4294967295)
-        × ((q ≤ 200000000000) × ((t ≤ 11) × (m ≤ 4294967295))))) ⌝ }
+    requires { ⌜ (4 ≤ s) × ((o + n * s) * 4 ≤ length (now img))
+        × (4 ≤ t) × ((q + m * t) * 4 ≤ length (now img)) ⌝ }
     ensures { λ r. ⌜ r ≡ apart same (tab (wordsIn (wordAt (now (img .entry))) o s) n 0)
         (tab (wordsIn (wordAt (now (img .entry))) q t) m 0) ⌝ }
 {

@@ -24,7 +24,10 @@ use Rattle.layout.proofs.RowLaws.{stood}
 use Rattle.layout.proofs.Parts.{wordFirst, conclusionFirst, rule-words-row, rule-conclusions-row}
 use Rattle.layout.proofs.Sound.{input-terms}
 use Rattle.layout.proofs.Whole.{rules-count, words-count, conclusions-count}
-use Rattle.stored_rules.specs.Walk.{ruleNumber, ruleStored, rowStored, rulesWalk}
+use Rattle.header.specs.declared.Header.{Header}
+use Rattle.header.specs.Header.{Heads}
+use Rattle.stored_rules.specs.declared.Parts.{Parts}
+use Rattle.stored_rules.specs.Walk.{PartsAt, ruleNumber, ruleStored, rowStored, rulesWalk}
 
 some-are : {A : Type 0} (f : ℕ → A) (n i : ℕ) → not (isEmpty (tab f n i)) ≡ leb 1 n
 unfolding tab
@@ -96,38 +99,50 @@ module _ (w : ℕ → ℕ) where
   unfolding ruleAt
   conclusions-words i s k es ek = rw (es, ek) (λ j. conclusions-some i j && all (conclusionOk (decode w)) (ruleAt w i .conclusions))
 
-  abbrev pub rule-tests : ℕ → ℕ → ℕ → List Bool
-  rule-tests i n k =
-      leb n wordLimit
-      ∷ leb k conclusionLimit
-      ∷ between ruleNumberLeast ruleNumberLimit (ruleAt w i .number)
+  abbrev pub rule-tests : ℕ → List Bool
+  rule-tests i =
+      between ruleNumberLeast ruleNumberLimit (ruleAt w i .number)
       ∷ unitOk (ruleAt w i .weight)
       ∷ conclusions-right i
       ∷ condition-right i
       ∷ []
 
-  rule-to : (i : ℕ) → ruleStored w i ≡ true → every (rule-tests i (wordCount w i) (conclusionCount w i)) ≡ true
+  rule-to : (i : ℕ) → ruleStored w i ≡ true → every (rule-tests i) ≡ true
   unfolding ruleStored ruleOk
   rule-to i h =
-      let s = passed _ h in
-      let r = passed _ (s .1 .1 .1 .0) in
-      pass _ (s .0, (s .1 .0, (r .0, (r .1 .1 .1 .1 .0, (and-i _ _ (r .1 .1 .0) (r .1 .1 .1 .0), (and-i _ _ (s .1 .1 .0) (r .1 .0), tt))))))
+      let s = both (conditionExact w i) (ruleOk (decode w) (ruleAt w i)) h in
+      let r = passed _ (s .1) in
+      pass _ (r .0, (r .1 .1 .1 .1 .0, (and-i _ _ (r .1 .1 .0) (r .1 .1 .1 .0), (and-i _ _ (s .0) (r .1 .0), tt))))
 
-  rule-from : (i : ℕ) → every (rule-tests i (wordCount w i) (conclusionCount w i)) ≡ true → ruleStored w i ≡ true
+  rule-from : (i : ℕ) → every (rule-tests i) ≡ true → ruleStored w i ≡ true
   unfolding ruleStored ruleOk
   rule-from i h =
-      let s = passed _ h in
-      let t = s .1 .1 in
+      let t = passed _ h in
       let k = both (not (isEmpty (ruleAt w i .conclusions))) (all (conclusionOk (decode w)) (ruleAt w i .conclusions)) (t .1 .1 .0) in
       let c = both (conditionExact w i) (conditionOk (decode w) (ruleAt w i .condition)) (t .1 .1 .1 .0) in
-      pass _ (s .0, (s .1 .0, (c .0, (pass _ (t .0, (c .1, (k .0, (k .1, (t .1 .0, tt))))), tt))))
+      and-i _ _ (c .0) (pass _ (t .0, (c .1, (k .0, (k .1, (t .1 .0, tt))))))
 
-  pub rule-words : (i n k : ℕ) → n ≡ wordCount w i → k ≡ conclusionCount w i → ruleStored w i ≡ every (rule-tests i n k)
-  rule-words i n k en ek = rw (en, ek) (iff (ruleStored w i) (every (rule-tests i (wordCount w i) (conclusionCount w i))) (rule-to i) (rule-from i))
+  pub rule-words : (i : ℕ) → ruleStored w i ≡ every (rule-tests i)
+  rule-words i = iff (ruleStored w i) (every (rule-tests i)) (rule-to i) (rule-from i)
 
-  pub row-words : (i n k a b : ℕ) → a ≡ wordFirst w i → b ≡ conclusionFirst w i → rowStored w i n k ≡ every (eqb a n ∷ eqb b k ∷ ruleStored w i ∷ [])
+  -- a row by the header and the rule's parts
+  abbrev pub row-tests : Header → Parts → ℕ → ℕ → ℕ → List Bool
+  row-tests h p i n k =
+      eqb (p .«word_first») n
+      ∷ eqb (p .«conclusion_first») k
+      ∷ leb (n + p .words) (h .words)
+      ∷ leb (k + p .conclusions) (h .conclusions)
+      ∷ ruleStored w i
+      ∷ []
+
+  pub row-words : (h : Header) (p : Parts) (i n k : ℕ) → Heads w h → PartsAt w i p → rowStored w i n k ≡ every (row-tests h p i n k)
   unfolding rowStored
-  row-words i n k a b ea eb = rw (ea, eb) refl
+  row-words h p i n k e q = rw (q .word-first, q .conclusion-first, q .words, q .conclusions, e .words, e .conclusions) refl
+
+  -- a row that passes leaves the totals within the header's
+  pub row-within : (i n k : ℕ) → rowStored w i n k ≡ true → (n + wordCount w i ≤ w 7) × (k + conclusionCount w i ≤ w 8)
+  unfolding rowStored
+  row-within i n k h = let s = passed _ h .1 .1 in (leb-true _ _ (s .0), leb-true _ _ (s .1 .0))
 
   module _ (frame : tablesOk w ≡ true) (m : ℕ) (terms : m ≡ inputTermsIn w) where
     condition-words : (i : ℕ) → tab w (wordCount w i) (w 14 + wordFirst w i) ≡ tab (λ k. w (w 14 + k)) (wordCount w i) (wordFirst w i)
@@ -157,32 +172,31 @@ module _ (w : ℕ → ℕ) where
   walk-in (suc r) i n k h =
       let b = both (rowStored w i n k) (rulesWalk w r (suc i) (n + wordCount w i) (k + conclusionCount w i)) h in
       let s = passed _ (b .0) in
-      let c = passed _ (s .1 .1 .0) .1 .1 in
+      let c = both (conditionExact w i) (ruleOk (decode w) (ruleAt w i)) (s .1 .1 .1 .1 .0) in
       let z = walk-in r (suc i) (n + wordCount w i) (k + conclusionCount w i) (b .1) in
       record {
         table = and-i _ _ (row-stands i n k (c .0) (eqb-true _ _ (s .0)) (eqb-true _ _ (s .1 .0))) (ap (rows r (suc i)) (next-are i n k (c .0)) ∙ z .table);
         exact = and-i _ _ (c .0) (z .exact);
-        good = and-i _ _ (c .1 .0) (z .good);
+        good = and-i _ _ (c .1) (z .good);
         words = omega (arith, z .words);
         conclusions′ = omega (arith, z .conclusions′);
       }
 
-  walk-out : w 7 ≤ wordLimit → w 8 ≤ conclusionLimit → (r i n k : ℕ) → Walked r i n k → rulesWalk w r i n k ≡ true
+  walk-out : (r i n k : ℕ) → Walked r i n k → rulesWalk w r i n k ≡ true
   unfolding rulesWalk rowStored ruleStored rowsOk all tab sums
-  walk-out a b zero i n k z = and-i _ _ (eq-eqb n (w 7) (omega (arith, z .words))) (eq-eqb k (w 8) (omega (arith, z .conclusions′)))
-  walk-out a b (suc r) i n k z =
+  walk-out zero i n k z = and-i _ _ (eq-eqb n (w 7) (omega (arith, z .words))) (eq-eqb k (w 8) (omega (arith, z .conclusions′)))
+  walk-out (suc r) i n k z =
       let t = both (same (tab w 6 (w 13 + i * 6)) (ruleRow (n, k) (ruleAt w i))) (rows r (suc i) (ruleNext (n, k) (ruleAt w i))) (z .table) in
       let x = both (conditionExact w i) (all (conditionExact w) (tab (λ j. j) r (suc i))) (z .exact) in
       let g = both (ruleOk (decode w) (ruleAt w i)) (all (ruleOk (decode w)) (tab (ruleAt w) r (suc i))) (z .good) in
-      let few = le-leb (wordCount w i) wordLimit (omega (arith, z .words)) in
-      let few′ = le-leb (conclusionCount w i) conclusionLimit (omega (arith, z .conclusions′)) in
-      let stored : ruleStored w i ≡ true = pass _ (few, (few′, (x .0, (g .0, tt)))) in
+      let within = le-leb (n + wordCount w i) (w 7) (omega (arith, z .words)) in
+      let within′ = le-leb (k + conclusionCount w i) (w 8) (omega (arith, z .conclusions′)) in
       and-i _ _
       (pass _ (
         eq-eqb _ _ (rule-words-row w i (n, k) (t .0) .0),
-        (eq-eqb _ _ (rule-conclusions-row w i (n, k) (t .0) .0), (stored, tt)),
+        (eq-eqb _ _ (rule-conclusions-row w i (n, k) (t .0) .0), (within, (within′, (and-i _ _ (x .0) (g .0), tt)))),
       ))
-      (walk-out a b r (suc i) (n + wordCount w i) (k + conclusionCount w i) (record {
+      (walk-out r (suc i) (n + wordCount w i) (k + conclusionCount w i) (record {
         table = ap (rows r (suc i)) (sym (next-are i n k (x .0))) ∙ t .1;
         exact = x .1;
         good = g .1;
@@ -203,7 +217,7 @@ module _ (w : ℕ → ℕ) where
       let b : leb (w 8) conclusionLimit ≡ true = ap (λ (x : ℕ). leb x conclusionLimit) (k ∙ sym (conclusions-count w (s .0))) ∙ q .1 .1 .1 .1 .0 in
       pass _ (
         ap (between 1 ruleLimit) (sym (rules-count w)) ∙ q .0,
-        (a, (b, (walk-out (leb-true _ _ a) (leb-true _ _ b) (w 6) 0 0 0 z, (ap (distinct eqb) (sym numbers-are) ∙ q .1 .1 .0, tt)))),
+        (a, (b, (walk-out (w 6) 0 0 0 z, (ap (distinct eqb) (sym numbers-are) ∙ q .1 .1 .0, tt)))),
       )
 
   from : every (tests (w 6) (w 7) (w 8)) ≡ true → rulesOk w ≡ true

@@ -6,7 +6,6 @@ use mathlib.Core.List.{[], _∷_}
 use Prim.Native.Nat.{ℕ, zero, suc, _+_, _≤_}
 use lib.Dec.{leb, eqb}
 use Rattle.model.specs.Basic.{every}
-use Rattle.model.specs.Bounds.{wordLimit, conclusionLimit}
 use Rattle.model.specs.WellFormed.{ruleOk}
 use Rattle.model.specs.Image.{rulePlace, ruleAt, decode, WORDS, CONCLUSIONS}
 use Rattle.layout.specs.Tables.{wordCount, conclusionCount, conditionExact}
@@ -24,20 +23,17 @@ pub record PartsAt (w : ℕ → ℕ) (i : ℕ) (p : Parts) : Type 0 where
   pub fits : (p .«word_first» ≤ 4294967295) × (p .words ≤ 4294967295)
       × (p .«conclusion_first» ≤ 4294967295) × (p .conclusions ≤ 4294967295)
 
--- rule i, within the limits of all rules together
+-- rule i
 unfoldable pub ruleStored : (ℕ → ℕ) → ℕ → Bool
-ruleStored w i = every (
-    leb (wordCount w i) wordLimit
-    ∷ leb (conclusionCount w i) conclusionLimit
-    ∷ conditionExact w i
-    ∷ ruleOk (decode w) (ruleAt w i)
-    ∷ [])
+ruleStored w i = conditionExact w i && ruleOk (decode w) (ruleAt w i)
 
--- rule i after n condition words and k conclusions
+-- rule i after n condition words and k conclusions, its own within the totals of the header
 unfoldable pub rowStored : (ℕ → ℕ) → ℕ → ℕ → ℕ → Bool
 rowStored w i n k = every (
     eqb (w (rulePlace w i + 1)) n
     ∷ eqb (w (rulePlace w i + 3)) k
+    ∷ leb (n + wordCount w i) (w WORDS)
+    ∷ leb (k + conclusionCount w i) (w CONCLUSIONS)
     ∷ ruleStored w i
     ∷ [])
 

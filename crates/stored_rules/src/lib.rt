@@ -4,10 +4,10 @@ ghost use mathlib.Core.Bool.{true, false, _&&_, not};
 ghost use Prim.Native.Nat.{_+_, _-_, _≤_, _<_};
 ghost use lib.Dec.{leb, eqb};
 ghost use Rattle.model.specs.Basic.{all, between, distinct};
-ghost use Rattle.model.specs.Bounds.{ruleLimit, ruleNumberLeast, ruleNumberLimit};
+ghost use Rattle.model.specs.Bounds.{ruleNumberLeast, ruleNumberLimit};
 ghost use Rattle.model.specs.WellFormed.{unitOk, conclusionOk};
 ghost use Rattle.model.specs.Image.{wordAt, tab, conclusionAt, ruleAt, decode};
-ghost use Rattle.header.specs.Header.{Heads};
+ghost use Rattle.header.specs.Header.{Heads, Holds};
 ghost use Rattle.layout.specs.Tables.{inputTermsIn};
 ghost use Rattle.layout.specs.Groups.{tablesOk, rulesOk};
 ghost use Rattle.stored_rules.specs.Walk.{PartsAt, ruleNumber, ruleStored, rowStored, rulesWalk};
@@ -15,7 +15,7 @@ use header::Header;
 use header::conclusion_row;
 use header::output_row;
 use header::rule_row;
-use words::word;
+use words::whole_word;
 
 // Remainders by which rule numbers are told apart.
 const REMAINDERS: usize = 256;
@@ -29,48 +29,49 @@ struct Parts {
 }
 
 fn number_ok(img: &[u8], h: Header, i: usize) -> bool
-    requires { ⌜ Heads (wordAt (now img)) h × (i ≤ ruleLimit) ⌝ }
+    requires { ⌜ Heads (wordAt (now img)) h × Holds (now img) h × (i < h .rules) ⌝ }
     ensures { λ r. ⌜ r ≡ between ruleNumberLeast ruleNumberLimit (ruleAt (wordAt (now (img .entry))) i .number) ⌝ }
 {
     bounds::within(
         bounds::LEAST_RULE_NUMBER,
         bounds::RULE_NUMBER,
-        word(img, rule_row(h, i)),
+        whole_word(img, rule_row(h, i)),
     )
 }
 
 fn weight_ok(img: &[u8], h: Header, i: usize) -> bool
-    requires { ⌜ Heads (wordAt (now img)) h × (i ≤ ruleLimit) ⌝ }
+    requires { ⌜ Heads (wordAt (now img)) h × Holds (now img) h × (i < h .rules) ⌝ }
     ensures { λ r. ⌜ r ≡ unitOk (ruleAt (wordAt (now (img .entry))) i .weight) ⌝ }
 {
-    let weight = word(img, rule_row(h, i) + header::RULE_WEIGHT);
+    let weight = whole_word(img, rule_row(h, i) + header::RULE_WEIGHT);
     degrees::is_unit(weight as u32)
 }
 
 // Conclusion i of all.
 fn conclusion_ok(img: &[u8], h: Header, i: usize) -> bool
-    requires { ⌜ (tablesOk (wordAt (now img)) ≡ true) × Heads (wordAt (now img)) h × (i ≤ 10000000000) ⌝ }
+    requires { ⌜ (tablesOk (wordAt (now img)) ≡ true) × Heads (wordAt (now img)) h
+        × Holds (now img) h × (i < h .conclusions) ⌝ }
     ensures { λ r. ⌜ r
         ≡ conclusionOk (decode (wordAt (now (img .entry)))) (conclusionAt (wordAt (now (img .entry))) i) ⌝ }
 {
     let o = conclusion_row(h, i);
-    let j = word(img, o);
+    let j = whole_word(img, o);
     if h.outputs <= j {
         return false;
     }
-    let t = word(img, o + header::CONCLUSION_TERM);
+    let t = whole_word(img, o + header::CONCLUSION_TERM);
     let v = output_row(h, j);
-    let first = word(img, v + header::OUTPUT_FIRST);
+    let first = whole_word(img, v + header::OUTPUT_FIRST);
     if t < first {
         return false;
     }
-    t < first + word(img, v + header::OUTPUT_TERMS)
+    t < first + whole_word(img, v + header::OUTPUT_TERMS)
 }
 
 // The k conclusions from the s-th on: there are some, and each is right.
 fn conclusions_ok(img: &[u8], h: Header, s: usize, k: usize) -> bool
     requires { ⌜ (tablesOk (wordAt (now img)) ≡ true) × Heads (wordAt (now img)) h
-        × (s ≤ 4294967295) × (k ≤ 4294967295) ⌝ }
+        × Holds (now img) h × (s + k ≤ h .conclusions) ⌝ }
     ensures { λ r. ⌜ r ≡ leb 1 k && all (conclusionOk (decode (wordAt (now (img .entry)))))
         (tab (conclusionAt (wordAt (now (img .entry)))) k s) ⌝ }
 {
@@ -86,31 +87,26 @@ fn conclusions_ok(img: &[u8], h: Header, s: usize, k: usize) -> bool
 }
 
 fn parts_of(img: &[u8], h: Header, i: usize) -> Parts
-    requires { ⌜ Heads (wordAt (now img)) h × (i ≤ ruleLimit) ⌝ }
+    requires { ⌜ Heads (wordAt (now img)) h × Holds (now img) h × (i < h .rules) ⌝ }
     ensures { λ r. ⌜ PartsAt (wordAt (now (img .entry))) i r ⌝ }
 {
     let o = rule_row(h, i);
     Parts {
-        word_first: word(img, o + header::RULE_WORD_FIRST),
-        words: word(img, o + header::RULE_WORDS),
-        conclusion_first: word(img, o + header::RULE_CONCLUSION_FIRST),
-        conclusions: word(img, o + header::RULE_CONCLUSIONS),
+        word_first: whole_word(img, o + header::RULE_WORD_FIRST),
+        words: whole_word(img, o + header::RULE_WORDS),
+        conclusion_first: whole_word(img, o + header::RULE_CONCLUSION_FIRST),
+        conclusions: whole_word(img, o + header::RULE_CONCLUSIONS),
     }
 }
 
-// Rule i. The limits of all rules together bound the loops over one.
+// Rule i, whose condition words and conclusions end within the tables.
 fn rule_ok(img: &[u8], h: Header, m: usize, i: usize, p: Parts) -> bool
     requires { ⌜ (tablesOk (wordAt (now img)) ≡ true) × Heads (wordAt (now img)) h
-        × (m ≡ inputTermsIn (wordAt (now img))) × (m ≤ 4294967295) × (i ≤ ruleLimit)
-        × PartsAt (wordAt (now img)) i p ⌝ }
+        × (m ≡ inputTermsIn (wordAt (now img))) × (m ≤ 4294967295) × (i < h .rules)
+        × PartsAt (wordAt (now img)) i p × Holds (now img) h
+        × (p .«word_first» + p .words ≤ h .words) × (p .«conclusion_first» + p .conclusions ≤ h .conclusions) ⌝ }
     ensures { λ r. ⌜ r ≡ ruleStored (wordAt (now (img .entry))) i ⌝ }
 {
-    if bounds::WORDS < p.words {
-        return false;
-    }
-    if bounds::CONCLUSIONS < p.conclusions {
-        return false;
-    }
     if !number_ok(img, h, i) {
         return false;
     }
@@ -123,11 +119,11 @@ fn rule_ok(img: &[u8], h: Header, m: usize, i: usize, p: Parts) -> bool
     stored_conditions::stored_condition(img, h.word_table + p.word_first, p.words, m)
 }
 
-// n condition words and k conclusions stand before the rule's.
+// n condition words and k conclusions stand before the rule's, which end within the totals of the header.
 fn row_ok(img: &[u8], h: Header, m: usize, i: usize, p: Parts, n: usize, k: usize) -> bool
     requires { ⌜ (tablesOk (wordAt (now img)) ≡ true) × Heads (wordAt (now img)) h
-        × (m ≡ inputTermsIn (wordAt (now img))) × (m ≤ 4294967295) × (i ≤ ruleLimit)
-        × PartsAt (wordAt (now img)) i p ⌝ }
+        × (m ≡ inputTermsIn (wordAt (now img))) × (m ≤ 4294967295) × (i < h .rules)
+        × PartsAt (wordAt (now img)) i p × Holds (now img) h ⌝ }
     ensures { λ r. ⌜ r ≡ rowStored (wordAt (now (img .entry))) i n k ⌝ }
 {
     if p.word_first != n {
@@ -136,13 +132,19 @@ fn row_ok(img: &[u8], h: Header, m: usize, i: usize, p: Parts, n: usize, k: usiz
     if p.conclusion_first != k {
         return false;
     }
+    if h.words < n + p.words {
+        return false;
+    }
+    if h.conclusions < k + p.conclusions {
+        return false;
+    }
     rule_ok(img, h, m, i, p)
 }
 
 // All rules, whose condition words and conclusions add up to the header's totals.
 fn rows_ok(img: &[u8], h: Header, m: usize) -> bool
     requires { ⌜ (tablesOk (wordAt (now img)) ≡ true) × Heads (wordAt (now img)) h
-        × (m ≡ inputTermsIn (wordAt (now img))) × (m ≤ 4294967295) × (h .rules ≤ ruleLimit) ⌝ }
+        × (m ≡ inputTermsIn (wordAt (now img))) × (m ≤ 4294967295) × Holds (now img) h ⌝ }
     ensures { λ r. ⌜ r ≡ rulesWalk (wordAt (now (img .entry))) (h .rules) 0 0 0 ⌝ }
 {
     let e = h.rules;
@@ -166,7 +168,7 @@ fn rows_ok(img: &[u8], h: Header, m: usize) -> bool
 
 // Whether no later rule has this number of rule i; it is known where none of theirs leaves its remainder.
 fn differs(img: &[u8], h: Header, i: usize, number: usize, met: bool) -> bool
-    requires { ⌜ Heads (wordAt (now img)) h × (h .rules ≤ ruleLimit) × (i < h .rules)
+    requires { ⌜ Heads (wordAt (now img)) h × Holds (now img) h × (i < h .rules)
         × (met ≡ false → all (λ n. not (eqb number n))
         (tab (ruleNumber (wordAt (now img))) (h .rules - (i + 1)) (i + 1)) ≡ true) ⌝ }
     ensures { λ r. ⌜ r ≡ all (λ n. not (eqb number n))
@@ -178,7 +180,7 @@ fn differs(img: &[u8], h: Header, i: usize, number: usize, met: bool) -> bool
     let e = h.rules;
     let mut j = i + 1;
     while j < e {
-        if number == word(img, rule_row(h, j)) {
+        if number == whole_word(img, rule_row(h, j)) {
             return false;
         }
         j += 1;
@@ -188,14 +190,14 @@ fn differs(img: &[u8], h: Header, i: usize, number: usize, met: bool) -> bool
 
 // From the last rule on: only numbers that leave the same remainder are compared.
 fn numbers_distinct(img: &[u8], h: Header) -> bool
-    requires { ⌜ Heads (wordAt (now img)) h × (h .rules ≤ ruleLimit) ⌝ }
+    requires { ⌜ Heads (wordAt (now img)) h × Holds (now img) h ⌝ }
     ensures { λ r. ⌜ r ≡ distinct eqb (tab (ruleNumber (wordAt (now (img .entry)))) (h .rules) 0) ⌝ }
 {
     let mut met = [false; REMAINDERS];
     let mut i = h.rules;
     while 0 < i {
         i -= 1;
-        let number = word(img, rule_row(h, i));
+        let number = whole_word(img, rule_row(h, i));
         let r = number % REMAINDERS;
         if !differs(img, h, i, number, met[r]) {
             return false;
@@ -208,7 +210,7 @@ fn numbers_distinct(img: &[u8], h: Header) -> bool
 // The tables of rules, condition words and conclusions, where there are m input terms.
 pub fn rules_ok(img: &[u8], h: Header, m: usize) -> bool
     requires { ⌜ (tablesOk (wordAt (now img)) ≡ true) × Heads (wordAt (now img)) h
-        × (m ≡ inputTermsIn (wordAt (now img))) × (m ≤ 4294967295) ⌝ }
+        × (m ≡ inputTermsIn (wordAt (now img))) × (m ≤ 4294967295) × Holds (now img) h ⌝ }
     ensures { λ r. ⌜ r ≡ rulesOk (wordAt (now (img .entry))) ⌝ }
 {
     if !bounds::within(1, bounds::RULES, h.rules) {

@@ -7,7 +7,7 @@ use native.Mathlib.Omega.{arith}
 use lib.Dec.{leb, ltb, eqb}
 use lib.ListN.{length, take, getD}
 use borrow.Author.Tests.{eq-eqb, ne-eqb, eqb-true, ltb-true, ltb-false}
-use Rattle.model.specs.Basic.{if_then_else_, run, same, gather}
+use Rattle.model.specs.Basic.{if_then_else_, run, gather}
 use Rattle.model.specs.Image.{wordAt, wordBytes, bytesOf, nameWords, nameAt, tab}
 use Rattle.laws.proofs.Tests.{iff, clash}
 use Rattle.words.proofs.Bytes.{words-at}
@@ -234,8 +234,3 @@ module _ (w : ℕ → ℕ) (o : ℕ) where
       let fz : z ≡ w (suc (suc o)) = ez ∙ ap w e2 in
       let fu : u ≡ w (suc (suc (suc o))) = eu ∙ ap w e3 in
       rw (ec, eb, ea) ((λ j. leb (padRun 0 (bytesOf (ex j ∷ fy j ∷ fz j ∷ fu j ∷ []))) 1) ∙ sym name-spelt)
-
--- only the four words matter
-pub exact-words : (v w : ℕ → ℕ) (o q : ℕ) → tab v 4 o ≡ tab w 4 q → nameExact v o ≡ nameExact w q
-unfolding nameExact nameAt
-exact-words v w o q e = ap (λ (l : List ℕ). same l (nameWords (trim (bytesOf l)))) e

@@ -5,14 +5,13 @@ ghost use Prim.Native.Nat.{_+_, _*_, _≤_};
 ghost use lib.Dec.{ltb, eqb};
 ghost use lib.ListN.{length};
 ghost use Rattle.model.specs.Basic.{if_then_else_, every};
-ghost use Rattle.model.specs.Image.{wordAt, wordBytes};
+ghost use Rattle.model.specs.Image.{wordAt, wordBytes, headerSize};
 ghost use Rattle.layout.specs.Tables.{sums, termCount, inputTermsIn, outputTermsIn, inputRows, nameExact, headerOk};
 ghost use Rattle.layout.specs.Groups.{tablesOk};
-ghost use Rattle.header.specs.Header.{Heads};
+ghost use Rattle.header.specs.Header.{Heads, Holds};
 ghost use Rattle.stored_tables.specs.Tests.{padRun, rangeTest, defaultTest, inputTest, outputTest, termTest, singletonTest, offsetTests, codeTests, outputRowsFrom, termRowsTo, outputTermRowsFrom, outputPointsFrom, termTests};
 use header::Header;
 use words::whole_word;
-use words::word;
 
 // The terms of inputs stand before those of outputs.
 pub struct Laid {
@@ -67,28 +66,15 @@ fn pad_word(m: usize, x: usize) -> usize
     2
 }
 
-// A name of 16 bytes, zero padded.
-fn is_padded(s: &[u8]) -> bool
-    requires { ⌜ length (now s) ≡ 16 ⌝ }
-    ensures { λ r. ⌜ r ≡ nameExact (wordAt (now (s .entry))) 0 ⌝ }
-{
-    let a = pad_word(0, whole_word(s, 0));
-    let b = pad_word(a, whole_word(s, 1));
-    let c = pad_word(b, whole_word(s, 2));
-    pad_word(c, whole_word(s, 3)) <= 1
-}
-
+// A name of 16 bytes, zero padded, that starts at o.
 fn name_exact(img: &[u8], o: usize) -> bool
-    requires { ⌜ o ≤ 900000000000 ⌝ }
+    requires { ⌜ (o + 4) * 4 ≤ length (now img) ⌝ }
     ensures { λ r. ⌜ r ≡ nameExact (wordAt (now (img .entry))) o ⌝ }
 {
-    let k = o * 4;
-    let e = k + bounds::NAME;
-    if e <= img.len() {
-        return is_padded(&img[k..e]);
-    }
-    let s = name_field::bytes_at(&img[0..], o);
-    is_padded(&s)
+    let a = pad_word(0, whole_word(img, o));
+    let b = pad_word(a, whole_word(img, o + 1));
+    let c = pad_word(b, whole_word(img, o + 2));
+    pad_word(c, whole_word(img, o + 3)) <= 1
 }
 
 // A table that starts at a, of n rows of s words, ends at e.
@@ -100,10 +86,10 @@ fn follows(e: usize, a: usize, n: usize, s: usize) -> bool
 }
 
 fn offsets_ok(img: &[u8], h: Header) -> bool
-    requires { ⌜ Heads (wordAt (now img)) h ⌝ }
+    requires { ⌜ Heads (wordAt (now img)) h × (headerSize * 4 ≤ length (now img)) ⌝ }
     ensures { λ r. ⌜ r ≡ every (offsetTests (wordAt (now (img .entry))) h) ⌝ }
 {
-    if word(img, header::LAYOUT) != header::layout_word() {
+    if whole_word(img, header::LAYOUT) != header::layout_word() {
         return false;
     }
     if h.input_table != header::SIZE {
@@ -137,7 +123,7 @@ fn offsets_ok(img: &[u8], h: Header) -> bool
     ) {
         return false;
     }
-    let total = word(img, header::TOTAL);
+    let total = whole_word(img, header::TOTAL);
     follows(
         total,
         h.conclusion_table,
@@ -147,18 +133,19 @@ fn offsets_ok(img: &[u8], h: Header) -> bool
 }
 
 fn codes_ok(img: &[u8]) -> bool
+    requires { ⌜ headerSize * 4 ≤ length (now img) ⌝ }
     ensures { λ r. ⌜ r ≡ every (codeTests (wordAt (now (img .entry)))) ⌝ }
 {
-    if header::LAST_PAIR < word(img, header::PAIR) {
+    if header::LAST_PAIR < whole_word(img, header::PAIR) {
         return false;
     }
-    if header::LAST_ACCU < word(img, header::ACCU) {
+    if header::LAST_ACCU < whole_word(img, header::ACCU) {
         return false;
     }
-    if header::LAST_ACT < word(img, header::ACT) {
+    if header::LAST_ACT < whole_word(img, header::ACT) {
         return false;
     }
-    if word(img, header::SPARE) != 0 {
+    if whole_word(img, header::SPARE) != 0 {
         return false;
     }
     if !name_exact(img, header::BLOCK_NAME) {
@@ -171,7 +158,8 @@ fn codes_ok(img: &[u8]) -> bool
 }
 
 fn header_ok(img: &[u8], h: Header) -> bool
-    requires { ⌜ Heads (wordAt (now img)) h ⌝ }
+    requires { ⌜ Heads (wordAt (now img)) h × (length (now img) ≡ wordAt (now img) 1 * 4)
+        × (headerSize * 4 ≤ length (now img)) ⌝ }
     ensures { λ r. ⌜ r ≡ headerOk (wordAt (now (img .entry))) ⌝ }
 {
     if !offsets_ok(img, h) {
@@ -182,55 +170,55 @@ fn header_ok(img: &[u8], h: Header) -> bool
 
 // RANGE of the output whose row starts at o is given, or its words are 0.
 fn range_ok(img: &[u8], o: usize) -> bool
-    requires { ⌜ o ≤ 900000000000 ⌝ }
+    requires { ⌜ (o + 11) * 4 ≤ length (now img) ⌝ }
     ensures { λ r. ⌜ r ≡ rangeTest (wordAt (now (img .entry))) o ⌝ }
 {
-    let flag = word(img, o + header::OUTPUT_RANGE);
+    let flag = whole_word(img, o + header::OUTPUT_RANGE);
     if flag == 0 {
-        if word(img, o + header::OUTPUT_LEAST) != 0 {
+        if whole_word(img, o + header::OUTPUT_LEAST) != 0 {
             return false;
         }
-        return word(img, o + header::OUTPUT_MOST) == 0;
+        return whole_word(img, o + header::OUTPUT_MOST) == 0;
     }
     flag == header::GIVEN
 }
 
 // DEFAULT of that output is a value, or its word is 0.
 fn default_ok(img: &[u8], o: usize) -> bool
-    requires { ⌜ o ≤ 900000000000 ⌝ }
+    requires { ⌜ (o + 11) * 4 ≤ length (now img) ⌝ }
     ensures { λ r. ⌜ r ≡ defaultTest (wordAt (now (img .entry))) o ⌝ }
 {
-    let kind = word(img, o + header::OUTPUT_DEFAULT_KIND);
+    let kind = whole_word(img, o + header::OUTPUT_DEFAULT_KIND);
     if kind == 0 {
-        return word(img, o + header::OUTPUT_DEFAULT) == 0;
+        return whole_word(img, o + header::OUTPUT_DEFAULT) == 0;
     }
     kind == header::GIVEN
 }
 
 fn input_ok(img: &[u8], o: usize, p: usize) -> bool
-    requires { ⌜ o ≤ 800000000000 ⌝ }
+    requires { ⌜ (o + 7) * 4 ≤ length (now img) ⌝ }
     ensures { λ r. ⌜ r ≡ inputTest (wordAt (now (img .entry))) o p ⌝ }
 {
     if !name_exact(img, o) {
         return false;
     }
-    if header::LAST_TYPE < word(img, o + header::INPUT_TYPE) {
+    if header::LAST_TYPE < whole_word(img, o + header::INPUT_TYPE) {
         return false;
     }
-    if word(img, o + header::INPUT_FIRST) != p {
+    if whole_word(img, o + header::INPUT_FIRST) != p {
         return false;
     }
     true
 }
 
 fn output_ok(img: &[u8], o: usize, p: usize) -> bool
-    requires { ⌜ o ≤ 800000000000 ⌝ }
+    requires { ⌜ (o + 11) * 4 ≤ length (now img) ⌝ }
     ensures { λ r. ⌜ r ≡ outputTest (wordAt (now (img .entry))) o p ⌝ }
 {
     if !name_exact(img, o) {
         return false;
     }
-    if word(img, o + header::OUTPUT_FIRST) != p {
+    if whole_word(img, o + header::OUTPUT_FIRST) != p {
         return false;
     }
     if !range_ok(img, o) {
@@ -243,13 +231,13 @@ fn output_ok(img: &[u8], o: usize, p: usize) -> bool
 }
 
 fn term_ok(img: &[u8], o: usize, p: usize) -> bool
-    requires { ⌜ o ≤ 800000000000 ⌝ }
+    requires { ⌜ (o + 6) * 4 ≤ length (now img) ⌝ }
     ensures { λ r. ⌜ r ≡ termTest (wordAt (now (img .entry))) o p ⌝ }
 {
     if !name_exact(img, o) {
         return false;
     }
-    if word(img, o + header::TERM_FIRST) != p {
+    if whole_word(img, o + header::TERM_FIRST) != p {
         return false;
     }
     true
@@ -257,17 +245,17 @@ fn term_ok(img: &[u8], o: usize, p: usize) -> bool
 
 // A term of an output has one point.
 fn singleton_ok(img: &[u8], o: usize, p: usize) -> bool
-    requires { ⌜ o ≤ 800000000000 ⌝ }
+    requires { ⌜ (o + 6) * 4 ≤ length (now img) ⌝ }
     ensures { λ r. ⌜ r ≡ singletonTest (wordAt (now (img .entry))) o p ⌝ }
 {
     if !term_ok(img, o, p) {
         return false;
     }
-    word(img, o + header::TERM_POINTS) == 1
+    whole_word(img, o + header::TERM_POINTS) == 1
 }
 
 fn input_rows(img: &[u8], h: Header) -> Rows
-    requires { ⌜ Heads (wordAt (now img)) h ⌝ }
+    requires { ⌜ Heads (wordAt (now img)) h × Holds (now img) h ⌝ }
     ensures { λ r. ⌜ (r .ok ≡ inputRows (wordAt (now (img .entry))))
         × (r .ok ≡ true → r .next ≡ inputTermsIn (wordAt (now (img .entry)))) ⌝ }
 {
@@ -278,14 +266,14 @@ fn input_rows(img: &[u8], h: Header) -> Rows
         if !input_ok(img, o, p) {
             return Rows { ok: false, next: p };
         }
-        p += word(img, o + header::INPUT_TERMS);
+        p += whole_word(img, o + header::INPUT_TERMS);
         i += 1;
     }
     Rows { ok: true, next: p }
 }
 
 fn output_rows(img: &[u8], h: Header, first: usize) -> Rows
-    requires { ⌜ Heads (wordAt (now img)) h × (first ≤ 4294967295) ⌝ }
+    requires { ⌜ Heads (wordAt (now img)) h × Holds (now img) h × (first ≤ 4294967295) ⌝ }
     ensures { λ r. ⌜ (r .ok ≡ outputRowsFrom (wordAt (now (img .entry))) first)
         × (r .ok ≡ true → r .next ≡ first + outputTermsIn (wordAt (now (img .entry)))) ⌝ }
 {
@@ -296,7 +284,7 @@ fn output_rows(img: &[u8], h: Header, first: usize) -> Rows
         if !output_ok(img, o, p) {
             return Rows { ok: false, next: p };
         }
-        p += word(img, o + header::OUTPUT_TERMS);
+        p += whole_word(img, o + header::OUTPUT_TERMS);
         i += 1;
     }
     Rows { ok: true, next: p }
@@ -304,7 +292,7 @@ fn output_rows(img: &[u8], h: Header, first: usize) -> Rows
 
 // The first n terms, which are those of the inputs.
 fn term_rows(img: &[u8], h: Header, n: usize) -> Rows
-    requires { ⌜ Heads (wordAt (now img)) h × (n ≤ 4294967295) ⌝ }
+    requires { ⌜ Heads (wordAt (now img)) h × Holds (now img) h × (n ≤ h .terms) ⌝ }
     ensures { λ r. ⌜ (r .ok ≡ termRowsTo (wordAt (now (img .entry))) n)
         × (r .ok ≡ true → r .next ≡ sums (termCount (wordAt (now (img .entry)))) n 0) ⌝ }
     ensures small { λ r. ⌜ r .next ≤ 18446744065119617025 ⌝ }
@@ -316,7 +304,7 @@ fn term_rows(img: &[u8], h: Header, n: usize) -> Rows
         if !term_ok(img, o, p) {
             return Rows { ok: false, next: p };
         }
-        p += word(img, o + header::TERM_POINTS);
+        p += whole_word(img, o + header::TERM_POINTS);
         i += 1;
     }
     Rows { ok: true, next: p }
@@ -324,7 +312,7 @@ fn term_rows(img: &[u8], h: Header, n: usize) -> Rows
 
 // n terms from s on, of one point each, the first of which is point q.
 fn singleton_rows(img: &[u8], h: Header, s: usize, n: usize, q: usize) -> bool
-    requires { ⌜ Heads (wordAt (now img)) h × ((s ≤ 4294967295) × ((n ≤ 4294967295) × (q ≤ 4294967295))) ⌝ }
+    requires { ⌜ Heads (wordAt (now img)) h × Holds (now img) h × (s + n ≤ h .terms) × (q ≤ 4294967295) ⌝ }
     ensures { λ r. ⌜ r ≡ outputTermRowsFrom (wordAt (now (img .entry))) n s q ⌝ }
 {
     let e = s + n;
@@ -342,13 +330,13 @@ fn singleton_rows(img: &[u8], h: Header, s: usize, n: usize, q: usize) -> bool
 
 // The n points from s on are of degree 1.
 fn singleton_points(img: &[u8], h: Header, s: usize, n: usize) -> bool
-    requires { ⌜ Heads (wordAt (now img)) h × ((s ≤ 4294967295) × (n ≤ 4294967295)) ⌝ }
+    requires { ⌜ Heads (wordAt (now img)) h × Holds (now img) h × (s + n ≤ h .points) ⌝ }
     ensures { λ r. ⌜ r ≡ outputPointsFrom (wordAt (now (img .entry))) n s ⌝ }
 {
     let e = s + n;
     let mut i = s;
     while i < e {
-        if word(img, header::point_row(h, i) + header::POINT_DEGREE) != bounds::M {
+        if whole_word(img, header::point_row(h, i) + header::POINT_DEGREE) != bounds::M {
             return false;
         }
         i += 1;
@@ -358,7 +346,7 @@ fn singleton_points(img: &[u8], h: Header, s: usize, n: usize) -> bool
 
 // The terms and points of k input terms and n output terms.
 fn terms_ok(img: &[u8], h: Header, k: usize, n: usize) -> bool
-    requires { ⌜ Heads (wordAt (now img)) h × ((k ≤ 4294967295) × (n ≤ 4294967295)) ⌝ }
+    requires { ⌜ Heads (wordAt (now img)) h × Holds (now img) h × (k + n ≤ h .terms) ⌝ }
     ensures { λ r. ⌜ r ≡ every (termTests (wordAt (now (img .entry))) k n) ⌝ }
 {
     let t = term_rows(img, h, k);
@@ -388,7 +376,8 @@ fn refused() -> Laid
 }
 
 pub fn tables_ok(img: &[u8], h: Header) -> Laid
-    requires { ⌜ Heads (wordAt (now img)) h ⌝ }
+    requires { ⌜ Heads (wordAt (now img)) h × (length (now img) ≡ wordAt (now img) 1 * 4)
+        × (headerSize * 4 ≤ length (now img)) ⌝ }
     ensures { λ r. ⌜ (r .ok ≡ tablesOk (wordAt (now (img .entry))))
         × (r .ok ≡ true → r .«input_terms» ≡ inputTermsIn (wordAt (now (img .entry)))) ⌝ }
     ensures small { λ r. ⌜ (r .«input_terms» ≤ 4294967295) × (r .ok ≡ false → r .«input_terms» ≡ 0) ⌝ }

@@ -12,12 +12,12 @@ use Rattle.model.specs.Image.{nameWords, nameAt, tab, termAt, singletonAt, inpu
 use Rattle.laws.proofs.Tests.{both, passed}
 use Rattle.laws.proofs.Places.{at-cut}
 use Rattle.layout.specs.Rows.{rowsOk}
-use Rattle.layout.specs.Tables.{inputRow, inputNext, outputRow, outputNext, termRow, termNext, sums, outputTermAt, inputCount, outputCount, outputFirstAt, inputTermsIn, outputTermsIn, inputPointsIn, inputRows, outputRows, inputTermRows, outputTermRows, nameExact}
+use Rattle.layout.specs.Tables.{inputRow, inputNext, outputRow, outputNext, termRow, termNext, outputTermAt, inputCount, outputCount, outputFirstAt, inputTermsIn, outputTermsIn, inputPointsIn, inputRows, outputRows, inputTermRows, outputTermRows, nameExact}
 use Rattle.stored_names.proofs.Tables.{Exact}
 use Rattle.layout.specs.Groups.{tablesOk}
 use Rattle.layout.proofs.RowLaws.{stands, stood}
-use Rattle.layout.proofs.TableLaws.{Runs, runs-from}
-use Rattle.layout.proofs.Parts.{outputFirsts-run, inputFirst, input-row}
+use Rattle.layout.proofs.Parts.{inputFirsts-run, outputFirsts-run, inputFirst}
+use Rattle.layout.proofs.Within.{run-ends}
 
 -- P holds of n numbers from i on
 abbrev pub Span : (ℕ → Type 0) → ℕ → ℕ → Type 0
@@ -48,14 +48,6 @@ exact-rows enc next dec w o s f (suc n) i σ h =
     let c = both (same (tab w s (o + i * s)) (enc σ (dec i))) (rowsOk enc next dec w o s n (suc i) (next σ (dec i))) h in
     span (λ k. nameExact w (o + k * s) ≡ true) n i (f i σ (c .0)) (exact-rows enc next dec w o s f n (suc i) (next σ (dec i)) (c .1))
 
--- rows with running firsts hold what lies between the first and the last total
-runs-within : (f c : ℕ → ℕ) (n i p : ℕ) → Runs f c n i p → Span (λ k. (p ≤ f k) × (f k + c k ≤ p + sums c n i)) n i
-unfolding Runs sums
-runs-within f c zero i p h = no-span _ i
-runs-within f c (suc n) i p h =
-    span (λ k. (p ≤ f k) × (f k + c k ≤ p + (c i + sums c n (suc i)))) n i (omega (arith, h .0), omega (arith, h .0))
-    (λ k a b. let r = runs-within f c n (suc i) (p + c i) (h .1) k a b in (omega (arith, r .0), omega (arith, r .1)))
-
 module _ (w : ℕ → ℕ) where
   inputs-exact : inputRows w ≡ true → Exact w (w 9) 7 (w 2) 0
   unfolding inputRows inputAt
@@ -73,10 +65,6 @@ module _ (w : ℕ → ℕ) where
   unfolding outputTermRows singletonAt
   output-terms-exact h =
       exact-rows termRow termNext (outputTermAt w) w (w 11) 6 (λ i σ e. exact-row w (w 11 + i * 6) 6 _ e) (outputTermsIn w) (inputTermsIn w) (inputPointsIn w) h
-
-  inputs-run : inputRows w ≡ true → Runs (inputFirst w) (inputCount w) (w 2) 0 0
-  unfolding inputRows
-  inputs-run h = runs-from inputRow inputNext (inputAt w) w (w 9) 7 (λ n. n) (inputFirst w) (inputCount w) (λ i n e. input-row w i n e) (w 2) 0 0 h
 
   -- all names are exact
   pub record Names : Type 0 where
@@ -97,9 +85,9 @@ module _ (w : ℕ → ℕ) where
         inputs = inputs-exact ir;
         outputs = outputs-exact or;
         inputTerms = λ i l k a b.
-            let q = runs-within (inputFirst w) (inputCount w) (w 2) 0 0 (inputs-run ir) i (omega arith) (omega arith) in
+            let q = run-ends (inputFirst w) (inputCount w) (w 2) 0 0 i (omega arith) (omega arith) (inputFirsts-run w ir) in
             ti k (omega arith) (omega (arith, q .1));
         outputTerms = λ i l k a b.
-            let q = runs-within (outputFirstAt w) (outputCount w) (w 3) 0 (inputTermsIn w) (outputFirsts-run w or) i (omega arith) (omega arith) in
+            let q = run-ends (outputFirstAt w) (outputCount w) (w 3) 0 (inputTermsIn w) i (omega arith) (omega arith) (outputFirsts-run w or) in
             to k (omega (arith, q .0)) (omega (arith, q .1));
       }

@@ -1,3 +1,4 @@
+pub mod Named
 pub mod Rising
 pub mod Exact
 pub mod Spelt

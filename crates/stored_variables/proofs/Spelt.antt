@@ -13,7 +13,7 @@ use Rattle.model.specs.Bounds.{termLimit, pointLeast, pointLimit}
 use Rattle.model.specs.Block.{Range, inRange}
 use Rattle.model.specs.Tokens.{isName, inCrisp}
 use Rattle.model.specs.WellFormed.{unitOk, pointOk, rising, termOk, rangeOk, figureOk, defaultOk, singletonOk}
-use Rattle.model.specs.Image.{crispOf, tab, inputPlace, outputPlace, termPlace, pointPlace, nameAt, pointAt, termAt, singletonAt}
+use Rattle.model.specs.Image.{crispOf, tab, inputPlace, outputPlace, termPlace, nameAt, pointAt, termAt, singletonAt}
 use Rattle.crisp.specs.Crisp.{rangeGiven}
 use Rattle.laws.proofs.Places.{length-tab}
 use Rattle.stored_names.specs.Stored.{wordsIn, apart}
@@ -24,14 +24,9 @@ given true a b = refl
 given false a b = refl
 
 module _ (w : ℕ → ℕ) where
-  pub position : (i o : ℕ) (x : ℤ) → o ≡ pointPlace w i → x ≡ crispOf (w o) → x ≡ pointAt w i .at
-  unfolding pointAt
-  position i o x eo ex = ex ∙ ap (λ (k : ℕ). crispOf (w k)) eo
-
-  pub point-spelt : (i o : ℕ) (x : ℤ) (d : ℕ) → o ≡ pointPlace w i → x ≡ crispOf (w o) → d ≡ w (o + 1)
-      → inCrisp x && unitOk d ≡ pointOk (pointAt w i)
-  unfolding pointOk pointAt
-  point-spelt i o x d eo ex ed = rw (ex, ed, eo)
+  pub point-spelt : (i : ℕ) (x : ℤ) (d : ℕ) → x ≡ pointAt w i .at → d ≡ pointAt w i .degree → inCrisp x && unitOk d ≡ pointOk (pointAt w i)
+  unfolding pointOk
+  point-spelt i x d ex ed = rw (ex, ed)
 
   -- a row that starts at o, with k points or terms from s on
   abbrev pub termTests : ℕ → ℕ → ℕ → List Bool
@@ -88,10 +83,10 @@ module _ (w : ℕ → ℕ) where
   unfolding outputStored
   output-spelt i o k s eo ek es = rw (ek, es, eo)
 
-  pub singleton-spelt : (g : Option Range) (t q p r : ℕ) (x : ℤ) → q ≡ termPlace w t → p ≡ w (q + 4) → r ≡ pointPlace w p → x ≡ crispOf (w r)
+  pub singleton-spelt : (g : Option Range) (t q p : ℕ) (x : ℤ) → q ≡ termPlace w t → p ≡ w (q + 4) → x ≡ pointAt w p .at
       → isName (nameAt w q) && figureOk g x ≡ singletonOk g (singletonAt w t)
-  unfolding singletonOk singletonAt pointAt
-  singleton-spelt g t q p r x eq ep er ex = rw (ex, er, ep, eq)
+  unfolding singletonOk singletonAt
+  singleton-spelt g t q p x eq ep ex = rw (ex, ep, eq)
 
   pub terms-spelt : (s o k : ℕ) → o ≡ termPlace w s → distinct same (tab (wordsIn w o 6) k 0) ≡ termsApart w s k
   unfolding termsApart

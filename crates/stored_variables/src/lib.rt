@@ -2,11 +2,13 @@
 ghost use mathlib.Core.Path.{_≡_};
 ghost use mathlib.Core.Bool.{true};
 ghost use mathlib.Core.List.{[], map};
-ghost use Prim.Native.Nat.{_≤_};
+ghost use Prim.Native.Nat.{_+_, _*_, _≤_, _<_};
+ghost use lib.ListN.{length};
 ghost use Rattle.model.specs.Basic.{all};
 ghost use Rattle.model.specs.WellFormed.{pointOk, rising, termOk, rangeOk, figureOk, defaultOk, singletonOk};
 ghost use Rattle.model.specs.Image.{wordAt, tab, pointAt, termAt, singletonAt};
-ghost use Rattle.header.specs.Header.{Heads};
+ghost use Rattle.header.specs.Header.{Heads, Holds};
+ghost use Rattle.layout.specs.Tables.{inputTermsIn};
 ghost use Rattle.layout.specs.Groups.{tablesOk, variablesOk};
 ghost use Rattle.stored_variables.specs.Stored.{termsApart, inputStored, rangeAt, defaultAt, outputStored, variablesApart};
 use bounds::within;
@@ -14,23 +16,24 @@ use header::Header;
 use model::Crisp;
 use stored_names::distinct_ok;
 use stored_names::name_ok;
-use words::crisp_at;
-use words::word;
+use stored_points::place_at;
+use words::whole_crisp;
+use words::whole_word;
 
 fn point_ok(img: &[u8], h: Header, i: usize) -> bool
-    requires { ⌜ Heads (wordAt (now img)) h × (i ≤ 10000000000) ⌝ }
+    requires { ⌜ Heads (wordAt (now img)) h × Holds (now img) h × (i < h .points) ⌝ }
     ensures { λ r. ⌜ r ≡ pointOk (pointAt (wordAt (now (img .entry))) i) ⌝ }
 {
-    let o = header::point_row(h, i);
-    if !crisp::in_bounds(crisp_at(img, o)) {
+    if !crisp::in_bounds(place_at(img, h, i)) {
         return false;
     }
-    degrees::is_unit(word(img, o + header::POINT_DEGREE) as u32)
+    let d = stored_points::degree_at(img, h, i);
+    degrees::is_unit(d.0)
 }
 
 // The k points from s on.
 fn points_ok(img: &[u8], h: Header, s: usize, k: usize) -> bool
-    requires { ⌜ Heads (wordAt (now img)) h × ((s ≤ 4294967295) × (k ≤ 4294967295)) ⌝ }
+    requires { ⌜ Heads (wordAt (now img)) h × Holds (now img) h × (s + k ≤ h .points) ⌝ }
     ensures { λ r. ⌜ r ≡ all pointOk (tab (pointAt (wordAt (now (img .entry)))) k s) ⌝ }
 {
     let e = s + k;
@@ -46,15 +49,15 @@ fn points_ok(img: &[u8], h: Header, s: usize, k: usize) -> bool
 
 // The positions of the k points from s on rise.
 fn rising_ok(img: &[u8], h: Header, s: usize, k: usize) -> bool
-    requires { ⌜ Heads (wordAt (now img)) h × ((s ≤ 4294967295) × (k ≤ 4294967295)) ⌝ }
+    requires { ⌜ Heads (wordAt (now img)) h × Holds (now img) h × (s + k ≤ h .points) ⌝ }
     ensures { λ r. ⌜ r ≡ rising [] (map (λ p. p .at) (tab (pointAt (wordAt (now (img .entry)))) k s)) ⌝ }
 {
     let e = s + k;
     let mut i = s;
     while i + 1 < e {
-        let x = crisp_at(img, header::point_row(h, i));
+        let x = place_at(img, h, i);
         i += 1;
-        if !crisp::less(x, crisp_at(img, header::point_row(h, i))) {
+        if !crisp::less(x, place_at(img, h, i)) {
             return false;
         }
     }
@@ -62,18 +65,19 @@ fn rising_ok(img: &[u8], h: Header, s: usize, k: usize) -> bool
 }
 
 fn term_ok(img: &[u8], h: Header, t: usize) -> bool
-    requires { ⌜ Heads (wordAt (now img)) h × (t ≤ 10000000000) ⌝ }
+    requires { ⌜ Heads (wordAt (now img)) h × Holds (now img) h × (tablesOk (wordAt (now img)) ≡ true)
+        × (t < inputTermsIn (wordAt (now img))) ⌝ }
     ensures { λ r. ⌜ r ≡ termOk (termAt (wordAt (now (img .entry))) t) ⌝ }
 {
     let o = header::term_row(h, t);
     if !name_ok(img, o) {
         return false;
     }
-    let k = word(img, o + header::TERM_POINTS);
+    let k = whole_word(img, o + header::TERM_POINTS);
     if !within(bounds::LEAST_POINTS, bounds::POINTS, k) {
         return false;
     }
-    let s = word(img, o + header::TERM_FIRST);
+    let s = whole_word(img, o + header::TERM_FIRST);
     if !points_ok(img, h, s, k) {
         return false;
     }
@@ -82,7 +86,8 @@ fn term_ok(img: &[u8], h: Header, t: usize) -> bool
 
 // The k terms from s on.
 fn terms_ok(img: &[u8], h: Header, s: usize, k: usize) -> bool
-    requires { ⌜ Heads (wordAt (now img)) h × ((s ≤ 4294967295) × (k ≤ 4294967295)) ⌝ }
+    requires { ⌜ Heads (wordAt (now img)) h × Holds (now img) h × (tablesOk (wordAt (now img)) ≡ true)
+        × (s + k ≤ inputTermsIn (wordAt (now img))) ⌝ }
     ensures { λ r. ⌜ r ≡ all termOk (tab (termAt (wordAt (now (img .entry)))) k s) ⌝ }
 {
     let e = s + k;
@@ -98,25 +103,26 @@ fn terms_ok(img: &[u8], h: Header, s: usize, k: usize) -> bool
 
 // The names of the k terms from s on are distinct.
 fn terms_apart(img: &[u8], h: Header, s: usize, k: usize) -> bool
-    requires { ⌜ Heads (wordAt (now img)) h × ((s ≤ 4294967295) × (k ≤ 4294967295)) ⌝ }
+    requires { ⌜ Heads (wordAt (now img)) h × Holds (now img) h × (s + k ≤ h .terms) ⌝ }
     ensures { λ r. ⌜ r ≡ termsApart (wordAt (now (img .entry))) s k ⌝ }
 {
     distinct_ok(img, header::term_row(h, s), header::TERM_WIDTH, k)
 }
 
 fn input_ok(img: &[u8], h: Header, i: usize) -> bool
-    requires { ⌜ Heads (wordAt (now img)) h × (i ≤ 4294967295) ⌝ }
+    requires { ⌜ Heads (wordAt (now img)) h × Holds (now img) h × (tablesOk (wordAt (now img)) ≡ true)
+        × (i < h .inputs) ⌝ }
     ensures { λ r. ⌜ r ≡ inputStored (wordAt (now (img .entry))) i ⌝ }
 {
     let o = header::input_row(h, i);
     if !name_ok(img, o) {
         return false;
     }
-    let k = word(img, o + header::INPUT_TERMS);
+    let k = whole_word(img, o + header::INPUT_TERMS);
     if !within(1, bounds::TERMS, k) {
         return false;
     }
-    let s = word(img, o + header::INPUT_FIRST);
+    let s = whole_word(img, o + header::INPUT_FIRST);
     if !terms_ok(img, h, s, k) {
         return false;
     }
@@ -124,7 +130,7 @@ fn input_ok(img: &[u8], h: Header, i: usize) -> bool
 }
 
 fn inputs_ok(img: &[u8], h: Header) -> bool
-    requires { ⌜ Heads (wordAt (now img)) h ⌝ }
+    requires { ⌜ Heads (wordAt (now img)) h × Holds (now img) h × (tablesOk (wordAt (now img)) ≡ true) ⌝ }
     ensures { λ r. ⌜ r ≡ all (inputStored (wordAt (now (img .entry)))) (tab (λ i. i) (h .inputs) 0) ⌝ }
 {
     let mut i: usize = 0;
@@ -139,14 +145,14 @@ fn inputs_ok(img: &[u8], h: Header) -> bool
 
 // RANGE of the output whose row starts at o.
 fn range_ok(img: &[u8], o: usize) -> bool
-    requires { ⌜ o ≤ 900000000000 ⌝ }
+    requires { ⌜ (o + 11) * 4 ≤ length (now img) ⌝ }
     ensures { λ r. ⌜ r ≡ rangeOk (rangeAt (wordAt (now (img .entry))) o) ⌝ }
 {
-    if word(img, o + header::OUTPUT_RANGE) == 0 {
+    if whole_word(img, o + header::OUTPUT_RANGE) == 0 {
         return true;
     }
-    let least = crisp_at(img, o + header::OUTPUT_LEAST);
-    let most = crisp_at(img, o + header::OUTPUT_MOST);
+    let least = whole_crisp(img, o + header::OUTPUT_LEAST);
+    let most = whole_crisp(img, o + header::OUTPUT_MOST);
     if !crisp::in_bounds(least) {
         return false;
     }
@@ -158,33 +164,34 @@ fn range_ok(img: &[u8], o: usize) -> bool
 
 // x is a crisp value within that RANGE.
 fn figure_ok(img: &[u8], o: usize, x: Crisp) -> bool
-    requires { ⌜ o ≤ 900000000000 ⌝ }
+    requires { ⌜ (o + 11) * 4 ≤ length (now img) ⌝ }
     ensures { λ r. ⌜ r ≡ figureOk (rangeAt (wordAt (now (img .entry))) o) (x .0) ⌝ }
 {
     if !crisp::in_bounds(x) {
         return false;
     }
-    let ranged = word(img, o + header::OUTPUT_RANGE) != 0;
-    let least = crisp_at(img, o + header::OUTPUT_LEAST);
-    let most = crisp_at(img, o + header::OUTPUT_MOST);
+    let ranged = whole_word(img, o + header::OUTPUT_RANGE) != 0;
+    let least = whole_crisp(img, o + header::OUTPUT_LEAST);
+    let most = whole_crisp(img, o + header::OUTPUT_MOST);
     crisp::in_range(ranged, least, most, x)
 }
 
 // DEFAULT of that output.
 fn default_ok(img: &[u8], o: usize) -> bool
-    requires { ⌜ o ≤ 900000000000 ⌝ }
+    requires { ⌜ (o + 11) * 4 ≤ length (now img) ⌝ }
     ensures { λ r. ⌜ r ≡ defaultOk (rangeAt (wordAt (now (img .entry))) o)
         (defaultAt (wordAt (now (img .entry))) o) ⌝ }
 {
-    if word(img, o + header::OUTPUT_DEFAULT_KIND) == 0 {
+    if whole_word(img, o + header::OUTPUT_DEFAULT_KIND) == 0 {
         return true;
     }
-    figure_ok(img, o, crisp_at(img, o + header::OUTPUT_DEFAULT))
+    figure_ok(img, o, whole_crisp(img, o + header::OUTPUT_DEFAULT))
 }
 
 // Term t of the output whose row starts at o.
 fn singleton_ok(img: &[u8], h: Header, o: usize, t: usize) -> bool
-    requires { ⌜ Heads (wordAt (now img)) h × ((o ≤ 900000000000) × (t ≤ 10000000000)) ⌝ }
+    requires { ⌜ Heads (wordAt (now img)) h × Holds (now img) h × (tablesOk (wordAt (now img)) ≡ true)
+        × ((o + 11) * 4 ≤ length (now img)) × (inputTermsIn (wordAt (now img)) ≤ t) × (t < h .terms) ⌝ }
     ensures { λ r. ⌜ r ≡ singletonOk (rangeAt (wordAt (now (img .entry))) o)
         (singletonAt (wordAt (now (img .entry))) t) ⌝ }
 {
@@ -192,13 +199,14 @@ fn singleton_ok(img: &[u8], h: Header, o: usize, t: usize) -> bool
     if !name_ok(img, q) {
         return false;
     }
-    let p = word(img, q + header::TERM_FIRST);
-    figure_ok(img, o, crisp_at(img, header::point_row(h, p)))
+    let p = whole_word(img, q + header::TERM_FIRST);
+    figure_ok(img, o, place_at(img, h, p))
 }
 
 // The k terms from s on of that output.
 fn singletons_ok(img: &[u8], h: Header, o: usize, s: usize, k: usize) -> bool
-    requires { ⌜ Heads (wordAt (now img)) h × ((o ≤ 900000000000) × ((s ≤ 4294967295) × (k ≤ 4294967295))) ⌝ }
+    requires { ⌜ Heads (wordAt (now img)) h × Holds (now img) h × (tablesOk (wordAt (now img)) ≡ true)
+        × ((o + 11) * 4 ≤ length (now img)) × (inputTermsIn (wordAt (now img)) ≤ s) × (s + k ≤ h .terms) ⌝ }
     ensures { λ r. ⌜ r ≡ all (singletonOk (rangeAt (wordAt (now (img .entry))) o))
         (tab (singletonAt (wordAt (now (img .entry)))) k s) ⌝ }
 {
@@ -214,21 +222,22 @@ fn singletons_ok(img: &[u8], h: Header, o: usize, s: usize, k: usize) -> bool
 }
 
 fn output_ok(img: &[u8], h: Header, i: usize) -> bool
-    requires { ⌜ Heads (wordAt (now img)) h × (i ≤ 4294967295) ⌝ }
+    requires { ⌜ Heads (wordAt (now img)) h × Holds (now img) h × (tablesOk (wordAt (now img)) ≡ true)
+        × (i < h .outputs) ⌝ }
     ensures { λ r. ⌜ r ≡ outputStored (wordAt (now (img .entry))) i ⌝ }
 {
     let o = header::output_row(h, i);
     if !name_ok(img, o) {
         return false;
     }
-    let k = word(img, o + header::OUTPUT_TERMS);
+    let k = whole_word(img, o + header::OUTPUT_TERMS);
     if !within(1, bounds::TERMS, k) {
         return false;
     }
     if !range_ok(img, o) {
         return false;
     }
-    let s = word(img, o + header::OUTPUT_FIRST);
+    let s = whole_word(img, o + header::OUTPUT_FIRST);
     if !singletons_ok(img, h, o, s, k) {
         return false;
     }
@@ -239,7 +248,7 @@ fn output_ok(img: &[u8], h: Header, i: usize) -> bool
 }
 
 fn outputs_ok(img: &[u8], h: Header) -> bool
-    requires { ⌜ Heads (wordAt (now img)) h ⌝ }
+    requires { ⌜ Heads (wordAt (now img)) h × Holds (now img) h × (tablesOk (wordAt (now img)) ≡ true) ⌝ }
     ensures { λ r. ⌜ r ≡ all (outputStored (wordAt (now (img .entry)))) (tab (λ i. i) (h .outputs) 0) ⌝ }
 {
     let mut i: usize = 0;
@@ -254,7 +263,7 @@ fn outputs_ok(img: &[u8], h: Header) -> bool
 
 // The names of the inputs and outputs are distinct.
 fn variables_apart(img: &[u8], h: Header) -> bool
-    requires { ⌜ Heads (wordAt (now img)) h ⌝ }
+    requires { ⌜ Heads (wordAt (now img)) h × Holds (now img) h ⌝ }
     ensures { λ r. ⌜ r ≡ variablesApart (wordAt (now (img .entry))) ⌝ }
 {
     if !distinct_ok(img, h.input_table, header::INPUT_WIDTH, h.inputs) {
@@ -276,7 +285,7 @@ fn variables_apart(img: &[u8], h: Header) -> bool
 
 // Names, counts, terms and points are those of the variables of a block.
 pub fn variables_ok(img: &[u8], h: Header) -> bool
-    requires { ⌜ (tablesOk (wordAt (now img)) ≡ true) × Heads (wordAt (now img)) h ⌝ }
+    requires { ⌜ (tablesOk (wordAt (now img)) ≡ true) × Heads (wordAt (now img)) h × Holds (now img) h ⌝ }
     ensures { λ r. ⌜ r ≡ variablesOk (wordAt (now (img .entry))) ⌝ }
 {
     if !name_ok(img, header::BLOCK_NAME) {

@@ -3,42 +3,44 @@
 ghost use mathlib.Core.Path.{_≡_};
 ghost use mathlib.Core.Bool.{true};
 ghost use mathlib.Core.List.{map};
-ghost use Prim.Native.Nat.{_≤_, _<_};
+ghost use Prim.Native.Nat.{_+_, _≤_, _<_};
 ghost use Rattle.model.specs.Basic.{all, gather};
-ghost use Rattle.model.specs.Bounds.{termLimit, pointLimit};
+ghost use Rattle.model.specs.Bounds.{pointLimit};
 ghost use Rattle.model.specs.Image.{wordAt, tab, termAt, singletonAt, inputAt, outputAt, decode, INPUTS};
 ghost use Rattle.model.specs.Listing.{commaed, typeText, inputLine, outputLine, pointText, termLine, fuzzifyText};
 ghost use Rattle.model.specs.Listing.{rangeLine, singletonLine, defaultText, defuzzifyText};
 ghost use Rattle.model.specs.WellFormed.{termOk};
-ghost use Rattle.header.specs.Header.{Heads};
+ghost use Rattle.header.specs.Header.{Heads, Holds};
 ghost use Rattle.terms.specs.Points.{pointView, pointViews};
-ghost use Rattle.layout.specs.Groups.{Sound};
+ghost use Rattle.layout.specs.Tables.{inputTermsIn};
+ghost use Rattle.layout.specs.Groups.{tablesOk, Sound};
 ghost use Rattle.listing_writer.specs.Prepends.{Prepends};
 use header::Header;
 use listing_writer::puts;
 use name_listing::name;
 use number_listing::crisp;
 use number_listing::unit;
+use stored_points::place_at;
 use terms::Point;
-use words::crisp_at;
-use words::word;
+use words::whole_crisp;
+use words::whole_word;
 
 // DECLARATIONS
 
 // The type of input i.
 fn input_type(out: &mut [u8], k: usize, img: &[u8], h: Header, i: usize) -> usize
-    requires { ⌜ Heads (wordAt (now img)) h × (i ≤ 4294967295) ⌝ }
+    requires { ⌜ Heads (wordAt (now img)) h × Holds (now img) h × (i < h .inputs) ⌝ }
     ensures { λ r. ⌜ Prepends k r (typeText (inputAt (wordAt (now (img .entry))) i .type))
         (now (out .entry)) (now (out .exit)) ⌝ }
 {
-    if word(img, header::input_row(h, i) + header::INPUT_TYPE) == 0 {
+    if whole_word(img, header::input_row(h, i) + header::INPUT_TYPE) == 0 {
         return puts(out, k, b"REAL");
     }
     puts(out, k, b"INT")
 }
 
 fn input_line(out: &mut [u8], k: usize, img: &[u8], h: Header, i: usize) -> usize
-    requires { ⌜ Heads (wordAt (now img)) h × (i ≤ 4294967295) ⌝ }
+    requires { ⌜ Heads (wordAt (now img)) h × Holds (now img) h × (i < h .inputs) ⌝ }
     ensures { λ r. ⌜ Prepends k r (inputLine (inputAt (wordAt (now (img .entry))) i))
         (now (out .entry)) (now (out .exit)) ⌝ }
 {
@@ -51,7 +53,7 @@ fn input_line(out: &mut [u8], k: usize, img: &[u8], h: Header, i: usize) -> usiz
 }
 
 pub fn input_lines(out: &mut [u8], k: usize, img: &[u8], h: Header) -> usize
-    requires { ⌜ Heads (wordAt (now img)) h ⌝ }
+    requires { ⌜ Heads (wordAt (now img)) h × Holds (now img) h ⌝ }
     ensures { λ r. ⌜ Prepends k r (gather inputLine (decode (wordAt (now (img .entry))) .inputs))
         (now (out .entry)) (now (out .exit)) ⌝ }
 {
@@ -140,14 +142,15 @@ pub fn term_line(
 
 // Term t of the image.
 fn input_term(out: &mut [u8], k: usize, img: &[u8], h: Header, t: usize) -> usize
-    requires { ⌜ Heads (wordAt (now img)) h × (t ≤ 5000000000) ⌝ }
+    requires { ⌜ Heads (wordAt (now img)) h × Holds (now img) h
+        × (tablesOk (wordAt (now img)) ≡ true) × (t < inputTermsIn (wordAt (now img))) ⌝ }
     requires { ⌜ termOk (termAt (wordAt (now img)) t) ≡ true ⌝ }
     ensures { λ r. ⌜ Prepends k r (termLine (termAt (wordAt (now (img .entry))) t))
         (now (out .entry)) (now (out .exit)) ⌝ }
 {
     let row = header::term_row(h, t);
-    let n = word(img, row + header::TERM_POINTS);
-    let first = word(img, row + header::TERM_FIRST);
+    let n = whole_word(img, row + header::TERM_POINTS);
+    let first = whole_word(img, row + header::TERM_FIRST);
     let ps = fuzzification::term_points(img, h, first, n);
     let s = name_field::bytes_at(img, row);
     let e = name_field::first_zero(&s);
@@ -156,7 +159,8 @@ fn input_term(out: &mut [u8], k: usize, img: &[u8], h: Header, t: usize) -> usiz
 
 // The n terms from the first on.
 fn input_terms(out: &mut [u8], k: usize, img: &[u8], h: Header, first: usize, n: usize) -> usize
-    requires { ⌜ Heads (wordAt (now img)) h × (first ≤ 4294967295) × (n ≤ termLimit) ⌝ }
+    requires { ⌜ Heads (wordAt (now img)) h × Holds (now img) h
+        × (tablesOk (wordAt (now img)) ≡ true) × (first + n ≤ inputTermsIn (wordAt (now img))) ⌝ }
     requires { ⌜ all termOk (tab (termAt (wordAt (now img))) n first) ≡ true ⌝ }
     ensures { λ r. ⌜ Prepends k r (gather termLine (tab (termAt (wordAt (now (img .entry)))) n first))
         (now (out .entry)) (now (out .exit)) ⌝ }
@@ -171,13 +175,14 @@ fn input_terms(out: &mut [u8], k: usize, img: &[u8], h: Header, first: usize, n:
 }
 
 fn fuzzify_part(out: &mut [u8], k: usize, img: &[u8], h: Header, i: usize) -> usize
-    requires { ⌜ Sound (wordAt (now img)) × Heads (wordAt (now img)) h × (i < wordAt (now img) INPUTS) ⌝ }
+    requires { ⌜ Sound (wordAt (now img)) × Heads (wordAt (now img)) h × (i < wordAt (now img) INPUTS)
+        × Holds (now img) h ⌝ }
     ensures { λ r. ⌜ Prepends k r (fuzzifyText (inputAt (wordAt (now (img .entry))) i))
         (now (out .entry)) (now (out .exit)) ⌝ }
 {
     let row = header::input_row(h, i);
-    let first = word(img, row + header::INPUT_FIRST);
-    let n = word(img, row + header::INPUT_TERMS);
+    let first = whole_word(img, row + header::INPUT_FIRST);
+    let n = whole_word(img, row + header::INPUT_TERMS);
     let a = puts(out, k, b"END_FUZZIFY\n");
     let b = input_terms(out, a, img, h, first, n);
     let c = puts(out, b, b"\n");
@@ -186,7 +191,7 @@ fn fuzzify_part(out: &mut [u8], k: usize, img: &[u8], h: Header, i: usize) -> us
 }
 
 pub fn fuzzify_parts(out: &mut [u8], k: usize, img: &[u8], h: Header) -> usize
-    requires { ⌜ Sound (wordAt (now img)) × Heads (wordAt (now img)) h ⌝ }
+    requires { ⌜ Sound (wordAt (now img)) × Heads (wordAt (now img)) h × Holds (now img) h ⌝ }
     ensures { λ r. ⌜ Prepends k r (gather fuzzifyText (decode (wordAt (now (img .entry))) .inputs))
         (now (out .entry)) (now (out .exit)) ⌝ }
 {
@@ -203,13 +208,14 @@ pub fn fuzzify_parts(out: &mut [u8], k: usize, img: &[u8], h: Header) -> usize
 
 // Term t of the image, as an output has it.
 fn singleton(out: &mut [u8], k: usize, img: &[u8], h: Header, t: usize) -> usize
-    requires { ⌜ Heads (wordAt (now img)) h × (t ≤ 10000000000) ⌝ }
+    requires { ⌜ Heads (wordAt (now img)) h × Holds (now img) h
+        × (tablesOk (wordAt (now img)) ≡ true) × (inputTermsIn (wordAt (now img)) ≤ t) × (t < h .terms) ⌝ }
     ensures { λ r. ⌜ Prepends k r (singletonLine (singletonAt (wordAt (now (img .entry))) t))
         (now (out .entry)) (now (out .exit)) ⌝ }
 {
     let row = header::term_row(h, t);
-    let first = word(img, row + header::TERM_FIRST);
-    let x = crisp_at(img, header::point_row(h, first));
+    let first = whole_word(img, row + header::TERM_FIRST);
+    let x = place_at(img, h, first);
     let a = puts(out, k, b";\n");
     let b = crisp(out, a, x);
     let c = puts(out, b, b" := ");
@@ -219,7 +225,8 @@ fn singleton(out: &mut [u8], k: usize, img: &[u8], h: Header, t: usize) -> usize
 
 // The n terms from the first on.
 fn singletons(out: &mut [u8], k: usize, img: &[u8], h: Header, first: usize, n: usize) -> usize
-    requires { ⌜ Heads (wordAt (now img)) h × (first ≤ 4294967295) × (n ≤ 4294967295) ⌝ }
+    requires { ⌜ Heads (wordAt (now img)) h × Holds (now img) h
+        × (tablesOk (wordAt (now img)) ≡ true) × (inputTermsIn (wordAt (now img)) ≤ first) × (first + n ≤ h .terms) ⌝ }
     ensures { λ r. ⌜ Prepends k r (gather singletonLine (tab (singletonAt (wordAt (now (img .entry)))) n first))
         (now (out .entry)) (now (out .exit)) ⌝ }
 {
@@ -234,16 +241,16 @@ fn singletons(out: &mut [u8], k: usize, img: &[u8], h: Header, first: usize, n: 
 
 // RANGE of output i, where it is given.
 fn range_line(out: &mut [u8], k: usize, img: &[u8], h: Header, i: usize) -> usize
-    requires { ⌜ Heads (wordAt (now img)) h × (i ≤ 4294967295) ⌝ }
+    requires { ⌜ Heads (wordAt (now img)) h × Holds (now img) h × (i < h .outputs) ⌝ }
     ensures { λ r. ⌜ Prepends k r (rangeLine (outputAt (wordAt (now (img .entry))) i .range))
         (now (out .entry)) (now (out .exit)) ⌝ }
 {
     let row = header::output_row(h, i);
-    if word(img, row + header::OUTPUT_RANGE) == 0 {
+    if whole_word(img, row + header::OUTPUT_RANGE) == 0 {
         return k;
     }
-    let least = crisp_at(img, row + header::OUTPUT_LEAST);
-    let most = crisp_at(img, row + header::OUTPUT_MOST);
+    let least = whole_crisp(img, row + header::OUTPUT_LEAST);
+    let most = whole_crisp(img, row + header::OUTPUT_MOST);
     let a = puts(out, k, b");\n");
     let b = crisp(out, a, most);
     let c = puts(out, b, b"..");
@@ -253,26 +260,27 @@ fn range_line(out: &mut [u8], k: usize, img: &[u8], h: Header, i: usize) -> usiz
 
 // DEFAULT of output i.
 fn default_value(out: &mut [u8], k: usize, img: &[u8], h: Header, i: usize) -> usize
-    requires { ⌜ Heads (wordAt (now img)) h × (i ≤ 4294967295) ⌝ }
+    requires { ⌜ Heads (wordAt (now img)) h × Holds (now img) h × (i < h .outputs) ⌝ }
     ensures { λ r. ⌜ Prepends k r (defaultText (outputAt (wordAt (now (img .entry))) i .default))
         (now (out .entry)) (now (out .exit)) ⌝ }
 {
     let row = header::output_row(h, i);
-    if word(img, row + header::OUTPUT_DEFAULT_KIND) == 0 {
+    if whole_word(img, row + header::OUTPUT_DEFAULT_KIND) == 0 {
         return puts(out, k, b"NC");
     }
-    let x = crisp_at(img, row + header::OUTPUT_DEFAULT);
+    let x = whole_crisp(img, row + header::OUTPUT_DEFAULT);
     crisp(out, k, x)
 }
 
 fn defuzzify_part(out: &mut [u8], k: usize, img: &[u8], h: Header, i: usize) -> usize
-    requires { ⌜ Heads (wordAt (now img)) h × (i ≤ 4294967295) ⌝ }
+    requires { ⌜ Heads (wordAt (now img)) h × Holds (now img) h
+        × (tablesOk (wordAt (now img)) ≡ true) × (i < h .outputs) ⌝ }
     ensures { λ r. ⌜ Prepends k r (defuzzifyText (outputAt (wordAt (now (img .entry))) i))
         (now (out .entry)) (now (out .exit)) ⌝ }
 {
     let row = header::output_row(h, i);
-    let first = word(img, row + header::OUTPUT_FIRST);
-    let n = word(img, row + header::OUTPUT_TERMS);
+    let first = whole_word(img, row + header::OUTPUT_FIRST);
+    let n = whole_word(img, row + header::OUTPUT_TERMS);
     let a = puts(out, k, b";\nEND_DEFUZZIFY\n");
     let b = default_value(out, a, img, h, i);
     let c = puts(out, b, b"  METHOD : CoGS;\n  DEFAULT := ");
@@ -284,7 +292,7 @@ fn defuzzify_part(out: &mut [u8], k: usize, img: &[u8], h: Header, i: usize) -> 
 }
 
 pub fn defuzzify_parts(out: &mut [u8], k: usize, img: &[u8], h: Header) -> usize
-    requires { ⌜ Heads (wordAt (now img)) h ⌝ }
+    requires { ⌜ Heads (wordAt (now img)) h × Holds (now img) h × (tablesOk (wordAt (now img)) ≡ true) ⌝ }
     ensures { λ r. ⌜ Prepends k r (gather defuzzifyText (decode (wordAt (now (img .entry))) .outputs))
         (now (out .entry)) (now (out .exit)) ⌝ }
 {

@@ -60,14 +60,29 @@ pub fn word(img: &[u8], i: usize) -> usize
     )
 }
 
-// The word at place i as a crisp value, in two's complement.
-pub fn crisp_at(img: &[u8], i: usize) -> Crisp
-    requires { ⌜ i ≤ 1000000000000 ⌝ }
-    ensures { λ r. ⌜ r .0 ≡ crispOf (wordAt (now (img .entry)) i) ⌝ }
+// A word as a crisp value, in two's complement.
+fn crisp_of(x: usize) -> Crisp
+    requires { ⌜ x ≤ 4294967295 ⌝ }
+    ensures { λ r. ⌜ r .0 ≡ crispOf x ⌝ }
 {
-    let x = word(img, i);
     if x < 2147483648 {
         return Crisp(x as i32);
     }
     Crisp((x as i64 - 4294967296) as i32)
+}
+
+// The word at place i, which is within the image, as a crisp value.
+pub fn whole_crisp(img: &[u8], i: usize) -> Crisp
+    requires { ⌜ i * 4 + 4 ≤ length (now img) ⌝ }
+    ensures { λ r. ⌜ r .0 ≡ crispOf (wordAt (now (img .entry)) i) ⌝ }
+{
+    crisp_of(whole_word(img, i))
+}
+
+// The word at place i as a crisp value.
+pub fn crisp_at(img: &[u8], i: usize) -> Crisp
+    requires { ⌜ i ≤ 1000000000000 ⌝ }
+    ensures { λ r. ⌜ r .0 ≡ crispOf (wordAt (now (img .entry)) i) ⌝ }
+{
+    crisp_of(word(img, i))
 }

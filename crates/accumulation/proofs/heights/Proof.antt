@@ -1,13 +1,14 @@
 use borrow.Author.Needs.{needs}
 use mathlib.Core.Path.{_≡_, refl, sym, ap, subst, _∙_}
 use mathlib.Core.List.{List}
-use Prim.Native.Nat.{ℕ, _+_, _-_, _≤_, _<_}
+use Prim.Native.Nat.{ℕ, _+_, _*_, _-_, _≤_, _<_}
 use native.Mathlib.Omega.{arith}
 use lib.ListN.{length, getD}
 use Rattle.model.specs.Evaluation.{height}
 use Rattle.model.specs.Image.{wordAt, tab, decode, rulePlace, ruleAt, conclusionAt}
 use Rattle.laws.proofs.Places.{field}
 use Rattle.layout.proofs.Rules.{rules-few, rule-conclusions}
+use Rattle.layout.proofs.Within.{conclusions-within}
 use Rattle.aggregation.proofs.Degrees.{number-at}
 use Rattle.degrees.specs.Tables.{numbers, Low}
 use Rattle.accumulation.specs.Heights.{afterConclusions}
@@ -36,7 +37,7 @@ abbrev μ-loop : tie.MeasureT-loop
 μ-loop img h m n degrees pair accu hs₀ i₀ hs i = n - i
 
 abbrev Place : Type 0
-Place = tie.After-word2 Inv-loop2 μ-loop2 Inv-loop μ-loop
+Place = tie.After-whole-word2 Inv-loop2 μ-loop2 Inv-loop μ-loop
 
 abbrev start : Place → tie.Start Inv-loop2 μ-loop2 Inv-loop μ-loop
 start c = c .before .before .before .before .before .before .before .before .before .before .before
@@ -44,29 +45,36 @@ start c = c .before .before .before .before .before .before .before .before .bef
 inside : (c : Place) → c .before .before .before .before .before .before .loop .i < wordAt (start c .args .img .now) 6
 inside c = omega (arith, c .before .before .before .before .before .loop-test .taken, start c .pre .1 .rules)
 
+row-within : (c : tie.After-rule-row Inv-loop2 μ-loop2 Inv-loop μ-loop) →
+    (c .rule-row .result + 6) * 4 ≤ length (c .before .before .before .before .before .before .before .before .before .args .img .now)
+row-within c =
+    let s = c .before .before .before .before .before .before .before .before .before in
+    let hd = s .pre .1 in
+    omega (arith, c .rule-row .ensures .0 (wordAt (s .args .img .now)) hd, hd .rule-table, s .pre .4 .rules)
+
 -- the first conclusion and how many there are
 read : (c : Place) →
     let w = wordAt (start c .args .img .now) in
     let o = rulePlace w (c .before .before .before .before .before .before .loop .i) in
-    (c .before .word .result ≡ w (o + 3)) × (c .word2 .result ≡ w (o + 4))
+    (c .before .whole-word .result ≡ w (o + 3)) × (c .whole-word2 .result ≡ w (o + 4))
 read c =
     let w = wordAt (start c .args .img .now) in
     let o = c .before .before .rule-row .ensures .0 w (start c .pre .1) in
-    (field w _ _ 3 _ (c .before .word .ensures .0) o, field w _ _ 4 _ (c .word2 .ensures .0) o)
+    (field w _ _ 3 _ (c .before .whole-word .ensures .0) o, field w _ _ 4 _ (c .whole-word2 .ensures .0) o)
 
 -- the term that a turn reads
-here : (c : tie.After-word3 Inv-loop2 μ-loop2 Inv-loop μ-loop) →
+here : (c : tie.After-whole-word3 Inv-loop2 μ-loop2 Inv-loop μ-loop) →
     let l = c .before .before .before in
     let a = start (l .before) .args in
-    let t = c .word3 .result in
-    (t ≡ conclusionAt (wordAt (a .img .now)) (l .before .before .word .result + l .loop2 .j) .term) × (a .m ≤ t) × (t < a .m + length (l .loop2 .hs))
+    let t = c .whole-word3 .result in
+    (t ≡ conclusionAt (wordAt (a .img .now)) (l .before .before .whole-word .result + l .loop2 .j) .term) × (a .m ≤ t) × (t < a .m + length (l .loop2 .hs))
 here c =
     let l = c .before .before .before in
     let q = l .before in
     let s = start q in
     let w = wordAt (s .args .img .now) in
     let k = read q in
-    let e = field w _ _ 1 _ (c .word3 .ensures .0) (c .before .conclusion-row .ensures .0 w (s .pre .1)) in
+    let e = field w _ _ 1 _ (c .whole-word3 .ensures .0) (c .before .conclusion-row .ensures .0 w (s .pre .1)) in
     let r = term-read w (s .pre .0) _ (inside q) _ _ (l .loop2 .j) _ (k .0) (k .1) (omega arith) e in
     (r .0, omega (arith, r .1, s .pre .2), omega (arith, r .2, s .pre .2, l .loop2 .inv .1))
 
@@ -74,10 +82,10 @@ millionths-requires : tie.Need-millionths-requires Inv-loop2 μ-loop2 Inv-loop �
 millionths-requires c κs = search needs
 
 stored-pair-requires : tie.Need-stored-pair-requires Inv-loop2 μ-loop2 Inv-loop μ-loop
-stored-pair-requires c κs = search needs
+stored-pair-requires c κs = c .before .before .pre .4 .head
 
 stored-accumulation-requires : tie.Need-stored-accumulation-requires Inv-loop2 μ-loop2 Inv-loop μ-loop
-stored-accumulation-requires c κs = search needs
+stored-accumulation-requires c κs = c .before .before .before .pre .4 .head
 
 loop-holds : tie.Need-loop-holds Inv-loop2 μ-loop2 Inv-loop μ-loop
 loop-holds c =
@@ -90,7 +98,8 @@ slice-aggregate-rule-degree c = search needs
 rule-degree-requires : tie.Need-rule-degree-requires Inv-loop2 μ-loop2 Inv-loop μ-loop
 rule-degree-requires c κs =
     let s = c .before .before .before .before .before .before .before in
-    (s .pre .0, s .pre .1, omega arith, subst Low (sym (c .before .before .before .before .before .millionths .ensures)) (s .pre .3), c .before .before .before .before .stored-pair .ensures)
+    let low = subst Low (sym (c .before .before .before .before .before .millionths .ensures)) (s .pre .3) in
+    (s .pre .0, s .pre .1, omega arith, low, c .before .before .before .before .stored-pair .ensures, s .pre .4)
 
 rule-row-requires : tie.Need-rule-row-requires Inv-loop2 μ-loop2 Inv-loop μ-loop
 rule-row-requires c κs =
@@ -98,17 +107,17 @@ rule-row-requires c κs =
     let hd = s .pre .1 in
     omega (arith, hd .rule-table, hd .fits 13, hd .rules, rules-few _ (s .pre .0))
 
-add-word : tie.Need-add-word Inv-loop2 μ-loop2 Inv-loop μ-loop
-add-word c = search needs
+add-whole-word : tie.Need-add-whole-word Inv-loop2 μ-loop2 Inv-loop μ-loop
+add-whole-word c = search needs
 
-word-requires : tie.Need-word-requires Inv-loop2 μ-loop2 Inv-loop μ-loop
-word-requires c κs = search needs
+whole-word-requires : tie.Need-whole-word-requires Inv-loop2 μ-loop2 Inv-loop μ-loop
+whole-word-requires c κs = omega (arith, row-within c)
 
-add-word-2 : tie.Need-add-word-2 Inv-loop2 μ-loop2 Inv-loop μ-loop
-add-word-2 c = search needs
+add-whole-word-2 : tie.Need-add-whole-word-2 Inv-loop2 μ-loop2 Inv-loop μ-loop
+add-whole-word-2 c = search needs
 
-word-requires-2 : tie.Need-word-requires-2 Inv-loop2 μ-loop2 Inv-loop μ-loop
-word-requires-2 c κs = search needs
+whole-word-requires-2 : tie.Need-whole-word-requires-2 Inv-loop2 μ-loop2 Inv-loop μ-loop
+whole-word-requires-2 c κs = omega (arith, row-within (c .before))
 
 loop2-holds : tie.Need-loop2-holds Inv-loop2 μ-loop2 Inv-loop μ-loop
 loop2-holds c =
@@ -123,11 +132,17 @@ conclusion-row-requires c κs =
     let hd = start (c .before .before) .pre .1 in
     omega (arith, hd .conclusion-table, hd .fits 15)
 
-add-word-3 : tie.Need-add-word-3 Inv-loop2 μ-loop2 Inv-loop μ-loop
-add-word-3 c = search needs
+add-whole-word-3 : tie.Need-add-whole-word-3 Inv-loop2 μ-loop2 Inv-loop μ-loop
+add-whole-word-3 c = search needs
 
-word-requires-3 : tie.Need-word-requires-3 Inv-loop2 μ-loop2 Inv-loop μ-loop
-word-requires-3 c κs = search needs
+whole-word-requires-3 : tie.Need-whole-word-requires-3 Inv-loop2 μ-loop2 Inv-loop μ-loop
+whole-word-requires-3 c κs =
+    let q = c .before .before .before in
+    let s = start q in
+    let hd = s .pre .1 in
+    let w = wordAt (s .args .img .now) in
+    let few = conclusions-within w (s .pre .0 .rules) _ (inside q) in
+    omega (arith, c .conclusion-row .ensures .0 w hd, read q, few, hd .conclusions, hd .conclusion-table, s .pre .4 .conclusions)
 
 sub-t : tie.Need-sub-t Inv-loop2 μ-loop2 Inv-loop μ-loop
 sub-t c = omega (arith, here c)
@@ -142,7 +157,7 @@ accumulate-requires : tie.Need-accumulate-requires Inv-loop2 μ-loop2 Inv-loop �
 accumulate-requires c κs =
     let l = c .before .before .before .before in
     let q = l .before in
-    let t = c .before .word3 .result - start q .args .m in
+    let t = c .before .whole-word3 .result - start q .args .m in
     omega (arith, number-at (l .loop2 .hs) t, l .loop2 .inv .2 t, q .before .before .before .rule-degree .ensures .1)
 
 mul-hs : tie.Need-mul-hs Inv-loop2 μ-loop2 Inv-loop μ-loop
@@ -218,15 +233,15 @@ heights-spec =
     slice-aggregate-rule-degree
     rule-degree-requires
     rule-row-requires
-    add-word
-    word-requires
-    add-word-2
-    word-requires-2
+    add-whole-word
+    whole-word-requires
+    add-whole-word-2
+    whole-word-requires-2
     loop2-holds
     add-conclusion-row
     conclusion-row-requires
-    add-word-3
-    word-requires-3
+    add-whole-word-3
+    whole-word-requires-3
     sub-t
     mul-old
     array-copy-out-old

@@ -19,14 +19,14 @@ loop-holds : tie.Need-loop-holds Inv-loop μ-loop
 unfolding stackOf
 loop-holds c = (search needs, (search needs, low-zeros 19, search needs), laws.follows-start _ _ _ _)
 
-add-word : tie.Need-add-word Inv-loop μ-loop
-add-word c = search needs
+add-whole-word : tie.Need-add-whole-word Inv-loop μ-loop
+add-whole-word c = search needs
 
-word-requires : tie.Need-word-requires Inv-loop μ-loop
-word-requires c κs = search needs
+whole-word-requires : tie.Need-whole-word-requires Inv-loop μ-loop
+whole-word-requires c κs = search needs
 
 step-requires : tie.Need-step-requires Inv-loop μ-loop
-step-requires c κs = (c .before .before .before .loop .inv .1, c .before .before .before .before .before .before .pre .2)
+step-requires c κs = (c .before .before .before .loop .inv .1, c .before .before .before .before .before .before .pre .0)
 
 add-i : tie.Need-add-i Inv-loop μ-loop
 add-i c = search needs
@@ -41,7 +41,7 @@ loop-again c =
     let g = byDegrees (a .p) (a .ds .now) in (
       search needs,
       c .step .ensures .1,
-      laws.follows-turn g (wordAt (a .img .now)) (a .d) (a .n) (l .i) _ _ _ (search needs) (c .before .word .ensures .0) (c .step .ensures .0) (l .inv .2),
+      laws.follows-turn g (wordAt (a .img .now)) (a .d) (a .n) (l .i) _ _ _ (search needs) (c .before .whole-word .ensures .0) (c .step .ensures .0) (l .inv .2),
     )
 
 array-read-t15 : tie.Need-array-read-t15 Inv-loop μ-loop
@@ -59,8 +59,8 @@ condition-degree-spec =
     Inv-loop
     μ-loop
     loop-holds
-    add-word
-    word-requires
+    add-whole-word
+    whole-word-requires
     step-requires
     add-i
     loop-less

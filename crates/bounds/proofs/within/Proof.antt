@@ -1,8 +1,6 @@
 use borrow.Author.Tests.{le-leb, lt-leb}
 use Rattle.bounds.proofs.within.Statement.{statement}
 use Rattle.bounds.proofs.within.Tie as tie
-use Rattle.bounds.proofs.within.Reads as reads
-use Rattle.bounds.proofs.within.Lts as lts
 
 returns : tie.Need-returns
 returns c = simp (lt-leb _ _ (c .if1 .taken))

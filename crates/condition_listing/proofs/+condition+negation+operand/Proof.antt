@@ -25,7 +25,7 @@ use Rattle.condition_listing.proofs.operator.Reads as operator-reads
 use Rattle.condition_listing.proofs.operator_form.Reads as operator-form-reads
 use Rattle.condition_listing.proofs.term.Reads as term-reads
 use Rattle.listing_writer.proofs.puts.Reads as puts-reads
-use Rattle.words.proofs.word.Reads as word-reads
+use Rattle.words.proofs.whole_word.Reads as whole-word-reads
 use Rattle.condition_listing.proofs.+condition+negation+operand.{statement}
 use Rattle.condition_listing.proofs.+condition+negation+operand.Tie.{close}
 
@@ -66,8 +66,8 @@ abbrev condition-μ-loop : condition-lts.MeasureT-loop
 condition-μ-loop out₀ k img h e d₀ q₀ t13 out d q = d
 
 condition-loop-holds : (t : ℕ) → condition-lts.Need-loop-holds (
-  word-reads.Asked,
-  word-reads.Learnt,
+  whole-word-reads.Asked,
+  whole-word-reads.Learnt,
   term-reads.Asked,
   term-reads.Learnt,
   negation-below t,
@@ -85,9 +85,9 @@ condition-loop-holds t c =
     let w = wordAt (c .before .before .args .img .now) in
     (search needs, texts.left-start w (inputTermName (decode w)) _ _ _, refl)
 
-condition-sub-word : (t : ℕ) → condition-lts.Need-sub-word (
-  word-reads.Asked,
-  word-reads.Learnt,
+condition-sub-whole-word : (t : ℕ) → condition-lts.Need-sub-whole-word (
+  whole-word-reads.Asked,
+  whole-word-reads.Learnt,
   term-reads.Asked,
   term-reads.Learnt,
   negation-below t,
@@ -101,11 +101,11 @@ condition-sub-word : (t : ℕ) → condition-lts.Need-sub-word (
   form-reads.Asked,
   form-reads.Learnt,
 ) (condition-at t) condition.Post condition-Inv-loop condition-μ-loop
-condition-sub-word t c = search needs
+condition-sub-whole-word t c = search needs
 
-condition-word-requires : (t : ℕ) → condition-lts.Need-word-requires (
-  word-reads.Asked,
-  word-reads.Learnt,
+condition-whole-word-requires : (t : ℕ) → condition-lts.Need-whole-word-requires (
+  whole-word-reads.Asked,
+  whole-word-reads.Learnt,
   term-reads.Asked,
   term-reads.Learnt,
   negation-below t,
@@ -119,11 +119,11 @@ condition-word-requires : (t : ℕ) → condition-lts.Need-word-requires (
   form-reads.Asked,
   form-reads.Learnt,
 ) (condition-at t) condition.Post condition-Inv-loop condition-μ-loop
-condition-word-requires t c κs = search needs
+condition-whole-word-requires t c κs = search needs
 
 condition-slice-aggregate-term : (t : ℕ) → condition-lts.Need-slice-aggregate-term (
-  word-reads.Asked,
-  word-reads.Learnt,
+  whole-word-reads.Asked,
+  whole-word-reads.Learnt,
   term-reads.Asked,
   term-reads.Learnt,
   negation-below t,
@@ -140,8 +140,8 @@ condition-slice-aggregate-term : (t : ℕ) → condition-lts.Need-slice-aggregat
 condition-slice-aggregate-term t c = search needs
 
 condition-term-requires : (t : ℕ) → condition-lts.Need-term-requires (
-  word-reads.Asked,
-  word-reads.Learnt,
+  whole-word-reads.Asked,
+  whole-word-reads.Learnt,
   term-reads.Asked,
   term-reads.Learnt,
   negation-below t,
@@ -158,8 +158,8 @@ condition-term-requires : (t : ℕ) → condition-lts.Need-term-requires (
 condition-term-requires t c κs = search needs
 
 condition-sub-t18 : (t : ℕ) → condition-lts.Need-sub-t18 (
-  word-reads.Asked,
-  word-reads.Learnt,
+  whole-word-reads.Asked,
+  whole-word-reads.Learnt,
   term-reads.Asked,
   term-reads.Learnt,
   negation-below t,
@@ -176,8 +176,8 @@ condition-sub-t18 : (t : ℕ) → condition-lts.Need-sub-t18 (
 condition-sub-t18 t c = search needs
 
 condition-same-length : (t : ℕ) → condition-lts.Need-same-length (
-  word-reads.Asked,
-  word-reads.Learnt,
+  whole-word-reads.Asked,
+  whole-word-reads.Learnt,
   term-reads.Asked,
   term-reads.Learnt,
   negation-below t,
@@ -194,8 +194,8 @@ condition-same-length : (t : ℕ) → condition-lts.Need-same-length (
 condition-same-length t c = search needs
 
 condition-returns : (t : ℕ) → condition-lts.Need-returns (
-  word-reads.Asked,
-  word-reads.Learnt,
+  whole-word-reads.Asked,
+  whole-word-reads.Learnt,
   term-reads.Asked,
   term-reads.Learnt,
   negation-below t,
@@ -215,15 +215,15 @@ condition-returns t c =
     let l = r .before .before .loop in
     let w = wordAt (r .before .before .before .before .before .args .img .now) in
     let g = inputTermName (decode w) in
-    let e = r .word .ensures .0 in (
+    let e = r .whole-word .ensures .0 in (
       texts.left-done w g _ _ _ _ _ _ _ _ _ (l .inv .1)
           (texts.term-written w g (l .d) _ _ _ _ (omega (arith, e)) (rw e at (p .term .ensures))),
       search needs,
     )
 
 condition-sub-negation : (t : ℕ) → condition-lts.Need-sub-negation (
-  word-reads.Asked,
-  word-reads.Learnt,
+  whole-word-reads.Asked,
+  whole-word-reads.Learnt,
   term-reads.Asked,
   term-reads.Learnt,
   negation-below t,
@@ -240,8 +240,8 @@ condition-sub-negation : (t : ℕ) → condition-lts.Need-sub-negation (
 condition-sub-negation t c = search needs
 
 condition-negation-requires : (t : ℕ) → condition-lts.Need-negation-requires (
-  word-reads.Asked,
-  word-reads.Learnt,
+  whole-word-reads.Asked,
+  whole-word-reads.Learnt,
   term-reads.Asked,
   term-reads.Learnt,
   negation-below t,
@@ -257,11 +257,11 @@ condition-negation-requires : (t : ℕ) → condition-lts.Need-negation-requires
 ) (condition-at t) condition.Post condition-Inv-loop condition-μ-loop
 condition-negation-requires t c κs =
     let s = c .before .before .before .before .before .before .before .before in
-    (search needs, (s .pre .1 .0, s .pre .1 .1, search needs))
+    (search needs, (s .pre .1 .0, s .pre .1 .1, search needs, s .pre .1 .3))
 
 condition-same-length-2 : (t : ℕ) → condition-lts.Need-same-length-2 (
-  word-reads.Asked,
-  word-reads.Learnt,
+  whole-word-reads.Asked,
+  whole-word-reads.Learnt,
   term-reads.Asked,
   term-reads.Learnt,
   negation-below t,
@@ -278,8 +278,8 @@ condition-same-length-2 : (t : ℕ) → condition-lts.Need-same-length-2 (
 condition-same-length-2 t c = search needs
 
 condition-returns-2 : (t : ℕ) → condition-lts.Need-returns-2 (
-  word-reads.Asked,
-  word-reads.Learnt,
+  whole-word-reads.Asked,
+  whole-word-reads.Learnt,
   term-reads.Asked,
   term-reads.Learnt,
   negation-below t,
@@ -299,15 +299,15 @@ condition-returns-2 t c =
     let l = r .before .before .loop in
     let w = wordAt (r .before .before .before .before .before .args .img .now) in
     let g = inputTermName (decode w) in
-    let e = r .word .ensures .0 in (
+    let e = r .whole-word .ensures .0 in (
       texts.left-done w g _ _ _ _ _ _ _ _ _ (l .inv .1)
           (texts.not-written w g (l .d) _ _ _ _ _ (omega (arith, e, p .before .before .if2 .taken)) (p .negation .ensures .0)),
       search needs,
     )
 
 condition-operator-form-requires : (t : ℕ) → condition-lts.Need-operator-form-requires (
-  word-reads.Asked,
-  word-reads.Learnt,
+  whole-word-reads.Asked,
+  whole-word-reads.Learnt,
   term-reads.Asked,
   term-reads.Learnt,
   negation-below t,
@@ -324,8 +324,8 @@ condition-operator-form-requires : (t : ℕ) → condition-lts.Need-operator-for
 condition-operator-form-requires t c κs = search needs
 
 condition-sub-operand : (t : ℕ) → condition-lts.Need-sub-operand (
-  word-reads.Asked,
-  word-reads.Learnt,
+  whole-word-reads.Asked,
+  whole-word-reads.Learnt,
   term-reads.Asked,
   term-reads.Learnt,
   negation-below t,
@@ -342,8 +342,8 @@ condition-sub-operand : (t : ℕ) → condition-lts.Need-sub-operand (
 condition-sub-operand t c = search needs
 
 condition-sub-operand-2 : (t : ℕ) → condition-lts.Need-sub-operand-2 (
-  word-reads.Asked,
-  word-reads.Learnt,
+  whole-word-reads.Asked,
+  whole-word-reads.Learnt,
   term-reads.Asked,
   term-reads.Learnt,
   negation-below t,
@@ -360,8 +360,8 @@ condition-sub-operand-2 : (t : ℕ) → condition-lts.Need-sub-operand-2 (
 condition-sub-operand-2 t c = search needs
 
 condition-operand-requires : (t : ℕ) → condition-lts.Need-operand-requires (
-  word-reads.Asked,
-  word-reads.Learnt,
+  whole-word-reads.Asked,
+  whole-word-reads.Learnt,
   term-reads.Asked,
   term-reads.Learnt,
   negation-below t,
@@ -377,11 +377,11 @@ condition-operand-requires : (t : ℕ) → condition-lts.Need-operand-requires (
 ) (condition-at t) condition.Post condition-Inv-loop condition-μ-loop
 condition-operand-requires t c κs =
     let s = c .before .before .before .before .before .before .before .before .before in
-    (search needs, (s .pre .1 .0, s .pre .1 .1, search needs))
+    (search needs, (s .pre .1 .0, s .pre .1 .1, search needs, s .pre .1 .3))
 
 condition-operator-requires : (t : ℕ) → condition-lts.Need-operator-requires (
-  word-reads.Asked,
-  word-reads.Learnt,
+  whole-word-reads.Asked,
+  whole-word-reads.Learnt,
   term-reads.Asked,
   term-reads.Learnt,
   negation-below t,
@@ -398,8 +398,8 @@ condition-operator-requires : (t : ℕ) → condition-lts.Need-operator-requires
 condition-operator-requires t c κs = search needs
 
 condition-form-requires : (t : ℕ) → condition-lts.Need-form-requires (
-  word-reads.Asked,
-  word-reads.Learnt,
+  whole-word-reads.Asked,
+  whole-word-reads.Learnt,
   term-reads.Asked,
   term-reads.Learnt,
   negation-below t,
@@ -416,8 +416,8 @@ condition-form-requires : (t : ℕ) → condition-lts.Need-form-requires (
 condition-form-requires t c κs = search needs
 
 condition-operand-requires-2 : (t : ℕ) → condition-lts.Need-operand-requires-2 (
-  word-reads.Asked,
-  word-reads.Learnt,
+  whole-word-reads.Asked,
+  whole-word-reads.Learnt,
   term-reads.Asked,
   term-reads.Learnt,
   negation-below t,
@@ -436,11 +436,11 @@ condition-operand-requires-2 t c κs =
     let test = first .before .before .before .before .before .before in
     let s = test .before .before .before .before in
     let low : first .operand .result .first ≤ s .args .e - 1 = omega (arith, first .operand .ensures .1, test .before .loop .inv .0) in
-    (omega (arith, low, s .pre .0, test .before .loop .inv .0, test .loop-test), (s .pre .1 .0, s .pre .1 .1, omega (arith, low, s .pre .1 .2)))
+    (omega (arith, low, s .pre .0, test .before .loop .inv .0, test .loop-test), (s .pre .1 .0, s .pre .1 .1, omega (arith, low, s .pre .1 .2), s .pre .1 .3))
 
 condition-same-length-3 : (t : ℕ) → condition-lts.Need-same-length-3 (
-  word-reads.Asked,
-  word-reads.Learnt,
+  whole-word-reads.Asked,
+  whole-word-reads.Learnt,
   term-reads.Asked,
   term-reads.Learnt,
   negation-below t,
@@ -457,8 +457,8 @@ condition-same-length-3 : (t : ℕ) → condition-lts.Need-same-length-3 (
 condition-same-length-3 t c = search needs
 
 condition-returns-3 : (t : ℕ) → condition-lts.Need-returns-3 (
-  word-reads.Asked,
-  word-reads.Learnt,
+  whole-word-reads.Asked,
+  whole-word-reads.Learnt,
   term-reads.Asked,
   term-reads.Learnt,
   negation-below t,
@@ -481,7 +481,7 @@ condition-returns-3 t c =
     let l = r .before .before .loop in
     let w = wordAt (r .before .before .before .before .before .args .img .now) in
     let g = inputTermName (decode w) in
-    let e = r .word .ensures .0 in
+    let e = r .whole-word .ensures .0 in
     let o = operatorOf (w (l .d - 1)) in
     let f = own .operator-form .ensures .0 ∙ ap (λ (x : ℕ). rank (operatorOf x)) e in (
       texts.left-done w g _ _ _ _ _ _ _ _ _ (l .inv .1)
@@ -492,8 +492,8 @@ condition-returns-3 t c =
     )
 
 condition-loop-less : (t : ℕ) → condition-lts.Need-loop-less (
-  word-reads.Asked,
-  word-reads.Learnt,
+  whole-word-reads.Asked,
+  whole-word-reads.Learnt,
   term-reads.Asked,
   term-reads.Learnt,
   negation-below t,
@@ -510,8 +510,8 @@ condition-loop-less : (t : ℕ) → condition-lts.Need-loop-less (
 condition-loop-less t c = search needs
 
 condition-loop-again : (t : ℕ) → condition-lts.Need-loop-again (
-  word-reads.Asked,
-  word-reads.Learnt,
+  whole-word-reads.Asked,
+  whole-word-reads.Learnt,
   term-reads.Asked,
   term-reads.Learnt,
   negation-below t,
@@ -533,7 +533,7 @@ condition-loop-again t c =
     let l = r .before .before .loop in
     let w = wordAt (r .before .before .before .before .before .args .img .now) in
     let g = inputTermName (decode w) in
-    let e = r .word .ensures .0 in
+    let e = r .whole-word .ensures .0 in
     let o = operatorOf (w (l .d - 1)) in
     let f = own .operator-form .ensures .0 ∙ ap (λ (x : ℕ). rank (operatorOf x)) e in (
       search needs,
@@ -544,8 +544,8 @@ condition-loop-again t c =
     )
 
 condition-same-length-4 : (t : ℕ) → condition-lts.Need-same-length-4 (
-  word-reads.Asked,
-  word-reads.Learnt,
+  whole-word-reads.Asked,
+  whole-word-reads.Learnt,
   term-reads.Asked,
   term-reads.Learnt,
   negation-below t,
@@ -562,8 +562,8 @@ condition-same-length-4 : (t : ℕ) → condition-lts.Need-same-length-4 (
 condition-same-length-4 t c = search needs
 
 condition-returns-4 : (t : ℕ) → condition-lts.Need-returns-4 (
-  word-reads.Asked,
-  word-reads.Learnt,
+  whole-word-reads.Asked,
+  whole-word-reads.Learnt,
   term-reads.Asked,
   term-reads.Learnt,
   negation-below t,
@@ -586,8 +586,8 @@ condition-returns-4 t c =
     )
 
 negation-returns : (t : ℕ) → negation-lts.Need-returns (
-  word-reads.Asked,
-  word-reads.Learnt,
+  whole-word-reads.Asked,
+  whole-word-reads.Learnt,
   term-reads.Asked,
   term-reads.Learnt,
   operand-below t,
@@ -600,9 +600,9 @@ negation-returns t c =
     let g = inputTermName (decode w) in
     (texts.none-written w g (texts.negated w g) _ _ _ _ _ _ (c .if1 .taken), search needs)
 
-negation-word-requires : (t : ℕ) → negation-lts.Need-word-requires (
-  word-reads.Asked,
-  word-reads.Learnt,
+negation-whole-word-requires : (t : ℕ) → negation-lts.Need-whole-word-requires (
+  whole-word-reads.Asked,
+  whole-word-reads.Learnt,
   term-reads.Asked,
   term-reads.Learnt,
   operand-below t,
@@ -610,11 +610,11 @@ negation-word-requires : (t : ℕ) → negation-lts.Need-word-requires (
   puts-reads.Asked,
   puts-reads.Learnt,
 ) (negation-at t) negation.Post
-negation-word-requires t c κs = search needs
+negation-whole-word-requires t c κs = search needs
 
 negation-slice-aggregate-term : (t : ℕ) → negation-lts.Need-slice-aggregate-term (
-  word-reads.Asked,
-  word-reads.Learnt,
+  whole-word-reads.Asked,
+  whole-word-reads.Learnt,
   term-reads.Asked,
   term-reads.Learnt,
   operand-below t,
@@ -625,8 +625,8 @@ negation-slice-aggregate-term : (t : ℕ) → negation-lts.Need-slice-aggregate-
 negation-slice-aggregate-term t c = search needs
 
 negation-term-requires : (t : ℕ) → negation-lts.Need-term-requires (
-  word-reads.Asked,
-  word-reads.Learnt,
+  whole-word-reads.Asked,
+  whole-word-reads.Learnt,
   term-reads.Asked,
   term-reads.Learnt,
   operand-below t,
@@ -637,8 +637,8 @@ negation-term-requires : (t : ℕ) → negation-lts.Need-term-requires (
 negation-term-requires t c κs = search needs
 
 negation-same-length : (t : ℕ) → negation-lts.Need-same-length (
-  word-reads.Asked,
-  word-reads.Learnt,
+  whole-word-reads.Asked,
+  whole-word-reads.Learnt,
   term-reads.Asked,
   term-reads.Learnt,
   operand-below t,
@@ -649,8 +649,8 @@ negation-same-length : (t : ℕ) → negation-lts.Need-same-length (
 negation-same-length t c = search needs
 
 negation-returns-2 : (t : ℕ) → negation-lts.Need-returns-2 (
-  word-reads.Asked,
-  word-reads.Learnt,
+  whole-word-reads.Asked,
+  whole-word-reads.Learnt,
   term-reads.Asked,
   term-reads.Learnt,
   operand-below t,
@@ -663,14 +663,14 @@ negation-returns-2 t c =
     let r = p .before .before .before .before in
     let s = r .before .before .before .before in
     let w = wordAt (s .args .img .now) in
-    let e = r .word .ensures .0 in (
+    let e = r .whole-word .ensures .0 in (
       texts.not-term w (inputTermName (decode w)) (s .args .e) _ _ _ _ (omega (arith, e)) (rw e at (p .term .ensures)),
       search needs,
     )
 
 negation-operand-requires : (t : ℕ) → negation-lts.Need-operand-requires (
-  word-reads.Asked,
-  word-reads.Learnt,
+  whole-word-reads.Asked,
+  whole-word-reads.Learnt,
   term-reads.Asked,
   term-reads.Learnt,
   operand-below t,
@@ -681,8 +681,8 @@ negation-operand-requires : (t : ℕ) → negation-lts.Need-operand-requires (
 negation-operand-requires t c κs = search needs
 
 negation-slice-aggregate-puts : (t : ℕ) → negation-lts.Need-slice-aggregate-puts (
-  word-reads.Asked,
-  word-reads.Learnt,
+  whole-word-reads.Asked,
+  whole-word-reads.Learnt,
   term-reads.Asked,
   term-reads.Learnt,
   operand-below t,
@@ -693,8 +693,8 @@ negation-slice-aggregate-puts : (t : ℕ) → negation-lts.Need-slice-aggregate-
 negation-slice-aggregate-puts t c = search needs
 
 negation-puts-requires : (t : ℕ) → negation-lts.Need-puts-requires (
-  word-reads.Asked,
-  word-reads.Learnt,
+  whole-word-reads.Asked,
+  whole-word-reads.Learnt,
   term-reads.Asked,
   term-reads.Learnt,
   operand-below t,
@@ -705,8 +705,8 @@ negation-puts-requires : (t : ℕ) → negation-lts.Need-puts-requires (
 negation-puts-requires t c κs = search needs
 
 negation-same-length-2 : (t : ℕ) → negation-lts.Need-same-length-2 (
-  word-reads.Asked,
-  word-reads.Learnt,
+  whole-word-reads.Asked,
+  whole-word-reads.Learnt,
   term-reads.Asked,
   term-reads.Learnt,
   operand-below t,
@@ -717,8 +717,8 @@ negation-same-length-2 : (t : ℕ) → negation-lts.Need-same-length-2 (
 negation-same-length-2 t c = search needs
 
 negation-returns-3 : (t : ℕ) → negation-lts.Need-returns-3 (
-  word-reads.Asked,
-  word-reads.Learnt,
+  whole-word-reads.Asked,
+  whole-word-reads.Learnt,
   term-reads.Asked,
   term-reads.Learnt,
   operand-below t,
@@ -732,7 +732,7 @@ negation-returns-3 t c =
     let r = first .before .before .before in
     let s = r .before .before .before .before in
     let w = wordAt (s .args .img .now) in (
-      texts.not-front w (inputTermName (decode w)) (s .args .e) _ _ _ _ _ _ _ (omega (arith, r .word .ensures .0, first .before .before .if2 .left))
+      texts.not-front w (inputTermName (decode w)) (s .args .e) _ _ _ _ _ _ _ (omega (arith, r .whole-word .ensures .0, first .before .before .if2 .left))
           (first .operand .ensures .0) (p .puts .ensures),
       search needs,
     )
@@ -864,8 +864,8 @@ operand-returns-2 t c =
 
 pub +condition+negation+operand-spec : {M : Type 1} → statement M
 +condition+negation+operand-spec = close μ-condition μ-negation μ-operand (λ t. condition-lts.spec (
-  word-reads.Asked,
-  word-reads.Learnt,
+  whole-word-reads.Asked,
+  whole-word-reads.Learnt,
   term-reads.Asked,
   term-reads.Learnt,
   negation-below t,
@@ -884,8 +884,8 @@ pub +condition+negation+operand-spec : {M : Type 1} → statement M
     condition-Inv-loop
     condition-μ-loop
     (condition-loop-holds t)
-    (condition-sub-word t)
-    (condition-word-requires t)
+    (condition-sub-whole-word t)
+    (condition-whole-word-requires t)
     (condition-slice-aggregate-term t)
     (condition-term-requires t)
     (condition-sub-t18 t)
@@ -909,8 +909,8 @@ pub +condition+negation+operand-spec : {M : Type 1} → statement M
     (condition-same-length-4 t)
     (condition-returns-4 t))
     (λ t. negation-lts.spec (
-      word-reads.Asked,
-      word-reads.Learnt,
+      whole-word-reads.Asked,
+      whole-word-reads.Learnt,
       term-reads.Asked,
       term-reads.Learnt,
       operand-below t,
@@ -921,7 +921,7 @@ pub +condition+negation+operand-spec : {M : Type 1} → statement M
     (negation-at t)
     negation.Post
     (negation-returns t)
-    (negation-word-requires t)
+    (negation-whole-word-requires t)
     (negation-slice-aggregate-term t)
     (negation-term-requires t)
     (negation-same-length t)

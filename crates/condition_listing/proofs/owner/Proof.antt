@@ -1,6 +1,7 @@
-use Prim.Native.Nat.{_-_, _≤_, _<_}
+use Prim.Native.Nat.{_+_, _-_, _*_, _≤_, _<_}
 use native.Mathlib.Omega.{arith}
 use borrow.Author.Needs.{needs}
+use lib.ListN.{length}
 use Rattle.model.specs.Image.{wordAt}
 use Rattle.laws.proofs.Places.{field}
 use Rattle.condition_listing.proofs.Names.{Among, among-all, among-next, among-found, among-none}
@@ -18,22 +19,29 @@ loop-holds c =
     let s = c .before in
     (search needs, among-all (wordAt (s .args .img .now)) (s .args .t) (s .pre .0))
 
+-- the row lies in the image
+within : (c : tie.After-input-row Inv-loop μ-loop) → (c .input-row .result + 7) * 4 ≤ length (c .before .before .before .before .args .img .now)
+within c =
+    let s = c .before .before .before .before in
+    let h = s .pre .1 in
+    omega (arith, c .input-row .ensures .0 (wordAt (s .args .img .now)) h, h .input-table, s .pre .2 .inputs, c .before .loop-test .taken)
+
 input-row-requires : tie.Need-input-row-requires Inv-loop μ-loop
 input-row-requires c κs =
     let h = c .before .before .before .pre .1 in
     omega (arith, h .input-table, h .fits 9, h .inputs, h .fits 2)
 
-add-word : tie.Need-add-word Inv-loop μ-loop
-add-word c = search needs
+add-whole-word : tie.Need-add-whole-word Inv-loop μ-loop
+add-whole-word c = search needs
 
-word-requires : tie.Need-word-requires Inv-loop μ-loop
-word-requires c κs = search needs
+whole-word-requires : tie.Need-whole-word-requires Inv-loop μ-loop
+whole-word-requires c κs = omega (arith, within c)
 
-add-word-2 : tie.Need-add-word-2 Inv-loop μ-loop
-add-word-2 c = search needs
+add-whole-word-2 : tie.Need-add-whole-word-2 Inv-loop μ-loop
+add-whole-word-2 c = search needs
 
-word-requires-2 : tie.Need-word-requires-2 Inv-loop μ-loop
-word-requires-2 c κs = search needs
+whole-word-requires-2 : tie.Need-whole-word-requires-2 Inv-loop μ-loop
+whole-word-requires-2 c κs = omega (arith, within (c .before))
 
 add-if1 : tie.Need-add-if1 Inv-loop μ-loop
 add-if1 c = search needs
@@ -49,7 +57,7 @@ returns c =
     let w = wordAt (s .args .img .now) in
     let o = row .input-row .ensures .0 w hd in
     let below : l .i < w 2 = omega (arith, hd .inputs) in (
-      λ h. among-found w (s .args .t) (l .i) _ _ below (field w _ _ 5 _ (first .word .ensures .0) o) (field w _ _ 6 _ (second .word2 .ensures .0) o)
+      λ h. among-found w (s .args .t) (l .i) _ _ below (field w _ _ 5 _ (first .whole-word .ensures .0) o) (field w _ _ 6 _ (second .whole-word2 .ensures .0) o)
           (c .if1 .taken) (l .inv .1),
       λ h. absurd (omega (arith, hd .inputs)),
     )
@@ -72,7 +80,7 @@ loop-again c =
     let o = row .input-row .ensures .0 w hd in
     let below : l .i < w 2 = omega (arith, hd .inputs) in (
       search needs,
-      among-next w (s .args .t) (l .i) _ _ below (field w _ _ 5 _ (first .word .ensures .0) o) (field w _ _ 6 _ (second .word2 .ensures .0) o)
+      among-next w (s .args .t) (l .i) _ _ below (field w _ _ 5 _ (first .whole-word .ensures .0) o) (field w _ _ 6 _ (second .whole-word2 .ensures .0) o)
           (c .if1 .left) (l .inv .1),
     )
 
@@ -94,10 +102,10 @@ owner-spec =
     μ-loop
     loop-holds
     input-row-requires
-    add-word
-    word-requires
-    add-word-2
-    word-requires-2
+    add-whole-word
+    whole-word-requires
+    add-whole-word-2
+    whole-word-requires-2
     add-if1
     returns
     add-i

@@ -1,12 +1,35 @@
 use mathlib.Core.Path.{_≡_}
-use Prim.Native.Nat.{_+_}
+use Prim.Native.Nat.{_+_, _*_, _≤_}
 use native.Mathlib.Omega.{arith}
-use Rattle.model.specs.Image.{wordAt, ruleAt, rulePlace}
+use lib.ListN.{length}
+use Rattle.model.specs.Image.{wordAt, ruleAt}
 use Rattle.laws.proofs.Places.{field}
+use Rattle.layout.specs.Tables.{wordCount}
+use Rattle.layout.proofs.Parts.{wordFirst}
+use Rattle.layout.proofs.Within.{words-within}
 use Rattle.condition_listing.proofs.Rules.{rule-spans}
 use borrow.Author.Needs.{needs}
 use Rattle.condition_listing.proofs.rule_condition.Statement.{statement}
 use Rattle.condition_listing.proofs.rule_condition.Tie as tie
+
+-- the row lies in the image
+within : (c : tie.After-rule-row) → (c .rule-row .result + 6) * 4 ≤ length (c .before .before .before .args .img .now)
+within c =
+    let s = c .before .before .before in
+    let h = s .pre .1 in
+    omega (arith, c .rule-row .ensures .0 (wordAt (s .args .img .now)) h, h .rule-table, s .pre .3 .rules, h .rules, s .pre .2)
+
+-- the words of the rule's row that were read
+reads-are : (c : tie.After-whole-word2) →
+    let s = c .before .before .before .before .before in
+    let w = wordAt (s .args .img .now) in
+    (c .before .whole-word .result ≡ wordFirst w (s .args .i)) × (c .whole-word2 .result ≡ wordCount w (s .args .i))
+reads-are c =
+    let row = c .before .before in
+    let s = row .before .before .before in
+    let w = wordAt (s .args .img .now) in
+    let o = row .rule-row .ensures .0 w (s .pre .1) in
+    (field w _ _ 1 _ (c .before .whole-word .ensures .0) o, field w _ _ 2 _ (c .whole-word2 .ensures .0) o)
 
 rule-row-requires : tie.Need-rule-row-requires
 rule-row-requires c κs =
@@ -14,17 +37,17 @@ rule-row-requires c κs =
     let hd = s .pre .1 in
     omega (arith, hd .rule-table, hd .fits 13, hd .fits 6, s .pre .2)
 
-add-word : tie.Need-add-word
-add-word c = search needs
+add-whole-word : tie.Need-add-whole-word
+add-whole-word c = search needs
 
-word-requires : tie.Need-word-requires
-word-requires c κs = search needs
+whole-word-requires : tie.Need-whole-word-requires
+whole-word-requires c κs = omega (arith, within c)
 
-add-word-2 : tie.Need-add-word-2
-add-word-2 c = search needs
+add-whole-word-2 : tie.Need-add-whole-word-2
+add-whole-word-2 c = search needs
 
-word-requires-2 : tie.Need-word-requires-2
-word-requires-2 c κs = search needs
+whole-word-requires-2 : tie.Need-whole-word-requires-2
+whole-word-requires-2 c κs = omega (arith, within (c .before))
 
 add-condition : tie.Need-add-condition
 add-condition c =
@@ -38,9 +61,12 @@ add-condition-2 c =
 
 condition-requires : tie.Need-condition-requires
 condition-requires c κs =
-    let s = c .before .before .before .before .before .before .before in
+    let v = c .before .before in
+    let s = v .before .before .before .before .before in
     let hd = s .pre .1 in
-    (s .pre .0, hd, omega (arith, hd .word-table, hd .fits 14))
+    let r = reads-are v in
+    let l = words-within (wordAt (s .args .img .now)) (s .pre .0 .rules) (s .args .i) (s .pre .2) in
+    (s .pre .0, hd, omega (arith, r .0, r .1, l, hd .words, s .pre .3 .words), s .pre .3)
 
 same-length : tie.Need-same-length
 same-length c = search needs
@@ -48,27 +74,23 @@ same-length c = search needs
 returns : tie.Need-returns
 returns c =
     let p = c .before .before in
-    let second = p .before .before .before in
-    let first = second .before in
-    let row = first .before in
-    let s = row .before .before .before in
-    let hd = s .pre .1 in
+    let v = p .before .before .before in
+    let s = v .before .before .before .before .before in
     let w = wordAt (s .args .img .now) in
-    let o = row .rule-row .ensures .0 w hd in
-    let at : s .args .h .«word_table» + first .word .result ≡ w 14 + w (rulePlace w (s .args .i) + 1)
-    = λ j. hd .word-table j + field w _ _ 1 _ (first .word .ensures .0) o j in
-    let n = field w _ _ 2 _ (second .word2 .ensures .0) o in
-    p .condition .ensures .0 _ (ruleAt w (s .args .i) .condition) (rule-spans w (s .pre .0) (s .args .i) (s .pre .2) _ _ at n) .1
+    let r = reads-are v in
+    let at : s .args .h .«word_table» + v .before .whole-word .result ≡ w 14 + wordFirst w (s .args .i)
+    = λ j. s .pre .1 .word-table j + r .0 j in
+    p .condition .ensures .0 _ (ruleAt w (s .args .i) .condition) (rule-spans w (s .pre .0) (s .args .i) (s .pre .2) _ _ at (r .1)) .1
 
 pub rule-condition-spec : {M : Type 1} → statement M
 rule-condition-spec =
     tie.close
     (tie.spec
     rule-row-requires
-    add-word
-    word-requires
-    add-word-2
-    word-requires-2
+    add-whole-word
+    whole-word-requires
+    add-whole-word-2
+    whole-word-requires-2
     add-condition
     add-condition-2
     condition-requires

@@ -6,9 +6,6 @@ use lib.Signed.{leZ}
 use Rattle.crisp.proofs.Laws.{bounds}
 use Rattle.crisp.proofs.in_bounds.Statement.{statement}
 use Rattle.crisp.proofs.in_bounds.Tie as tie
-use Rattle.crisp.proofs.in_bounds.Reads as reads
-use Rattle.crisp.proofs.in_bounds.Lts as lts
-use Rattle.crisp.proofs.not_above.Reads as not-above-reads
 
 not-above-requires : tie.Need-not-above-requires
 not-above-requires c κs = search needs

@@ -2,9 +2,6 @@ use mathlib.Core.Path.{sym, _∙_}
 use borrow.Author.Needs.{needs}
 use Rattle.crisp.proofs.in_range.Statement.{statement}
 use Rattle.crisp.proofs.in_range.Tie as tie
-use Rattle.crisp.proofs.in_range.Reads as reads
-use Rattle.crisp.proofs.in_range.Lts as lts
-use Rattle.crisp.proofs.not_above.Reads as not-above-reads
 
 not-above-requires : tie.Need-not-above-requires
 not-above-requires c κs = search needs

@@ -2,8 +2,6 @@ use mathlib.Core.Path.{refl}
 use lib.Ieee.{ofBits}
 use Rattle.defuzzification.proofs.no_answer.Statement.{statement}
 use Rattle.defuzzification.proofs.no_answer.Tie as tie
-use Rattle.defuzzification.proofs.no_answer.Reads as reads
-use Rattle.defuzzification.proofs.no_answer.Lts as lts
 
 returns : tie.Need-returns
 unfolding ofBits

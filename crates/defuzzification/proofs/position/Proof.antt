@@ -1,41 +1,46 @@
 use borrow.Author.Needs.{needs}
-use mathlib.Core.Path.{ap, _∙_}
+use mathlib.Core.Path.{_≡_, ap, _∙_}
 use Prim.Native.Nat.{ℕ, _+_}
 use native.Mathlib.Omega.{arith}
-use Rattle.model.specs.Image.{wordAt, crispOf, pointPlace, singletonAt, pointAt}
+use Rattle.model.specs.Image.{wordAt, termPlace, singletonAt, pointAt}
+use Rattle.layout.proofs.Within.{point-within}
 use Rattle.defuzzification.proofs.position.Statement.{statement}
 use Rattle.defuzzification.proofs.position.Tie as tie
-use Rattle.defuzzification.proofs.position.Reads as reads
-use Rattle.defuzzification.proofs.position.Lts as lts
-use Rattle.words.proofs.crisp_at.Reads as crisp-at-reads
-use Rattle.words.proofs.word.Reads as word-reads
+
+-- the term's point
+read : (c : tie.After-whole-word) →
+    let s = c .before .before .before in
+    let w = wordAt (s .args .img .now) in
+    c .whole-word .result ≡ w (termPlace w (s .args .t) + 4)
+read c =
+    let s = c .before .before .before in
+    let w = wordAt (s .args .img .now) in
+    c .whole-word .ensures .0 ∙ ap (λ (o : ℕ). w (o + 4)) (c .before .term-row .ensures .0 w (s .pre .1))
 
 term-row-requires : tie.Need-term-row-requires
-term-row-requires c κs = let h = c .before .pre .0 in omega (arith, h .term-table, h .fits 11)
+term-row-requires c κs = let h = c .before .pre .1 in omega (arith, h .term-table, h .fits 11, h .terms, h .fits 4)
 
-add-word : tie.Need-add-word
-add-word c = search needs
+add-whole-word : tie.Need-add-whole-word
+add-whole-word c = search needs
 
-word-requires : tie.Need-word-requires
-word-requires c κs = search needs
+whole-word-requires : tie.Need-whole-word-requires
+whole-word-requires c κs =
+    let s = c .before .before in
+    let h = s .pre .1 in
+    omega (arith, c .term-row .ensures .0 (wordAt (s .args .img .now)) h, h .term-table, s .pre .2 .terms)
 
-point-row-requires : tie.Need-point-row-requires
-point-row-requires c κs = let h = c .before .before .before .pre .0 in omega (arith, h .point-table, h .fits 12, c .word .ensures .1)
-
-crisp-at-requires : tie.Need-crisp-at-requires
-crisp-at-requires c κs = search needs
+place-at-requires : tie.Need-place-at-requires
+place-at-requires c κs =
+    let s = c .before .before .before in
+    let h = s .pre .1 in
+    let few = point-within (wordAt (s .args .img .now)) (s .pre .0 .frame) (s .args .t) (s .pre .3) (omega (arith, h .terms)) in
+    (h, s .pre .2, omega (arith, read c, few, h .points))
 
 returns : tie.Need-returns
-unfolding singletonAt pointAt
+unfolding singletonAt
 returns c =
-    let row = c .before .before .before in
-    let s = row .before .before in
-    let w = wordAt (s .args .img .now) in
-    let first = c .before .before .word .ensures .0 ∙ ap (λ (o : ℕ). w (o + 4)) (row .term-row .ensures .0 w (s .pre .0)) in
-    let place = c .before .point-row .ensures .0 w (s .pre .0) ∙ ap (pointPlace w) first in
-    c .crisp-at .ensures ∙ ap (λ (o : ℕ). crispOf (w o)) place
+    let w = wordAt (c .before .before .before .before .args .img .now) in
+    c .place-at .ensures ∙ ap (λ (k : ℕ). pointAt w k .at) (read (c .before))
 
 pub position-spec : {M : Type 1} → statement M
-position-spec =
-    tie.close
-    (tie.spec term-row-requires add-word word-requires point-row-requires crisp-at-requires returns)
+position-spec = tie.close (tie.spec term-row-requires add-whole-word whole-word-requires place-at-requires returns)

@@ -2,8 +2,6 @@ use borrow.Author.Tests.{lt-leb, le-leb}
 use Rattle.model.specs.WellFormed.{unitOk}
 use Rattle.degrees.proofs.is_unit.Statement.{statement}
 use Rattle.degrees.proofs.is_unit.Tie as tie
-use Rattle.degrees.proofs.is_unit.Reads as reads
-use Rattle.degrees.proofs.is_unit.Lts as lts
 
 returns : tie.Need-returns
 unfolding unitOk

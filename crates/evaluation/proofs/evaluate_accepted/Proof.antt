@@ -19,28 +19,28 @@ use Rattle.evaluation.proofs.Laws.{tells-as, called-12, called-13, call
 use Rattle.evaluation.proofs.evaluate_accepted.Statement.{statement}
 use Rattle.evaluation.proofs.evaluate_accepted.Tie as tie
 
-inputs-are : (s : tie.Start) → length (decode (wordAt (s .args .img .now)) .inputs) ≡ s .args .h .inputs
-inputs-are s = inputs-count (wordAt (s .args .img .now)) ∙ sym (s .pre .1 .inputs)
+inputs-are : (s : tie.Start) → length (decode (wordAt (s .args .img .now)) .inputs) ≡ s .args .a .header .inputs
+inputs-are s = inputs-count (wordAt (s .args .img .now)) ∙ sym (s .pre .heads .inputs)
 
 count-right : (c : tie.Else1) →
-    let a = c .before .before .before .args in
+    let a = c .before .before .before .before .args in
     a .n ≡ length (decode (wordAt (a .img .now)) .inputs)
-count-right c = c .if1 .left ∙ sym (inputs-are (c .before .before .before))
+count-right c = c .if1 .left ∙ sym (inputs-are (c .before .before .before .before))
 
 held-right : (c : tie.Else2) →
-    let a = c .before .before .before .before .args in
+    let a = c .before .before .before .before .before .args in
     heldOk (decode (wordAt (a .img .now)) .outputs) (figuresOf (a .before)) ≡ true
 held-right c = let k = c .before .before .record-ok in sym (k .ensures) ∙ not-false (k .result) (c .if2 .left)
 
 record-ok-requires : tie.Need-record-ok-requires
-record-ok-requires c κs = (c .before .pre .0, c .before .pre .1)
+record-ok-requires c κs = search needs
 
 refused-requires : tie.Need-refused-requires
 refused-requires c κs = search needs
 
 returns : tie.Need-returns
 returns c =
-    let s = c .before .before .before .before in
+    let s = c .before .before .before .before .before in
     let a = s .args in
     let e = called-12 (decode (wordAt (a .img .now))) (a .rs) (a .n) (a .before) (λ e. c .before .if1 .taken (e ∙ inputs-are s)) in
     tells-as _ (a .before) _ _ e (c .refused .ensures)
@@ -52,12 +52,12 @@ returns-2 : tie.Need-returns-2
 returns-2 c =
     let one = c .before .before in
     let k = one .before .record-ok in
-    let a = one .before .before .before .args in
+    let a = one .before .before .before .before .args in
     let no = sym (k .ensures) ∙ not-true (k .result) (c .before .if2 .taken) in
     tells-as _ (a .before) _ _ (called-13 (decode (wordAt (a .img .now))) (a .rs) (a .n) (a .before) (count-right one) no) (c .refused2 .ensures)
 
 input-values-requires : tie.Need-input-values-requires
-input-values-requires c κs = let s = c .before .before .before .before in (s .pre .0, s .pre .1)
+input-values-requires c κs = search needs
 
 refused-requires-3 : tie.Need-refused-requires-3
 refused-requires-3 c κs = search needs
@@ -67,7 +67,7 @@ returns-3 c =
     let v = c .before .before in
     let two = v .before in
     let one = two .before in
-    let s = one .before .before .before in
+    let s = one .before .before .before .before in
     let a = s .args in
     let b = decode (wordAt (a .img .now)) in
     let ew = v .input-values .ensures .0 in
@@ -76,21 +76,16 @@ returns-3 c =
     tells-as _ (a .before) _ _ e (c .refused3 .ensures)
 
 term-degrees-requires : tie.Need-term-degrees-requires
-term-degrees-requires c κs =
-    let v = c .before .before in
-    let s = v .before .before .before .before .before in
-    (s .pre .0, s .pre .1, v .input-values .ensures .1 .1)
+term-degrees-requires c κs = search needs
 
 heights-requires : tie.Need-heights-requires
-heights-requires c κs =
-    let s = c .before .before .before .before .before .before .before .before in
-    (s .pre .0, s .pre .1, s .pre .2, c .term-degrees .ensures .1)
+heights-requires c κs = search needs
 
 outputs-requires : tie.Need-outputs-requires
 outputs-requires c κs =
-    let s = c .before .before .before .before .before .before .before .before .before in
+    let s = c .before .before .before .before .before .before .before .before .before .before in
     let hs = c .heights .result in
-    ((s .pre .0, s .pre .1), (s .pre .2, (λ k. subst (λ (x : ℕ). x ≤ M) (sym (number-at hs k)) (c .heights .ensures .1 k))))
+    ((s .pre .sound, s .pre .heads, s .pre .holds), (s .pre .input-terms, (λ k. subst (λ (x : ℕ). x ≤ M) (sym (number-at hs k)) (c .heights .ensures .1 k))))
 
 returns-4 : tie.Need-returns-4
 returns-4 c =
@@ -101,13 +96,13 @@ returns-4 c =
     let v = i .before in
     let two = v .before in
     let one = two .before in
-    let s = one .before .before .before in
+    let s = one .before .before .before .before in
     let a = s .args in
     let w = wordAt (a .img .now) in
     let b = decode w in
     let u = v .input-values in
     let all : length (b .inputs) ≤ length (valuesRead (b .inputs) (a .rs)) = omega (arith, inputs-are s, u .ensures .0, i .if3 .left) in
-    let g = answers-are w (s .pre .0) (a .rs) (a .before) (a .m) (s .pre .2) (u .result .at) (d .term-degrees .result) (p .heights .result) all
+    let g = answers-are w (s .pre .sound) (a .rs) (a .before) _ (s .pre .input-terms) (u .result .at) (d .term-degrees .result) (p .heights .result) all
     (u .ensures .1 .0) (d .term-degrees .ensures .0) (p .heights .ensures .0) in
     let r = o .outputs .ensures in
     tells-as _ (a .before) _ _ (called-ok b (a .rs) (a .n) (a .before) (count-right one) (held-right two) all)

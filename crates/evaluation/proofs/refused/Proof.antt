@@ -4,9 +4,6 @@ use Rattle.evaluation.proofs.Laws.{refused-tells}
 use borrow.Author.Needs.{needs}
 use Rattle.evaluation.proofs.refused.Statement.{statement}
 use Rattle.evaluation.proofs.refused.Tie as tie
-use Rattle.evaluation.proofs.refused.Reads as reads
-use Rattle.evaluation.proofs.refused.Lts as lts
-use Rattle.defuzzification.proofs.no_answer.Reads as no-answer-reads
 
 no-answer-requires : tie.Need-no-answer-requires
 no-answer-requires c κs = search needs

@@ -40,7 +40,7 @@ loop-holds c =
     (search needs, omega (arith, s .pre .1 .inputs, few), refl, omega arith, refl, each-start InCrisp (pos 0) 8 (omega arith))
 
 input-type-requires : tie.Need-input-type-requires Inv-loop μ-loop
-input-type-requires c κs = let l = c .before in (l .before .before .pre .1, omega (arith, l .loop .inv))
+input-type-requires c κs = let s = c .before .before .before in (s .pre .1, s .pre .2, omega arith)
 
 mul-reading : tie.Need-mul-reading Inv-loop μ-loop
 mul-reading c = search needs

@@ -18,11 +18,12 @@ use Rattle.model.specs.WellFormed.{termOk}
 use Rattle.laws.proofs.Arrays.{each-start, each-set, map-set}
 use Rattle.laws.proofs.Lists.{all-at}
 use Rattle.crisp.specs.Crisp.{InCrisp}
-use Rattle.layout.specs.Tables.{sums, inputCount}
+use Rattle.layout.specs.Tables.{sums, inputCount, inputTermsIn}
+use Rattle.layout.proofs.Within.{input-terms-within}
 use Rattle.degrees.specs.Tables.{numbers, Low}
 use Rattle.fuzzification.specs.Filled.{filled, figures}
 use Rattle.fuzzification.proofs.Fill.{filled-sets, one-more}
-use Rattle.fuzzification.proofs.Entries.{input-limit, accepted-terms, sums-last}
+use Rattle.fuzzification.proofs.Entries.{input-limit, first-is, accepted-terms, sums-last}
 use Rattle.fuzzification.proofs.Degrees.{degreesAt, length-at, term-more, length-degrees, input-more}
 use Rattle.fuzzification.proofs.term_degrees.Statement.{statement}
 use Rattle.fuzzification.proofs.term_degrees.Tie as tie
@@ -43,24 +44,33 @@ Inv-loop img h xs n ds₀ first₀ i₀ ds first i =
 abbrev μ-loop : tie.MeasureT-loop
 μ-loop img h xs n ds₀ first₀ i₀ ds first i = n - i
 
-abbrev start : tie.After-word Inv-loop2 μ-loop2 Inv-loop μ-loop → tie.Start Inv-loop2 μ-loop2 Inv-loop μ-loop
+abbrev start : tie.After-whole-word Inv-loop2 μ-loop2 Inv-loop μ-loop → tie.Start Inv-loop2 μ-loop2 Inv-loop μ-loop
 start c = c .before .before .before .before .before
 
-below : (c : tie.After-word Inv-loop2 μ-loop2 Inv-loop μ-loop) → c .before .before .before .loop .i < wordAt (start c .args .img .now) 2
+below : (c : tie.After-whole-word Inv-loop2 μ-loop2 Inv-loop μ-loop) → c .before .before .before .loop .i < wordAt (start c .args .img .now) 2
 below c = omega (arith, c .before .before .loop-test .taken, start c .pre .1 .inputs)
 
-count : (c : tie.After-word Inv-loop2 μ-loop2 Inv-loop μ-loop) → c .word .result ≡ inputCount (wordAt (start c .args .img .now)) (c .before .before .before .loop .i)
+count : (c : tie.After-whole-word Inv-loop2 μ-loop2 Inv-loop μ-loop) → c .whole-word .result ≡ inputCount (wordAt (start c .args .img .now)) (c .before .before .before .loop .i)
 count c =
     let w = wordAt (start c .args .img .now) in
-    c .word .ensures .0 ∙ ap (λ (o : ℕ). w (o + 6)) (c .before .input-row .ensures .0 w (start c .pre .1))
+    c .whole-word .ensures .0 ∙ ap (λ (o : ℕ). w (o + 6)) (c .before .input-row .ensures .0 w (start c .pre .1))
 
 -- the terms of an input: few, and in order
-accepted : (c : tie.After-word Inv-loop2 μ-loop2 Inv-loop μ-loop) →
+accepted : (c : tie.After-whole-word Inv-loop2 μ-loop2 Inv-loop μ-loop) →
     let l = c .before .before .before .loop in
-    (c .word .result ≤ 7) × (all termOk (tab (termAt (wordAt (start c .args .img .now))) (c .word .result) (l .first)) ≡ true)
+    (c .whole-word .result ≤ 7) × (all termOk (tab (termAt (wordAt (start c .args .img .now))) (c .whole-word .result) (l .first)) ≡ true)
 accepted c =
     let l = c .before .before .before .loop in
-    accepted-terms (wordAt (start c .args .img .now)) (l .i) (l .first) (c .word .result) (start c .pre .0) (below c) (l .inv .2) (count c)
+    accepted-terms (wordAt (start c .args .img .now)) (l .i) (l .first) (c .whole-word .result) (start c .pre .0) (below c) (l .inv .2) (count c)
+
+-- they are input terms
+among : (c : tie.After-whole-word Inv-loop2 μ-loop2 Inv-loop μ-loop) →
+    c .before .before .before .loop .first + c .whole-word .result ≤ inputTermsIn (wordAt (start c .args .img .now))
+among c =
+    let l = c .before .before .before .loop in
+    let w = wordAt (start c .args .img .now) in
+    let s = start c .pre .0 in
+    omega (arith, l .inv .2, count c, first-is w (l .i) s (below c), input-terms-within w (s .frame) (l .i) (below c) .0)
 
 loop-holds : tie.Need-loop-holds Inv-loop2 μ-loop2 Inv-loop μ-loop
 unfolding tab termDegrees sums
@@ -72,11 +82,14 @@ loop-holds c =
 input-row-requires : tie.Need-input-row-requires Inv-loop2 μ-loop2 Inv-loop μ-loop
 input-row-requires c κs = let h = c .before .before .before .pre .1 in omega (arith, h .input-table, h .fits 9, c .before .loop .inv)
 
-add-word : tie.Need-add-word Inv-loop2 μ-loop2 Inv-loop μ-loop
-add-word c = search needs
+add-whole-word : tie.Need-add-whole-word Inv-loop2 μ-loop2 Inv-loop μ-loop
+add-whole-word c = search needs
 
-word-requires : tie.Need-word-requires Inv-loop2 μ-loop2 Inv-loop μ-loop
-word-requires c κs = search needs
+whole-word-requires : tie.Need-whole-word-requires Inv-loop2 μ-loop2 Inv-loop μ-loop
+whole-word-requires c κs =
+    let s = c .before .before .before .before in
+    let h = s .pre .1 in
+    omega (arith, c .input-row .ensures .0 (wordAt (s .args .img .now)) h, h .input-table, s .pre .3 .inputs, c .before .loop-test .taken)
 
 mul-x : tie.Need-mul-x Inv-loop2 μ-loop2 Inv-loop μ-loop
 mul-x c = search needs
@@ -101,7 +114,7 @@ input-term-degree-requires c κs =
     let t = accepted r in
     let ok = all-at termOk (termAt (wordAt (s .args .img .now))) _ (l .first) (c .before .loop2 .k) (omega arith) (t .1) in
     let x = subst InCrisp (List·getD-map (λ (y : Crisp). y .0) (s .args .t3) (l .i) (record { 0 = pos 0 })) (s .pre .2 (l .i)) in
-    ((s .pre .1, omega (arith, t .0, l .inv)), (x, ok))
+    ((s .pre .1, s .pre .3, s .pre .0 .frame, omega (arith, among r)), (x, ok))
 
 add-ds : tie.Need-add-ds Inv-loop2 μ-loop2 Inv-loop μ-loop
 add-ds c = search needs
@@ -158,7 +171,7 @@ loop-again c =
     let ex = sym (List·getD-map (λ (x : Crisp). x .0) (s .args .t3) i (record { 0 = pos 0 })) in
     let n = length-map (s .args .t3) (λ (x : Crisp). x .0) in
     let q : 0 + i ≡ i = omega arith in
-    let all-read : g .k ≡ r .word .result = omega arith in (
+    let all-read : g .k ≡ r .whole-word .result = omega arith in (
       search needs,
       search needs,
       omega (arith, l .inv .2, e, sums-last (inputCount w) i 0, ap (inputCount w) q),
@@ -195,8 +208,8 @@ term-degrees-spec =
     μ-loop
     loop-holds
     input-row-requires
-    add-word
-    word-requires
+    add-whole-word
+    whole-word-requires
     mul-x
     array-copy-out-x
     loop2-holds

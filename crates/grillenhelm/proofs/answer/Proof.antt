@@ -3,9 +3,6 @@ use mir.ValLaws.{toZ-ofZ}
 use borrow.Author.Needs.{needs}
 use Rattle.grillenhelm.proofs.answer.Statement.{statement}
 use Rattle.grillenhelm.proofs.answer.Tie as tie
-use Rattle.grillenhelm.proofs.answer.Reads as reads
-use Rattle.grillenhelm.proofs.answer.Lts as lts
-use Rattle.grillenhelm.proofs.mark_number.Reads as mark-number-reads
 
 mark-number-requires : tie.Need-mark-number-requires
 mark-number-requires c κs = search needs

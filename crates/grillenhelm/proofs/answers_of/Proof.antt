@@ -16,9 +16,6 @@ use Rattle.grillenhelm.specs.declared.GrillenhelmAnswer.{GrillenhelmAnsw
 use Rattle.grillenhelm.proofs.Laws.{all-told}
 use Rattle.grillenhelm.proofs.answers_of.Statement.{statement}
 use Rattle.grillenhelm.proofs.answers_of.Tie as tie
-use Rattle.grillenhelm.proofs.answers_of.Reads as reads
-use Rattle.grillenhelm.proofs.answers_of.Lts as lts
-use Rattle.grillenhelm.proofs.answer.Reads as answer-reads
 
 -- what an element past the end would be
 abbrev anAnswer : Answer

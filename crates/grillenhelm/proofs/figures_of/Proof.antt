@@ -13,8 +13,6 @@ use mir.Val.{toZ, ofZ}
 use mir.ValLaws.{toZ-ofZ}
 use Rattle.grillenhelm.proofs.figures_of.Statement.{statement}
 use Rattle.grillenhelm.proofs.figures_of.Tie as tie
-use Rattle.grillenhelm.proofs.figures_of.Reads as reads
-use Rattle.grillenhelm.proofs.figures_of.Lts as lts
 
 abbrev Inv-loop : tie.InvT-loop
 Inv-loop figures r₀ i₀ r i =

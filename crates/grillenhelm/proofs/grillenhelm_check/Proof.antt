@@ -5,10 +5,6 @@ use Rattle.grillenhelm.proofs.Laws.{told-then}
 use borrow.Author.Needs.{needs}
 use Rattle.grillenhelm.proofs.grillenhelm_check.Statement.{statement}
 use Rattle.grillenhelm.proofs.grillenhelm_check.Tie as tie
-use Rattle.grillenhelm.proofs.grillenhelm_check.Reads as reads
-use Rattle.grillenhelm.proofs.grillenhelm_check.Lts as lts
-use Rattle.grillenhelm.proofs.verdict.Reads as verdict-reads
-use Rattle.load.proofs.check.Reads as check-reads
 
 check-requires : tie.Need-check-requires
 check-requires c κs = search needs

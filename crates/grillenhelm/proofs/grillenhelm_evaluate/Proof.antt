@@ -8,14 +8,6 @@ use Rattle.grillenhelm.proofs.Laws.{crossed-tells}
 use borrow.Author.Needs.{needs}
 use Rattle.grillenhelm.proofs.grillenhelm_evaluate.Statement.{statement}
 use Rattle.grillenhelm.proofs.grillenhelm_evaluate.Tie as tie
-use Rattle.grillenhelm.proofs.grillenhelm_evaluate.Reads as reads
-use Rattle.grillenhelm.proofs.grillenhelm_evaluate.Lts as lts
-use Rattle.evaluation.proofs.evaluate.Reads as evaluate-reads
-use Rattle.grillenhelm.proofs.answers_of.Reads as answers-of-reads
-use Rattle.grillenhelm.proofs.figures_of.Reads as figures-of-reads
-use Rattle.grillenhelm.proofs.readings_of.Reads as readings-of-reads
-use Rattle.grillenhelm.proofs.record_of.Reads as record-of-reads
-use Rattle.grillenhelm.proofs.verdict.Reads as verdict-reads
 
 record-of-requires : tie.Need-record-of-requires
 record-of-requires c κs = search needs

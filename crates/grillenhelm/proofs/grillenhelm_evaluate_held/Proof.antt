@@ -1,8 +1,5 @@
 use Rattle.grillenhelm.proofs.grillenhelm_evaluate_held.Statement.{statement}
 use Rattle.grillenhelm.proofs.grillenhelm_evaluate_held.Tie as tie
-use Rattle.grillenhelm.proofs.grillenhelm_evaluate_held.Reads as reads
-use Rattle.grillenhelm.proofs.grillenhelm_evaluate_held.Lts as lts
-use Rattle.grillenhelm.proofs.grillenhelm_evaluate.Reads as grillenhelm-evaluate-reads
 
 grillenhelm-evaluate-requires : tie.Need-grillenhelm-evaluate-requires
 grillenhelm-evaluate-requires c κs = tt

@@ -5,11 +5,6 @@ use Rattle.grillenhelm.proofs.Laws.{told-then}
 use borrow.Author.Needs.{needs}
 use Rattle.grillenhelm.proofs.grillenhelm_fresh.Statement.{statement}
 use Rattle.grillenhelm.proofs.grillenhelm_fresh.Tie as tie
-use Rattle.grillenhelm.proofs.grillenhelm_fresh.Reads as reads
-use Rattle.grillenhelm.proofs.grillenhelm_fresh.Lts as lts
-use Rattle.evaluation.proofs.fresh_of.Reads as fresh-of-reads
-use Rattle.grillenhelm.proofs.figures_of.Reads as figures-of-reads
-use Rattle.grillenhelm.proofs.verdict.Reads as verdict-reads
 
 fresh-of-requires : tie.Need-fresh-of-requires
 fresh-of-requires c κs = search needs

@@ -6,10 +6,6 @@ use Rattle.grillenhelm.proofs.Laws.{told-then}
 use borrow.Author.Needs.{needs}
 use Rattle.grillenhelm.proofs.grillenhelm_list.Statement.{statement}
 use Rattle.grillenhelm.proofs.grillenhelm_list.Tie as tie
-use Rattle.grillenhelm.proofs.grillenhelm_list.Reads as reads
-use Rattle.grillenhelm.proofs.grillenhelm_list.Lts as lts
-use Rattle.grillenhelm.proofs.written.Reads as written-reads
-use Rattle.lister.proofs.list.Reads as list-reads
 
 list-requires : tie.Need-list-requires
 list-requires c κs = search needs

@@ -6,10 +6,6 @@ use Rattle.grillenhelm.proofs.Laws.{told-then}
 use borrow.Author.Needs.{needs}
 use Rattle.grillenhelm.proofs.grillenhelm_read.Statement.{statement}
 use Rattle.grillenhelm.proofs.grillenhelm_read.Tie as tie
-use Rattle.grillenhelm.proofs.grillenhelm_read.Reads as reads
-use Rattle.grillenhelm.proofs.grillenhelm_read.Lts as lts
-use Rattle.grillenhelm.proofs.written.Reads as written-reads
-use Rattle.reader.proofs.read.Reads as read-reads
 
 read-requires : tie.Need-read-requires
 read-requires c κs = search needs

@@ -6,8 +6,6 @@ use mir.Val.{SFits}
 use mir.ValLaws.{toZ-ofZ}
 use Rattle.grillenhelm.proofs.reading.Statement.{statement}
 use Rattle.grillenhelm.proofs.reading.Tie as tie
-use Rattle.grillenhelm.proofs.reading.Reads as reads
-use Rattle.grillenhelm.proofs.reading.Lts as lts
 
 returns : tie.Need-returns
 returns c = let r = c .before .before .args .r in simp (eq-eqb (r .kind) 1 (c .match .keys1))

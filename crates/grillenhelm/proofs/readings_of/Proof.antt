@@ -15,9 +15,6 @@ use Rattle.grillenhelm.specs.Crossing.{readingOf}
 use Rattle.grillenhelm.specs.declared.GrillenhelmReading.{GrillenhelmReading}
 use Rattle.grillenhelm.proofs.readings_of.Statement.{statement}
 use Rattle.grillenhelm.proofs.readings_of.Tie as tie
-use Rattle.grillenhelm.proofs.readings_of.Reads as reads
-use Rattle.grillenhelm.proofs.readings_of.Lts as lts
-use Rattle.grillenhelm.proofs.reading.Reads as reading-reads
 
 -- what an element past the end would be
 abbrev noReading : GrillenhelmReading

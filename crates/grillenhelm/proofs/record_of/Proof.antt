@@ -14,8 +14,6 @@ use mir.ValLaws.{toZ-ofZ}
 use Rattle.model.specs.declared.Crisp.{Crisp}
 use Rattle.grillenhelm.proofs.record_of.Statement.{statement}
 use Rattle.grillenhelm.proofs.record_of.Tie as tie
-use Rattle.grillenhelm.proofs.record_of.Reads as reads
-use Rattle.grillenhelm.proofs.record_of.Lts as lts
 
 abbrev Inv-loop : tie.InvT-loop
 Inv-loop figures r₀ i₀ r i =

@@ -2,9 +2,6 @@ use Rattle.grillenhelm.proofs.Laws.{refusal-told}
 use borrow.Author.Needs.{needs}
 use Rattle.grillenhelm.proofs.refused.Statement.{statement}
 use Rattle.grillenhelm.proofs.refused.Tie as tie
-use Rattle.grillenhelm.proofs.refused.Reads as reads
-use Rattle.grillenhelm.proofs.refused.Lts as lts
-use Rattle.refusals.proofs.number_and_place.Reads as number-and-place-reads
 
 number-and-place-requires : tie.Need-number-and-place-requires
 number-and-place-requires c κs = search needs

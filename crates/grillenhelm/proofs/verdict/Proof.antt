@@ -6,10 +6,6 @@ use Rattle.grillenhelm.proofs.Laws.{any-refusal}
 use borrow.Author.Needs.{needs}
 use Rattle.grillenhelm.proofs.verdict.Statement.{statement}
 use Rattle.grillenhelm.proofs.verdict.Tie as tie
-use Rattle.grillenhelm.proofs.verdict.Reads as reads
-use Rattle.grillenhelm.proofs.verdict.Lts as lts
-use Rattle.grillenhelm.proofs.accepted.Reads as accepted-reads
-use Rattle.grillenhelm.proofs.refused.Reads as refused-reads
 
 enum-told : tie.Need-enum-told
 enum-told c = search needs

@@ -5,10 +5,6 @@ use Rattle.grillenhelm.specs.Crossing.{outcomeOf}
 use borrow.Author.Needs.{needs}
 use Rattle.grillenhelm.proofs.written.Statement.{statement}
 use Rattle.grillenhelm.proofs.written.Tie as tie
-use Rattle.grillenhelm.proofs.written.Reads as reads
-use Rattle.grillenhelm.proofs.written.Lts as lts
-use Rattle.grillenhelm.proofs.accepted.Reads as accepted-reads
-use Rattle.grillenhelm.proofs.refused.Reads as refused-reads
 
 enum-known-w : tie.Need-enum-known-w
 enum-known-w c = search needs

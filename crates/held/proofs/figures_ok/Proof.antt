@@ -12,10 +12,6 @@ use Rattle.laws.proofs.Places.{all-more, all-stop, all-end}
 use Rattle.held.specs.Places.{figureAt, fits}
 use Rattle.held.proofs.figures_ok.Statement.{statement}
 use Rattle.held.proofs.figures_ok.Tie as tie
-use Rattle.held.proofs.figures_ok.Reads as reads
-use Rattle.held.proofs.figures_ok.Lts as lts
-use Rattle.crisp.proofs.in_bounds.Reads as in-bounds-reads
-use Rattle.held.proofs.in_range_of.Reads as in-range-of-reads
 
 abbrev Inv-loop : tie.InvT-loop
 Inv-loop img h figures n i₀ i =
@@ -52,7 +48,7 @@ returns c =
     sym (all-stop (fits w (a .held)) (λ j. j) (a .h .outputs) i (search needs) out) ∙ l .loop .inv .2
 
 in-range-of-requires : tie.Need-in-range-of-requires Inv-loop μ-loop
-in-range-of-requires c κs = let l = c .before .before .before .before in (l .before .before .before .pre .0, omega (arith, l .loop .inv))
+in-range-of-requires c κs = let s = c .before .before .before .before .before .before .before in (s .pre .0, s .pre .2, search needs)
 
 returns-2 : tie.Need-returns-2 Inv-loop μ-loop
 unfolding fits

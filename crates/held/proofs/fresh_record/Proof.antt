@@ -14,9 +14,6 @@ use Rattle.layout.proofs.Sound.{outputs-few}
 use Rattle.held.proofs.Laws.{held-tab}
 use Rattle.held.proofs.fresh_record.Statement.{statement}
 use Rattle.held.proofs.fresh_record.Tie as tie
-use Rattle.held.proofs.fresh_record.Reads as reads
-use Rattle.held.proofs.fresh_record.Lts as lts
-use Rattle.held.proofs.start_of.Reads as start-of-reads
 
 abbrev Inv-loop : tie.InvT-loop
 Inv-loop img h figures₀ n i₀ figures i =
@@ -32,7 +29,7 @@ loop-holds c =
     (search needs, omega (arith, outputs-few (wordAt (s .args .img .now)) (s .pre .0), s .pre .1 .outputs), refl)
 
 start-of-requires : tie.Need-start-of-requires Inv-loop μ-loop
-start-of-requires c κs = let l = c .before in (l .before .before .pre .1, omega (arith, l .loop .inv))
+start-of-requires c κs = let s = c .before .before .before in (s .pre .1, s .pre .2, search needs)
 
 mul-figures : tie.Need-mul-figures Inv-loop μ-loop
 mul-figures c = search needs

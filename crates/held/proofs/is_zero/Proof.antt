@@ -3,10 +3,6 @@ use mathlib.Core.Path.{sym, _∙_}
 use Rattle.held.proofs.Laws.{zero-below, zero-not-below}
 use Rattle.held.proofs.is_zero.Statement.{statement}
 use Rattle.held.proofs.is_zero.Tie as tie
-use Rattle.held.proofs.is_zero.Reads as reads
-use Rattle.held.proofs.is_zero.Lts as lts
-use Rattle.crisp.proofs.less.Reads as less-reads
-use Rattle.crisp.proofs.not_above.Reads as not-above-reads
 
 less-requires : tie.Need-less-requires
 less-requires c κs = search needs

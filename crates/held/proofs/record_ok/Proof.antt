@@ -12,10 +12,6 @@ use Rattle.held.specs.Places.{fits, isZero}
 use Rattle.held.proofs.Laws.{held-tests}
 use Rattle.held.proofs.record_ok.Statement.{statement}
 use Rattle.held.proofs.record_ok.Tie as tie
-use Rattle.held.proofs.record_ok.Reads as reads
-use Rattle.held.proofs.record_ok.Lts as lts
-use Rattle.held.proofs.figures_ok.Reads as figures-ok-reads
-use Rattle.held.proofs.zero_from.Reads as zero-from-reads
 
 few : (s : tie.Start) → s .args .h .outputs ≤ 6
 few s = omega (arith, outputs-few (wordAt (s .args .img .now)) (s .pre .0), s .pre .1 .outputs)
@@ -36,7 +32,7 @@ tests s =
     ∙ (λ j. all (fits w held) (tab (λ x. x) (e j) 0) && all (isZero held) (tab (λ x. x) (6 - e j) (e j)))
 
 figures-ok-requires : tie.Need-figures-ok-requires
-figures-ok-requires c κs = (c .before .pre .1, few (c .before))
+figures-ok-requires c κs = let s = c .before in (s .pre .1, few s, s .pre .2)
 
 returns : tie.Need-returns
 returns c =

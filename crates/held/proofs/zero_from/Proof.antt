@@ -9,9 +9,6 @@ use Rattle.laws.proofs.Places.{all-more, all-stop, all-end}
 use Rattle.held.specs.Places.{isZero}
 use Rattle.held.proofs.zero_from.Statement.{statement}
 use Rattle.held.proofs.zero_from.Tie as tie
-use Rattle.held.proofs.zero_from.Reads as reads
-use Rattle.held.proofs.zero_from.Lts as lts
-use Rattle.held.proofs.is_zero.Reads as is-zero-reads
 
 abbrev Inv-loop : tie.InvT-loop
 Inv-loop n figures i₀ i =

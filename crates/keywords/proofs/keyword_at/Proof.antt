@@ -1,8 +1,8 @@
 use borrow.Author.Needs.{needs}
-use borrow.Author.Tests.{lt-leb}
+use borrow.Author.Tests.{lt-leb, not-true}
 use mathlib.Core.Path.{refl, sym}
 use lib.Dec.{leb}
-use lib.ListN.{length, getD}
+use lib.ListN.{length}
 use Rattle.model.specs.Basic.{all}
 use Rattle.model.specs.Keywords.{keywords}
 use Rattle.keywords.proofs.Laws.{unlike}
@@ -17,14 +17,17 @@ returns-2 : tie.Need-returns-2
 unfolding all
 returns-2 c = (sym (unlike (λ k. leb (length k) 18) (c .before .before .before .args .w .now) (lt-leb _ _ (c .if2 .taken)) keywords refl), search needs)
 
-shared-slice-read-if3 : tie.Need-shared-slice-read-if3
-shared-slice-read-if3 c = search needs
+shared-slice-read-begins : tie.Need-shared-slice-read-begins
+shared-slice-read-begins c = search needs
+
+begins-requires : tie.Need-begins-requires
+begins-requires c κs = search needs
 
 returns-3 : tie.Need-returns-3
-unfolding all
 returns-3 c =
-    let w = c .before .before .before .before .before .args .w .now in
-    (sym (unlike (λ k. leb (getD k 0 0) 87) w (lt-leb _ _ (c .if3 .taken)) keywords refl), search needs)
+    let b = c .before in
+    let w = b .before .before .before .before .before .args .w .now in
+    (sym (b .begins .ensures w refl (not-true _ (c .if3 .taken))), search needs)
 
 shared-slice-read-slot : tie.Need-shared-slice-read-slot
 shared-slice-read-slot c = search needs
@@ -50,7 +53,8 @@ keyword-at-spec =
     (tie.spec
     returns
     returns-2
-    shared-slice-read-if3
+    shared-slice-read-begins
+    begins-requires
     returns-3
     shared-slice-read-slot
     sub-slot

@@ -16,7 +16,9 @@ rule-block-requires : tie.Need-rule-block-requires
 rule-block-requires c κs = search needs
 
 defuzzify-parts-requires : tie.Need-defuzzify-parts-requires
-defuzzify-parts-requires c κs = search needs
+defuzzify-parts-requires c κs =
+    let s = c .before .before .before .before .before .before .before .before .before .before .before .before in
+    (s .pre .1, s .pre .2, s .pre .0 .frame)
 
 fuzzify-parts-requires : tie.Need-fuzzify-parts-requires
 fuzzify-parts-requires c κs = search needs
@@ -41,7 +43,8 @@ input-lines-requires c κs =
     let a = c .before .before .before .before .before .before .before .before in
     let b = a .before .before .before .before .before .before .before .before in
     let d = b .before .before .before .before .before .before .before .before in
-    d .before .before .before .before .before .before .before .before .before .before .pre .1
+    let s = d .before .before .before .before .before .before .before .before .before .before in
+    (s .pre .1, s .pre .2)
 
 slice-aggregate-puts-4 : tie.Need-slice-aggregate-puts-4
 slice-aggregate-puts-4 c = search needs

@@ -1,4 +1,6 @@
+use Prim.Native.Nat.{_+_, _*_, _≤_}
 use native.Mathlib.Omega.{arith}
+use lib.ListN.{length}
 use Rattle.model.specs.Image.{wordAt}
 use Rattle.listing_writer.proofs.Prepends.{joined}
 use Rattle.rule_listing.proofs.Names.{conclusion-text}
@@ -6,25 +8,32 @@ use borrow.Author.Needs.{needs}
 use Rattle.rule_listing.proofs.conclusion.Statement.{statement}
 use Rattle.rule_listing.proofs.conclusion.Tie as tie
 
+-- the row lies in the image
+within : (c : tie.After-conclusion-row) → (c .conclusion-row .result + 2) * 4 ≤ length (c .before .before .before .args .img .now)
+within c =
+    let s = c .before .before .before in
+    let hd = s .pre .1 in
+    omega (arith, c .conclusion-row .ensures .0 (wordAt (s .args .img .now)) hd, hd .conclusion-table, s .pre .4 .conclusions, s .pre .2)
+
 conclusion-row-requires : tie.Need-conclusion-row-requires
 conclusion-row-requires c κs =
     let s = c .before .before in
     let hd = s .pre .1 in
-    omega (arith, hd .conclusion-table, hd .fits 15, s .pre .2)
+    omega (arith, hd .conclusion-table, hd .fits 15, hd .conclusions, hd .fits 8, s .pre .2)
 
-word-requires : tie.Need-word-requires
-word-requires c κs = search needs
+whole-word-requires : tie.Need-whole-word-requires
+whole-word-requires c κs = omega (arith, within c)
 
-add-word : tie.Need-add-word
-add-word c = search needs
+add-whole-word : tie.Need-add-whole-word
+add-whole-word c = search needs
 
-word-requires-2 : tie.Need-word-requires-2
-word-requires-2 c κs = search needs
+whole-word-requires-2 : tie.Need-whole-word-requires-2
+whole-word-requires-2 c κs = omega (arith, within (c .before))
 
 term-row-requires : tie.Need-term-row-requires
 term-row-requires c κs =
     let hd = c .before .before .before .before .before .before .pre .1 in
-    omega (arith, hd .term-table, hd .fits 11, c .before .word2 .ensures .1)
+    omega (arith, hd .term-table, hd .fits 11, c .before .whole-word2 .ensures .1)
 
 name-requires : tie.Need-name-requires
 name-requires c κs = search needs
@@ -39,7 +48,7 @@ output-row-requires : tie.Need-output-row-requires
 output-row-requires c κs =
     let r = c .before .before .before .before .before .before .before .before .before .before .before .before in
     let hd = r .before .before .before .before .pre .1 in
-    omega (arith, hd .output-table, hd .fits 10, r .word .ensures .1)
+    omega (arith, hd .output-table, hd .fits 10, r .whole-word .ensures .1)
 
 name-requires-2 : tie.Need-name-requires-2
 name-requires-2 c κs = search needs
@@ -59,7 +68,7 @@ returns c =
     let w = wordAt (s .args .img .now) in
     let hd = s .pre .1 in
     let e = conclusion-text w (s .pre .0) (s .args .j) _ _ _ _ _ (s .pre .3) (o .conclusion-row .ensures .0 w hd)
-    (r .before .word .ensures .0) (r .word2 .ensures .0) (w3 .before .output-row .ensures .0 w hd) (t .term-row .ensures .0 w hd) in
+    (r .before .whole-word .ensures .0) (r .whole-word2 .ensures .0) (w3 .before .output-row .ensures .0 w hd) (t .term-row .ensures .0 w hd) in
     rw e (joined (joined (w1 .name .ensures) (w2 .puts .ensures)) (w3 .name2 .ensures))
 
 pub conclusion-spec : {M : Type 1} → statement M
@@ -67,9 +76,9 @@ conclusion-spec =
     tie.close
     (tie.spec
     conclusion-row-requires
-    word-requires
-    add-word
-    word-requires-2
+    whole-word-requires
+    add-whole-word
+    whole-word-requires-2
     term-row-requires
     name-requires
     slice-aggregate-puts

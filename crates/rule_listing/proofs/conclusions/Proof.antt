@@ -1,13 +1,15 @@
 use mathlib.Core.Path.{_≡_, refl}
 use mathlib.Core.Bool.{true}
 use mathlib.Core.List.{List, map}
-use Prim.Native.Nat.{ℕ, _+_, _-_, _<_}
+use Prim.Native.Nat.{ℕ, _+_, _-_, _*_, _≤_, _<_}
 use native.Mathlib.Omega.{arith}
 use borrow.Author.Needs.{needs}
 use lib.ListN.{length}
 use Rattle.model.specs.Image.{wordAt, decode, conclusionAt}
 use Rattle.model.specs.Listing.{commaed, conclusionText}
 use Rattle.model.specs.WellFormed.{conclusionOk}
+use Rattle.laws.proofs.Places.{field}
+use Rattle.layout.proofs.Within.{conclusions-within}
 use Rattle.layout.proofs.Rules.{rules-few, rule-conclusions, conclusion-here}
 use Rattle.listing_writer.specs.Prepends.{Prepends}
 use Rattle.listing_writer.proofs.Lists.{from, commaed-empty, commaed-last, commaed-more, commaed-all}
@@ -29,15 +31,34 @@ inside : (s : tie.Start Inv-loop μ-loop) → s .args .i < wordAt (s .args .img 
 inside s = omega (arith, s .pre .2, s .pre .1 .rules)
 
 -- conclusion j of the rule is one of the block's
-here : (c : tie.After-word2 Inv-loop μ-loop) (j : ℕ) →
+here : (c : tie.After-whole-word2 Inv-loop μ-loop) (j : ℕ) →
     let w = wordAt (c .before .before .before .before .before .args .img .now) in
-    j < c .word2 .result → conclusionOk (decode w) (conclusionAt w (c .before .word .result + j)) ≡ true
+    j < c .whole-word2 .result → conclusionOk (decode w) (conclusionAt w (c .before .whole-word .result + j)) ≡ true
 here c j l =
     let r = c .before .before in
     let s = r .before .before .before in
     let w = wordAt (s .args .img .now) in
     let o = r .rule-row .ensures .0 w (s .pre .1) in
-    conclusion-here w (s .pre .0) (s .args .i) (inside s) _ _ _ o (c .before .word .ensures .0) (c .word2 .ensures .0) j l
+    conclusion-here w (s .pre .0) (s .args .i) (inside s) _ _ _ o (c .before .whole-word .ensures .0) (c .whole-word2 .ensures .0) j l
+
+-- the row lies in the image
+within : (c : tie.After-rule-row Inv-loop μ-loop) → (c .rule-row .result + 6) * 4 ≤ length (c .before .before .before .args .img .now)
+within c =
+    let s = c .before .before .before in
+    let hd = s .pre .1 in
+    omega (arith, c .rule-row .ensures .0 (wordAt (s .args .img .now)) hd, hd .rule-table, s .pre .3 .rules, s .pre .2)
+
+-- its conclusions are among the block's
+among : (c : tie.After-whole-word2 Inv-loop μ-loop) →
+    c .before .whole-word .result + c .whole-word2 .result ≤ c .before .before .before .before .before .args .h .conclusions
+among c =
+    let r = c .before .before in
+    let s = r .before .before .before in
+    let w = wordAt (s .args .img .now) in
+    let o = r .rule-row .ensures .0 w (s .pre .1) in
+    let first = field w _ _ 3 _ (c .before .whole-word .ensures .0) o in
+    let count = field w _ _ 4 _ (c .whole-word2 .ensures .0) o in
+    omega (arith, first, count, conclusions-within w (s .pre .0 .rules) (s .args .i) (inside s), s .pre .1 .conclusions)
 
 rule-row-requires : tie.Need-rule-row-requires Inv-loop μ-loop
 rule-row-requires c κs =
@@ -45,17 +66,17 @@ rule-row-requires c κs =
     let hd = s .pre .1 in
     omega (arith, hd .rule-table, hd .fits 13, hd .rules, s .pre .2, rules-few _ (s .pre .0))
 
-add-word : tie.Need-add-word Inv-loop μ-loop
-add-word c = search needs
+add-whole-word : tie.Need-add-whole-word Inv-loop μ-loop
+add-whole-word c = search needs
 
-word-requires : tie.Need-word-requires Inv-loop μ-loop
-word-requires c κs = search needs
+whole-word-requires : tie.Need-whole-word-requires Inv-loop μ-loop
+whole-word-requires c κs = omega (arith, within c)
 
-add-word-2 : tie.Need-add-word-2 Inv-loop μ-loop
-add-word-2 c = search needs
+add-whole-word-2 : tie.Need-add-whole-word-2 Inv-loop μ-loop
+add-whole-word-2 c = search needs
 
-word-requires-2 : tie.Need-word-requires-2 Inv-loop μ-loop
-word-requires-2 c κs = search needs
+whole-word-requires-2 : tie.Need-whole-word-requires-2 Inv-loop μ-loop
+whole-word-requires-2 c κs = omega (arith, within (c .before))
 
 returns : tie.Need-returns Inv-loop μ-loop
 returns c =
@@ -63,7 +84,7 @@ returns c =
     let o = r .before .before in
     let s = o .before .before .before in
     let w = wordAt (s .args .img .now) in
-    let e = rule-conclusions w (s .pre .0) (s .args .i) (inside s) _ _ _ (o .rule-row .ensures .0 w (s .pre .1)) (r .before .word .ensures .0) (r .word2 .ensures .0) in
+    let e = rule-conclusions w (s .pre .0) (s .args .i) (inside s) _ _ _ (o .rule-row .ensures .0 w (s .pre .1)) (r .before .whole-word .ensures .0) (r .whole-word2 .ensures .0) in
     rw (← e) (commaed-empty (conclusionText (decode w)) (conclusionAt w) _ _ (c .if1 .taken))
 
 sub-j : tie.Need-sub-j Inv-loop μ-loop
@@ -76,7 +97,7 @@ conclusion-requires : tie.Need-conclusion-requires Inv-loop μ-loop
 conclusion-requires c κs =
     let r = c .before .before in
     let s = r .before .before .before .before .before in
-    (s .pre .0, s .pre .1, omega (arith, r .word2 .ensures .1, r .before .word .ensures .1), here r _ (omega (arith, c .before .if1 .left)))
+    (s .pre .0, s .pre .1, omega (arith, among r, c .before .if1 .left), here r _ (omega (arith, c .before .if1 .left)), s .pre .3)
 
 loop-holds : tie.Need-loop-holds Inv-loop μ-loop
 loop-holds c = (omega (arith, c .before .before .before .before .if1 .left), λ q old w. w, refl)
@@ -98,7 +119,7 @@ conclusion-requires-2 c κs =
     let l = c .before .before .before .before .before .before .before in
     let r = l .before .before .before .before .before .before in
     let s = r .before .before .before .before .before in
-    (s .pre .0, s .pre .1, omega (arith, r .word2 .ensures .1, r .before .word .ensures .1, l .loop .inv .0), here r _ (omega (arith, l .loop .inv .0)))
+    (s .pre .0, s .pre .1, omega (arith, among r, l .loop .inv .0), here r _ (omega (arith, l .loop .inv .0)), s .pre .3)
 
 sub-j-2 : tie.Need-sub-j-2 Inv-loop μ-loop
 sub-j-2 c = search needs
@@ -115,7 +136,7 @@ loop-again c =
     let w = wordAt (r .before .before .before .before .before .args .img .now) in (
       omega (arith, l .loop .inv .0),
       λ q old z.
-          commaed-more (conclusionText (decode w)) (conclusionAt w) (r .before .word .result) (r .word2 .result) _ _ _ (l .loop .j) _ _ _
+          commaed-more (conclusionText (decode w)) (conclusionAt w) (r .before .whole-word .result) (r .whole-word2 .result) _ _ _ (l .loop .j) _ _ _
           (search needs) (l .loop .inv .0) (l .loop .inv .1 q old z) (comma .puts .ensures) (item .conclusion2 .ensures),
       omega (arith, item .conclusion2 .kept .0, comma .puts .kept .0, l .loop .inv .2),
     )
@@ -135,9 +156,9 @@ returns-2 c =
     let w = wordAt (s .args .img .now) in
     let f = conclusionText (decode w) in
     let g = conclusionAt w in
-    let e = rule-conclusions w (s .pre .0) (s .args .i) (inside s) _ _ _ (o .rule-row .ensures .0 w (s .pre .1)) (r .before .word .ensures .0) (r .word2 .ensures .0) in
-    let last = commaed-last f g (r .before .word .result) (r .word2 .result) _ (r .word2 .result) _ (omega (arith, first .before .before .if1 .left)) refl (first .conclusion .ensures) in
-    rw (← e) (commaed-all f g (r .before .word .result) (r .word2 .result) _ (l .loop .j) _ (omega arith) (l .loop .inv .1 _ _ last))
+    let e = rule-conclusions w (s .pre .0) (s .args .i) (inside s) _ _ _ (o .rule-row .ensures .0 w (s .pre .1)) (r .before .whole-word .ensures .0) (r .whole-word2 .ensures .0) in
+    let last = commaed-last f g (r .before .whole-word .result) (r .whole-word2 .result) _ (r .whole-word2 .result) _ (omega (arith, first .before .before .if1 .left)) refl (first .conclusion .ensures) in
+    rw (← e) (commaed-all f g (r .before .whole-word .result) (r .whole-word2 .result) _ (l .loop .j) _ (omega arith) (l .loop .inv .1 _ _ last))
 
 pub conclusions-spec : {M : Type 1} → statement M
 conclusions-spec =
@@ -146,10 +167,10 @@ conclusions-spec =
     Inv-loop
     μ-loop
     rule-row-requires
-    add-word
-    word-requires
-    add-word-2
-    word-requires-2
+    add-whole-word
+    whole-word-requires
+    add-whole-word-2
+    whole-word-requires-2
     returns
     sub-j
     add-conclusion

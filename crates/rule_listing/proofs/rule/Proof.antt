@@ -1,4 +1,6 @@
+use Prim.Native.Nat.{_+_, _*_, _≤_}
 use native.Mathlib.Omega.{arith}
+use lib.ListN.{length}
 use Rattle.model.specs.Image.{wordAt}
 use Rattle.layout.proofs.Rules.{rules-few}
 use Rattle.listing_writer.proofs.Prepends.{joined}
@@ -7,14 +9,21 @@ use borrow.Author.Needs.{needs}
 use Rattle.rule_listing.proofs.rule.Statement.{statement}
 use Rattle.rule_listing.proofs.rule.Tie as tie
 
+-- the row lies in the image
+within : (c : tie.After-rule-row) → (c .rule-row .result + 6) * 4 ≤ length (c .before .before .before .args .img .now)
+within c =
+    let s = c .before .before .before in
+    let hd = s .pre .1 in
+    omega (arith, c .rule-row .ensures .0 (wordAt (s .args .img .now)) hd, hd .rule-table, s .pre .3 .rules, s .pre .2)
+
 rule-row-requires : tie.Need-rule-row-requires
 rule-row-requires c κs =
     let s = c .before .before in
     let hd = s .pre .1 in
     omega (arith, hd .rule-table, hd .fits 13, hd .rules, s .pre .2, rules-few _ (s .pre .0))
 
-word-requires : tie.Need-word-requires
-word-requires c κs = search needs
+whole-word-requires : tie.Need-whole-word-requires
+whole-word-requires c κs = omega (arith, within c)
 
 slice-aggregate-puts : tie.Need-slice-aggregate-puts
 slice-aggregate-puts c = search needs
@@ -22,11 +31,11 @@ slice-aggregate-puts c = search needs
 puts-requires : tie.Need-puts-requires
 puts-requires c κs = search needs
 
-add-word : tie.Need-add-word
-add-word c = search needs
+add-whole-word : tie.Need-add-whole-word
+add-whole-word c = search needs
 
-word-requires-2 : tie.Need-word-requires-2
-word-requires-2 c κs = search needs
+whole-word-requires-2 : tie.Need-whole-word-requires-2
+whole-word-requires-2 c κs = omega (arith, within (c .before .before .before .before .before .before .before))
 
 cast-t27 : tie.Need-cast-t27
 cast-t27 c = search needs
@@ -100,18 +109,18 @@ returns c =
     let condition = joined (joined conclusions (w4 .puts2 .ensures)) (w5 .rule-condition .ensures) in
     let line = joined (joined (joined condition (w6 .puts3 .ensures)) (w7 .digits .ensures)) (w8 .puts4 .ensures) in
     let number = w1 .before .before .before in
-    rw (rule-line w (s .args .i) _ _ _ (o .rule-row .ensures .0 w (s .pre .1)) (number .word .ensures .0) (w2 .before .word2 .ensures .0)) line
+    rw (rule-line w (s .args .i) _ _ _ (o .rule-row .ensures .0 w (s .pre .1)) (number .whole-word .ensures .0) (w2 .before .whole-word2 .ensures .0)) line
 
 pub rule-spec : {M : Type 1} → statement M
 rule-spec =
     tie.close
     (tie.spec
     rule-row-requires
-    word-requires
+    whole-word-requires
     slice-aggregate-puts
     puts-requires
-    add-word
-    word-requires-2
+    add-whole-word
+    whole-word-requires-2
     cast-t27
     weight-requires
     conclusions-requires

@@ -6,8 +6,8 @@ use borrow.Author.Needs.{needs}
 use Rattle.rule_listing.proofs.rule_block.Statement.{statement}
 use Rattle.rule_listing.proofs.rule_block.Tie as tie
 
-word-requires : tie.Need-word-requires
-word-requires c κs = search needs
+whole-word-requires : tie.Need-whole-word-requires
+whole-word-requires c κs = search needs
 
 slice-aggregate-puts : tie.Need-slice-aggregate-puts
 slice-aggregate-puts c = search needs
@@ -24,8 +24,8 @@ slice-aggregate-puts-2 c = search needs
 puts-requires-2 : tie.Need-puts-requires-2
 puts-requires-2 c κs = search needs
 
-word-requires-2 : tie.Need-word-requires-2
-word-requires-2 c κs = search needs
+whole-word-requires-2 : tie.Need-whole-word-requires-2
+whole-word-requires-2 c κs = search needs
 
 accumulation-requires : tie.Need-accumulation-requires
 accumulation-requires c κs = search needs
@@ -36,8 +36,11 @@ slice-aggregate-puts-3 c = search needs
 puts-requires-3 : tie.Need-puts-requires-3
 puts-requires-3 c κs = search needs
 
-word-requires-3 : tie.Need-word-requires-3
-word-requires-3 c κs = search needs
+whole-word-requires-3 : tie.Need-whole-word-requires-3
+whole-word-requires-3 c κs =
+    let w4 = c .before .before .before .before .before .before .before .before in
+    let w2 = w4 .before .before .before .before .before .before .before .before .before .before in
+    omega (arith, w2 .before .before .before .before .before .before .before .before .before .before .pre .2 .head)
 
 activation-requires : tie.Need-activation-requires
 activation-requires c κs = search needs
@@ -127,24 +130,24 @@ returns c =
     let t9 = joined (joined (joined t6 (w8 .or-algorithm .ensures)) (w9 .puts5 .ensures)) (w10 .and-algorithm .ensures) in
     let pair = w1 .before .before .before in
     let w = wordAt (pair .before .before .before .args .img .now) in
-    rw (block-text w _ _ _ (pair .word .ensures .0) (w4 .before .word2 .ensures .0) (w6 .before .word3 .ensures .0))
+    rw (block-text w _ _ _ (pair .whole-word .ensures .0) (w4 .before .whole-word2 .ensures .0) (w6 .before .whole-word3 .ensures .0))
     (joined (joined (joined t9 (w11 .puts6 .ensures)) (w12 .name .ensures)) (w13 .puts7 .ensures))
 
 pub rule-block-spec : {M : Type 1} → statement M
 rule-block-spec =
     tie.close
     (tie.spec
-    word-requires
+    whole-word-requires
     slice-aggregate-puts
     puts-requires
     rules-requires
     slice-aggregate-puts-2
     puts-requires-2
-    word-requires-2
+    whole-word-requires-2
     accumulation-requires
     slice-aggregate-puts-3
     puts-requires-3
-    word-requires-3
+    whole-word-requires-3
     activation-requires
     slice-aggregate-puts-4
     puts-requires-4

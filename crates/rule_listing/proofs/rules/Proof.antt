@@ -34,7 +34,7 @@ rule-requires : tie.Need-rule-requires Inv-loop μ-loop
 rule-requires c κs =
     let l = c .before .before in
     let s = l .before .before .before in
-    (s .pre .0, s .pre .1, omega (arith, l .loop .inv .0))
+    (s .pre .0, s .pre .1, omega (arith, l .loop .inv .0), s .pre .2)
 
 sub-i : tie.Need-sub-i Inv-loop μ-loop
 sub-i c = search needs

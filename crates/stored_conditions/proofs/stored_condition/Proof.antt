@@ -23,11 +23,11 @@ loop-holds : tie.Need-loop-holds Inv-loop μ-loop
 unfolding stackOf
 loop-holds c = (search needs, search needs, search needs, left-start _ _ _ _)
 
-add-word : tie.Need-add-word Inv-loop μ-loop
-add-word c = search needs
+add-whole-word : tie.Need-add-whole-word Inv-loop μ-loop
+add-whole-word c = search needs
 
-word-requires : tie.Need-word-requires Inv-loop μ-loop
-word-requires c κs = search needs
+whole-word-requires : tie.Need-whole-word-requires Inv-loop μ-loop
+whole-word-requires c κs = search needs
 
 step-requires : tie.Need-step-requires Inv-loop μ-loop
 step-requires c κs = search needs
@@ -42,7 +42,7 @@ turned c =
     let l = c .before .before .before .before .loop in
     let a = c .before .before .before .before .before .before .args in
     left-turn (shapes (a .m)) (wordAt (a .img .now)) (a .d) (a .n) (l .i) _ (some (stackOf 0 (l .stack) (l .height))) _
-    (search needs) (c .before .word .ensures .0) (c .step .ensures .0) (l .inv .3)
+    (search needs) (c .before .whole-word .ensures .0) (c .step .ensures .0) (l .inv .3)
 
 returns : tie.Need-returns Inv-loop μ-loop
 returns c = laws.fails _ _ _ _ _ _ _ (c .if1 .taken) (turned (c .before))
@@ -68,8 +68,8 @@ stored-condition-spec =
     Inv-loop
     μ-loop
     loop-holds
-    add-word
-    word-requires
+    add-whole-word
+    whole-word-requires
     step-requires
     returns
     add-i

@@ -24,13 +24,13 @@ loop-holds : tie.Need-loop-holds Inv-loop μ-loop
 loop-holds c = (search needs, refl)
 
 mul-same-name : tie.Need-mul-same-name Inv-loop μ-loop
-mul-same-name c = search (needs, entry (c .before .loop .j) (c .before .before .before .args .s) (omega arith) (omega arith))
+mul-same-name c = search (needs, entry (c .before .loop .j) (c .before .before .before .args .n) (c .before .before .before .args .s) (c .loop-test .taken))
 
 add-same-name : tie.Need-add-same-name Inv-loop μ-loop
-add-same-name c = search (needs, entry (c .before .loop .j) (c .before .before .before .args .s) (omega arith) (omega arith))
+add-same-name c = search (needs, entry (c .before .loop .j) (c .before .before .before .args .n) (c .before .before .before .args .s) (c .loop-test .taken))
 
 same-name-requires : tie.Need-same-name-requires Inv-loop μ-loop
-same-name-requires c κs = search (needs, entry (c .before .loop .j) (c .before .before .before .args .s) (omega arith) (omega arith))
+same-name-requires c κs = search (needs, entry (c .before .loop .j) (c .before .before .before .args .n) (c .before .before .before .args .s) (c .loop-test .taken))
 
 returns : tie.Need-returns Inv-loop μ-loop
 returns c =

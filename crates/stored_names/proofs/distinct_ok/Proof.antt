@@ -24,16 +24,16 @@ loop-holds : tie.Need-loop-holds Inv-loop μ-loop
 loop-holds c = (search needs, rw sub-zero)
 
 mul-absent-ok : tie.Need-mul-absent-ok Inv-loop μ-loop
-mul-absent-ok c = search (needs, entry (c .before .loop .i) (c .before .before .before .args .s) (omega arith) (omega arith))
+mul-absent-ok c = search (needs, entry (c .before .loop .i) (c .before .before .before .args .n) (c .before .before .before .args .s) (c .loop-test .taken))
 
 add-absent-ok : tie.Need-add-absent-ok Inv-loop μ-loop
-add-absent-ok c = search (needs, entry (c .before .loop .i) (c .before .before .before .args .s) (omega arith) (omega arith))
+add-absent-ok c = search (needs, entry (c .before .loop .i) (c .before .before .before .args .n) (c .before .before .before .args .s) (c .loop-test .taken))
 
 add-absent-ok-2 : tie.Need-add-absent-ok-2 Inv-loop μ-loop
 add-absent-ok-2 c = search needs
 
 absent-ok-requires : tie.Need-absent-ok-requires Inv-loop μ-loop
-absent-ok-requires c κs = search (needs, entry (c .before .loop .i) (c .before .before .before .args .s) (omega arith) (omega arith))
+absent-ok-requires c κs = search (needs, entry (c .before .loop .i) (c .before .before .before .args .n) (c .before .before .before .args .s) (c .loop-test .taken))
 
 returns : tie.Need-returns Inv-loop μ-loop
 returns c =

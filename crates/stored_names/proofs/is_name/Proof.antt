@@ -1,16 +1,38 @@
-use mathlib.Core.Path.{sym, ap, _∙_}
+use mathlib.Core.Path.{_≡_, sym, ap, _∙_}
 use mathlib.Core.Bool.{true}
-use Prim.Native.Nat.{_<_}
+use Prim.Native.Nat.{ℕ, _≤_, _<_}
 use native.Mathlib.Omega.{arith}
+use lib.Dec.{eqb}
 use lib.ListN.{take, getD}
-use lib.Seq.{length-take-le}
+use lib.Seq.{length-take-le, getD-take}
 use borrow.Author.Needs.{needs}
 use borrow.Author.Tests.{not-true, not-false}
+use Rattle.model.specs.Keywords.{keywordAt}
 use Rattle.model.specs.Tokens.{isName}
+use Rattle.stored_names.specs.Stored.{front}
 use Rattle.laws.proofs.Tests.{one-fails, last-decides}
 use Rattle.stored_names.proofs.Names.{nameTests, name-spelt, no-keyword, starts-take, untidy, byte-after, front-is, spelt}
 use Rattle.stored_names.proofs.is_name.Statement.{statement}
 use Rattle.stored_names.proofs.is_name.Tie as tie
+
+-- the name by which keyword its bytes are
+told : (c : tie.Else3) (k : ℕ) →
+    let end = c .before .before .before .before .before .before in
+    let s = end .before .before .args .s .now in
+    k ≡ keywordAt (take (end .tidy-end .result) s) → k ≤ 43 → eqb k 43 ≡ isName (front s)
+told c k e le =
+    let zero = c .before .before .before in
+    let some = zero .before .before in
+    let end = some .before in
+    let s = end .before .before .args .s .now in
+    let n = end .tidy-end .result in
+    let d = end .tidy-end .ensures .0 in
+    let h : 0 < n = omega (arith, some .if1 .left) in
+    let tests = nameTests (take n s) in
+    let begins = sym (c .before .starts-name .ensures) ∙ not-false _ (c .if3 .left) in
+    let head = front-is s n d h (sym (zero .before .byte .ensures) ∙ zero .if2 .left) in
+    no-keyword (take n s) k e le
+    ∙ sym (ap isName head ∙ sym (name-spelt (take n s)) ∙ last-decides (take 4 tests) (getD tests 4 true) (spelt s n d h (end .tidy-end .ensures .1) (search needs) begins))
 
 tidy-end-requires : tie.Need-tidy-end-requires
 tidy-end-requires c κs = search needs
@@ -45,29 +67,33 @@ returns-3 c =
     let front = front-is s n (end .tidy-end .ensures .0) h (sym (zero .before .byte .ensures) ∙ zero .if2 .left) in
     sym (ap isName front ∙ sym (name-spelt (take n s)) ∙ one-fails (nameTests (take n s)) 0 first)
 
+shared-slice-read-begins : tie.Need-shared-slice-read-begins
+shared-slice-read-begins c = search needs
+
+begins-requires : tie.Need-begins-requires
+begins-requires c κs = search needs
+
+returns-4 : tie.Need-returns-4
+returns-4 c =
+    let b = c .before in
+    let first = b .before .before in
+    let end = first .before .before .before .before .before .before in
+    let s = end .before .before .args .s .now in
+    let n = end .tidy-end .result in
+    let h : 0 < n = omega (arith, first .before .before .before .before .before .if1 .left) in
+    told first 43 (sym (b .begins .ensures (take n s) (getD-take n s 0 0 h) (not-true _ (c .if4 .taken)))) (omega arith)
+
 slice-aggregate-keyword-at : tie.Need-slice-aggregate-keyword-at
 slice-aggregate-keyword-at c =
-    let end = c .before .before .before .before .before .before .before in
+    let first = c .before .before .before .before in
+    let end = first .before .before .before .before .before .before in
     sym (length-take-le (end .tidy-end .result) (end .before .before .args .s .now) (end .tidy-end .ensures .1))
 
 keyword-at-requires : tie.Need-keyword-at-requires
 keyword-at-requires c κs = search needs
 
-returns-4 : tie.Need-returns-4
-returns-4 c =
-    let first = c .before .before in
-    let zero = first .before .before .before in
-    let some = zero .before .before in
-    let end = some .before in
-    let s = end .before .before .args .s .now in
-    let n = end .tidy-end .result in
-    let e = end .tidy-end .ensures .0 in
-    let h : 0 < n = omega (arith, some .if1 .left) in
-    let tests = nameTests (take n s) in
-    let begins = sym (first .before .starts-name .ensures) ∙ not-false _ (first .if3 .left) in
-    let front = front-is s n e h (sym (zero .before .byte .ensures) ∙ zero .if2 .left) in
-    no-keyword (take n s) _ (c .keyword-at .ensures .0) (c .keyword-at .ensures .1)
-    ∙ sym (ap isName front ∙ sym (name-spelt (take n s)) ∙ last-decides (take 4 tests) (getD tests 4 true) (spelt s n e h (end .tidy-end .ensures .1) (search needs) begins))
+returns-5 : tie.Need-returns-5
+returns-5 c = told (c .before .before .before .before .before) _ (c .keyword-at .ensures .0) (c .keyword-at .ensures .1)
 
 pub is-name-spec : {M : Type 1} → statement M
 is-name-spec =
@@ -80,6 +106,9 @@ is-name-spec =
     shared-slice-read-starts-name
     starts-name-requires
     returns-3
+    shared-slice-read-begins
+    begins-requires
+    returns-4
     slice-aggregate-keyword-at
     keyword-at-requires
-    returns-4)
+    returns-5)

@@ -33,19 +33,22 @@ rule-row-requires : tie.Need-rule-row-requires Inv-loop μ-loop
 rule-row-requires c κs =
     let s = c .before .before .before .before in
     let hd = s .pre .0 in
-    omega (arith, hd .rule-table, hd .fits 13, s .pre .1)
+    omega (arith, hd .rule-table, hd .fits 13, hd .rules, hd .fits 6)
 
-word-requires : tie.Need-word-requires Inv-loop μ-loop
-word-requires c κs = search needs
+whole-word-requires : tie.Need-whole-word-requires Inv-loop μ-loop
+whole-word-requires c κs =
+    let s = c .before .before .before .before .before in
+    let hd = s .pre .0 in
+    omega (arith, c .rule-row .ensures .0 (wordAt (s .args .img .now)) hd, hd .rule-table, s .pre .1 .rules)
 
 -- the number of rule j
-read : (c : tie.After-word Inv-loop μ-loop) →
+read : (c : tie.After-whole-word Inv-loop μ-loop) →
     let l = c .before .before .before in
-    c .word .result ≡ ruleNumber (wordAt (l .before .before .before .args .img .now)) (l .loop .j)
+    c .whole-word .result ≡ ruleNumber (wordAt (l .before .before .before .args .img .now)) (l .loop .j)
 read c =
     let s = c .before .before .before .before .before .before in
     let w = wordAt (s .args .img .now) in
-    c .word .ensures .0 ∙ ap w (c .before .rule-row .ensures .0 w (s .pre .0))
+    c .whole-word .ensures .0 ∙ ap w (c .before .rule-row .ensures .0 w (s .pre .0))
 
 returns-2 : tie.Need-returns-2 Inv-loop μ-loop
 returns-2 c =
@@ -86,7 +89,7 @@ differs-spec =
     add-j
     loop-holds
     rule-row-requires
-    word-requires
+    whole-word-requires
     returns-2
     add-j-2
     loop-less

@@ -29,13 +29,13 @@ inside c = omega (arith, c .before .loop .inv .0)
 back : (c : tie.In-loop Inv-loop μ-loop) → c .before .loop .i - 1 + 1 ≡ c .before .loop .i
 back c = omega arith
 
-number-is : (c : tie.After-word Inv-loop μ-loop) →
+number-is : (c : tie.After-whole-word Inv-loop μ-loop) →
     let l = c .before .before .before in
-    c .word .result ≡ ruleNumber (wordAt (l .before .before .args .img .now)) (l .loop .i - 1)
+    c .whole-word .result ≡ ruleNumber (wordAt (l .before .before .args .img .now)) (l .loop .i - 1)
 number-is c =
     let s = c .before .before .before .before .before in
     let w = wordAt (s .args .img .now) in
-    c .word .ensures .0 ∙ ap w (c .before .rule-row .ensures .0 w (s .pre .0))
+    c .whole-word .ensures .0 ∙ ap w (c .before .rule-row .ensures .0 w (s .pre .0))
 
 -- the test of one number
 told : (c : tie.After-differs Inv-loop μ-loop) →
@@ -64,10 +64,13 @@ rule-row-requires : tie.Need-rule-row-requires Inv-loop μ-loop
 rule-row-requires c κs =
     let s = c .before .before .before in
     let hd = s .pre .0 in
-    omega (arith, hd .rule-table, hd .fits 13, s .pre .1, inside c)
+    omega (arith, hd .rule-table, hd .fits 13, hd .rules, hd .fits 6, inside c)
 
-word-requires : tie.Need-word-requires Inv-loop μ-loop
-word-requires c κs = search needs
+whole-word-requires : tie.Need-whole-word-requires Inv-loop μ-loop
+whole-word-requires c κs =
+    let s = c .before .before .before .before in
+    let hd = s .pre .0 in
+    omega (arith, c .rule-row .ensures .0 (wordAt (s .args .img .now)) hd, hd .rule-table, s .pre .1 .rules, inside (c .before))
 
 array-read-differs : tie.Need-array-read-differs Inv-loop μ-loop
 array-read-differs c = search needs
@@ -126,7 +129,7 @@ numbers-distinct-spec =
     loop-holds
     sub-i
     rule-row-requires
-    word-requires
+    whole-word-requires
     array-read-differs
     differs-requires
     returns

@@ -1,4 +1,6 @@
 use native.Mathlib.Omega.{arith}
+use Prim.Native.Nat.{_+_, _*_, _≤_}
+use lib.ListN.{length}
 use borrow.Author.Needs.{needs}
 use Rattle.model.specs.Image.{wordAt}
 use Rattle.laws.proofs.Places.{field}
@@ -6,31 +8,38 @@ use Rattle.stored_rules.proofs.parts_of.Statement.{statement}
 use Rattle.stored_rules.proofs.parts_of.Tie as tie
 
 rule-row-requires : tie.Need-rule-row-requires
-rule-row-requires c κs = let hd = c .before .pre .0 in omega (arith, hd .rule-table, hd .fits 13)
+rule-row-requires c κs = let hd = c .before .pre .0 in omega (arith, hd .rule-table, hd .fits 13, hd .rules, hd .fits 6)
 
-add-word : tie.Need-add-word
-add-word c = search needs
+-- the row is within the image
+within : (c : tie.After-rule-row) → (c .rule-row .result + 6) * 4 ≤ length (c .before .before .args .img .now)
+within c =
+    let s = c .before .before in
+    let hd = s .pre .0 in
+    omega (arith, c .rule-row .ensures .0 (wordAt (s .args .img .now)) hd, hd .rule-table, s .pre .1 .rules)
 
-word-requires : tie.Need-word-requires
-word-requires c κs = search needs
+add-whole-word : tie.Need-add-whole-word
+add-whole-word c = search needs
 
-add-word-2 : tie.Need-add-word-2
-add-word-2 c = search needs
+whole-word-requires : tie.Need-whole-word-requires
+whole-word-requires c κs = omega (arith, within c)
 
-word-requires-2 : tie.Need-word-requires-2
-word-requires-2 c κs = search needs
+add-whole-word-2 : tie.Need-add-whole-word-2
+add-whole-word-2 c = search needs
 
-add-word-3 : tie.Need-add-word-3
-add-word-3 c = search needs
+whole-word-requires-2 : tie.Need-whole-word-requires-2
+whole-word-requires-2 c κs = omega (arith, within (c .before))
 
-word-requires-3 : tie.Need-word-requires-3
-word-requires-3 c κs = search needs
+add-whole-word-3 : tie.Need-add-whole-word-3
+add-whole-word-3 c = search needs
 
-add-word-4 : tie.Need-add-word-4
-add-word-4 c = search needs
+whole-word-requires-3 : tie.Need-whole-word-requires-3
+whole-word-requires-3 c κs = omega (arith, within (c .before .before))
 
-word-requires-4 : tie.Need-word-requires-4
-word-requires-4 c κs = search needs
+add-whole-word-4 : tie.Need-add-whole-word-4
+add-whole-word-4 c = search needs
+
+whole-word-requires-4 : tie.Need-whole-word-requires-4
+whole-word-requires-4 c κs = omega (arith, within (c .before .before .before))
 
 returns : tie.Need-returns
 returns c =
@@ -41,11 +50,11 @@ returns c =
     let w = wordAt (s .args .img .now) in
     let o = r1 .before .rule-row .ensures .0 w (s .pre .0) in
     record {
-      word-first = field w _ _ 1 _ (r1 .word .ensures .0) o;
-      words = field w _ _ 2 _ (r2 .word2 .ensures .0) o;
-      conclusion-first = field w _ _ 3 _ (r3 .word3 .ensures .0) o;
-      conclusions = field w _ _ 4 _ (c .word4 .ensures .0) o;
-      fits = (r1 .word .ensures .1, r2 .word2 .ensures .1, r3 .word3 .ensures .1, c .word4 .ensures .1);
+      word-first = field w _ _ 1 _ (r1 .whole-word .ensures .0) o;
+      words = field w _ _ 2 _ (r2 .whole-word2 .ensures .0) o;
+      conclusion-first = field w _ _ 3 _ (r3 .whole-word3 .ensures .0) o;
+      conclusions = field w _ _ 4 _ (c .whole-word4 .ensures .0) o;
+      fits = (r1 .whole-word .ensures .1, r2 .whole-word2 .ensures .1, r3 .whole-word3 .ensures .1, c .whole-word4 .ensures .1);
     }
 
 pub parts-of-spec : {M : Type 1} → statement M
@@ -53,12 +62,12 @@ parts-of-spec =
     tie.close
     (tie.spec
     rule-row-requires
-    add-word
-    word-requires
-    add-word-2
-    word-requires-2
-    add-word-3
-    word-requires-3
-    add-word-4
-    word-requires-4
+    add-whole-word
+    whole-word-requires
+    add-whole-word-2
+    whole-word-requires-2
+    add-whole-word-3
+    whole-word-requires-3
+    add-whole-word-4
+    whole-word-requires-4
     returns)

@@ -2,17 +2,18 @@ use borrow.Author.Needs.{needs}
 use native.Mathlib.Omega.{arith}
 use native.Mathlib.Nat.{sub-zero}
 use mathlib.Core.Path.{_≡_, sym, _∙_}
-use Prim.Native.Nat.{_*_, _-_, _≤_}
+use Prim.Native.Nat.{_-_, _≤_}
 use borrow.Author.Tests.{eq-eqb, ne-eqb, not-true, not-false}
 use Rattle.model.specs.Image.{wordAt}
 use Rattle.stored_rules.specs.Walk.{rulesWalk}
+use Rattle.stored_rules.proofs.Rules.{row-within}
 use Rattle.stored_rules.proofs.Loops.{walk-more, walk-stop, walk-end}
 use Rattle.stored_rules.proofs.rows_ok.Statement.{statement}
 use Rattle.stored_rules.proofs.rows_ok.Tie as tie
 
 abbrev Inv-loop : tie.InvT-loop
 Inv-loop img h m e n₀ k₀ i₀ n k i =
-    (n ≤ i * 4294967295) × (k ≤ i * 4294967295) × (rulesWalk (wordAt img) (e - i) i n k ≡ rulesWalk (wordAt img) e 0 0 0)
+    (n ≤ h .words) × (k ≤ h .conclusions) × (rulesWalk (wordAt img) (e - i) i n k ≡ rulesWalk (wordAt img) e 0 0 0)
 
 abbrev μ-loop : tie.MeasureT-loop
 μ-loop img h m e n₀ k₀ i₀ n k i = e - i
@@ -35,10 +36,16 @@ returns c =
     sym (walk-stop w (a .h .rules) (l .i) (l .n) (l .k) (omega arith) f) ∙ l .inv .2
 
 add-n : tie.Need-add-n Inv-loop μ-loop
-add-n c = let q = c .before .before .before .parts-of .ensures .fits .1 in omega arith
+add-n c =
+    let q = c .before .before .before .parts-of .ensures .fits .1 in
+    let hd = c .before .before .before .before .before .before .before .pre .1 in
+    omega (arith, hd .words, hd .fits 7)
 
 add-k : tie.Need-add-k Inv-loop μ-loop
-add-k c = let q = c .before .before .before .before .parts-of .ensures .fits .3 in omega arith
+add-k c =
+    let q = c .before .before .before .before .parts-of .ensures .fits .3 in
+    let hd = c .before .before .before .before .before .before .before .before .pre .1 in
+    omega (arith, hd .conclusions, hd .fits 8)
 
 add-i : tie.Need-add-i Inv-loop μ-loop
 add-i c = search needs
@@ -53,9 +60,11 @@ loop-again c =
     let l = e .before .before .before .before .loop in
     let a = e .before .before .before .before .before .before .args in
     let w = wordAt (a .img .now) in
-    let t = sym (e .before .row-ok .ensures) ∙ not-false _ (e .if1 .left) in (
-      omega (arith, p .fits .1),
-      omega (arith, p .fits .3),
+    let t = sym (e .before .row-ok .ensures) ∙ not-false _ (e .if1 .left) in
+    let q = row-within w (l .i) (l .n) (l .k) t in
+    let hd = e .before .before .before .before .before .before .pre .1 in (
+      omega (arith, p .words, hd .words, q .0),
+      omega (arith, p .conclusions, hd .conclusions, q .1),
       sym (walk-more w (a .h .rules) (l .i) (l .n) (l .k) _ _ (p .words) (p .conclusions) (omega arith) t) ∙ l .inv .2,
     )
 

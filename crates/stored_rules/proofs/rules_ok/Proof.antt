@@ -1,12 +1,10 @@
 use mathlib.Core.Path.{_≡_, sym, _∙_}
 use mathlib.Core.List.{[], _∷_}
-use Prim.Native.Nat.{_≤_}
-use lib.Dec.{leb}
-use borrow.Author.Tests.{le-leb, lt-leb, leb-true, not-true, not-false}
+use borrow.Author.Tests.{le-leb, lt-leb, not-true, not-false}
 use Rattle.model.specs.Basic.{every}
 use Rattle.model.specs.Image.{wordAt}
 use Rattle.layout.specs.Groups.{rulesOk}
-use Rattle.laws.proofs.Tests.{both, one-fails, last-decides}
+use Rattle.laws.proofs.Tests.{one-fails, last-decides}
 use Rattle.stored_rules.proofs.Rules.{tests, rules-words}
 use borrow.Author.Needs.{needs}
 use Rattle.stored_rules.proofs.rules_ok.Statement.{statement}
@@ -22,11 +20,6 @@ read c =
     let hd = s .pre .1 in
     rules-words (wordAt (s .args .img .now)) _ _ _ (hd .rules) (hd .words) (hd .conclusions)
 
-few : (c : tie.Else1) → c .before .before .before .args .h .rules ≤ 64
-few c =
-    let n = c .before .before .before .args .h .rules in
-    leb-true _ _ (both (leb 1 n) (leb n 64) (sym (c .before .within .ensures) ∙ not-false _ (c .if1 .left)) .1)
-
 within-requires : tie.Need-within-requires
 within-requires c κs = search needs
 
@@ -40,10 +33,7 @@ returns-3 : tie.Need-returns-3
 returns-3 c = sym (read (c .before .before .before .before .before) ∙ one-fails _ 2 (lt-leb _ _ (c .if3 .taken)))
 
 rows-ok-requires : tie.Need-rows-ok-requires
-rows-ok-requires c κs =
-    let p = c .before .before .before .before in
-    let s = p .before .before .before in
-    (s .pre .0, s .pre .1, s .pre .2, s .pre .3, few p)
+rows-ok-requires c κs = search needs
 
 returns-4 : tie.Need-returns-4
 returns-4 c =
@@ -51,9 +41,7 @@ returns-4 c =
     sym (read p ∙ one-fails _ 3 (sym (c .before .rows-ok .ensures) ∙ not-true _ (c .if4 .taken)))
 
 numbers-distinct-requires : tie.Need-numbers-distinct-requires
-numbers-distinct-requires c κs =
-    let p = c .before .before .before .before .before .before in
-    (p .before .before .before .pre .1, few p)
+numbers-distinct-requires c κs = search needs
 
 returns-5 : tie.Need-returns-5
 returns-5 c =

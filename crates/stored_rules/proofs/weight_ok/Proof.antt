@@ -8,13 +8,16 @@ use Rattle.stored_rules.proofs.weight_ok.Statement.{statement}
 use Rattle.stored_rules.proofs.weight_ok.Tie as tie
 
 rule-row-requires : tie.Need-rule-row-requires
-rule-row-requires c κs = let hd = c .before .pre .0 in omega (arith, hd .rule-table, hd .fits 13)
+rule-row-requires c κs = let hd = c .before .pre .0 in omega (arith, hd .rule-table, hd .fits 13, hd .rules, hd .fits 6)
 
-add-word : tie.Need-add-word
-add-word c = search needs
+add-whole-word : tie.Need-add-whole-word
+add-whole-word c = search needs
 
-word-requires : tie.Need-word-requires
-word-requires c κs = search needs
+whole-word-requires : tie.Need-whole-word-requires
+whole-word-requires c κs =
+    let s = c .before .before in
+    let hd = s .pre .0 in
+    omega (arith, c .rule-row .ensures .0 (wordAt (s .args .img .now)) hd, hd .rule-table, s .pre .1 .rules)
 
 cast-is-unit : tie.Need-cast-is-unit
 cast-is-unit c = search needs
@@ -27,9 +30,9 @@ unfolding ruleAt
 returns c =
     let s = c .before .before .before .before in
     let w = wordAt (s .args .img .now) in
-    c .is-unit .ensures ∙ ap unitOk (field w _ _ 5 _ (c .before .word .ensures .0) (c .before .before .rule-row .ensures .0 w (s .pre .0)))
+    c .is-unit .ensures ∙ ap unitOk (field w _ _ 5 _ (c .before .whole-word .ensures .0) (c .before .before .rule-row .ensures .0 w (s .pre .0)))
 
 pub weight-ok-spec : {M : Type 1} → statement M
 weight-ok-spec =
     tie.close
-    (tie.spec rule-row-requires add-word word-requires cast-is-unit is-unit-requires returns)
+    (tie.spec rule-row-requires add-whole-word whole-word-requires cast-is-unit is-unit-requires returns)

@@ -6,29 +6,29 @@ use Rattle.stored_tables.proofs.Lists.{equal, differs, within, over}
 use Rattle.stored_tables.proofs.codes_ok.Statement.{statement}
 use Rattle.stored_tables.proofs.codes_ok.Tie as tie
 
-word-requires : tie.Need-word-requires
-word-requires c κs = search needs
+whole-word-requires : tie.Need-whole-word-requires
+whole-word-requires c κs = search needs
 
 returns : tie.Need-returns
-returns c = sym (one-fails _ 0 (over _ _ _ (c .before .word .ensures .0) (c .if1 .taken)))
+returns c = sym (one-fails _ 0 (over _ _ _ (c .before .whole-word .ensures .0) (c .if1 .taken)))
 
-word-requires-2 : tie.Need-word-requires-2
-word-requires-2 c κs = search needs
+whole-word-requires-2 : tie.Need-whole-word-requires-2
+whole-word-requires-2 c κs = search needs
 
 returns-2 : tie.Need-returns-2
-returns-2 c = sym (one-fails _ 1 (over _ _ _ (c .before .word2 .ensures .0) (c .if2 .taken)))
+returns-2 c = sym (one-fails _ 1 (over _ _ _ (c .before .whole-word2 .ensures .0) (c .if2 .taken)))
 
-word-requires-3 : tie.Need-word-requires-3
-word-requires-3 c κs = search needs
+whole-word-requires-3 : tie.Need-whole-word-requires-3
+whole-word-requires-3 c κs = search needs
 
 returns-3 : tie.Need-returns-3
-returns-3 c = sym (one-fails _ 2 (over _ _ _ (c .before .word3 .ensures .0) (c .if3 .taken)))
+returns-3 c = sym (one-fails _ 2 (over _ _ _ (c .before .whole-word3 .ensures .0) (c .if3 .taken)))
 
-word-requires-4 : tie.Need-word-requires-4
-word-requires-4 c κs = search needs
+whole-word-requires-4 : tie.Need-whole-word-requires-4
+whole-word-requires-4 c κs = search needs
 
 returns-4 : tie.Need-returns-4
-returns-4 c = sym (one-fails _ 3 (differs _ _ _ (c .before .word4 .ensures .0) (c .if4 .taken)))
+returns-4 c = sym (one-fails _ 3 (differs _ _ _ (c .before .whole-word4 .ensures .0) (c .if4 .taken)))
 
 name-exact-requires : tie.Need-name-exact-requires
 name-exact-requires c κs = search needs
@@ -51,13 +51,13 @@ returns-7 c =
     let pair = accu .before .before in
     sym
     (pass _ (
-      within _ _ _ (pair .before .word .ensures .0) (pair .if1 .left),
+      within _ _ _ (pair .before .whole-word .ensures .0) (pair .if1 .left),
       (
-        within _ _ _ (accu .before .word2 .ensures .0) (accu .if2 .left),
+        within _ _ _ (accu .before .whole-word2 .ensures .0) (accu .if2 .left),
         (
-          within _ _ _ (act .before .word3 .ensures .0) (act .if3 .left),
+          within _ _ _ (act .before .whole-word3 .ensures .0) (act .if3 .left),
           (
-            equal _ _ _ (spare .before .word4 .ensures .0) (spare .if4 .left),
+            equal _ _ _ (spare .before .whole-word4 .ensures .0) (spare .if4 .left),
             (
               sym (name .before .name-exact .ensures) ∙ not-false _ (name .if5 .left),
               (sym (c .before .name-exact2 .ensures) ∙ not-false _ (c .if6 .left), tt),
@@ -71,13 +71,13 @@ pub codes-ok-spec : {M : Type 1} → statement M
 codes-ok-spec =
     tie.close
     (tie.spec
-    word-requires
+    whole-word-requires
     returns
-    word-requires-2
+    whole-word-requires-2
     returns-2
-    word-requires-3
+    whole-word-requires-3
     returns-3
-    word-requires-4
+    whole-word-requires-4
     returns-4
     name-exact-requires
     returns-5

@@ -7,26 +7,26 @@ use Rattle.stored_tables.proofs.Lists.{equal, differs}
 use Rattle.stored_tables.proofs.default_ok.Statement.{statement}
 use Rattle.stored_tables.proofs.default_ok.Tie as tie
 
-add-word : tie.Need-add-word
-add-word c = search needs
+add-whole-word : tie.Need-add-whole-word
+add-whole-word c = search needs
 
-word-requires : tie.Need-word-requires
-word-requires c κs = search needs
+whole-word-requires : tie.Need-whole-word-requires
+whole-word-requires c κs = search needs
 
-add-word-2 : tie.Need-add-word-2
-add-word-2 c = search needs
+add-whole-word-2 : tie.Need-add-whole-word-2
+add-whole-word-2 c = search needs
 
-word-requires-2 : tie.Need-word-requires-2
-word-requires-2 c κs = search needs
+whole-word-requires-2 : tie.Need-whole-word-requires-2
+whole-word-requires-2 c κs = search needs
 
 returns : tie.Need-returns
 unfolding defaultTest
-returns c = simp (equal _ _ _ (c .before .before .word .ensures .0) (c .before .if1 .taken)) (ap (λ (k : ℕ). eqb k 0) (c .word2 .ensures .0))
+returns c = simp (equal _ _ _ (c .before .before .whole-word .ensures .0) (c .before .if1 .taken)) (ap (λ (k : ℕ). eqb k 0) (c .whole-word2 .ensures .0))
 
 returns-2 : tie.Need-returns-2
 unfolding defaultTest
-returns-2 c = simp (differs _ _ _ (c .before .word .ensures .0) (c .if1 .left)) (ap (λ (k : ℕ). eqb k 1) (c .before .word .ensures .0))
+returns-2 c = simp (differs _ _ _ (c .before .whole-word .ensures .0) (c .if1 .left)) (ap (λ (k : ℕ). eqb k 1) (c .before .whole-word .ensures .0))
 
 pub default-ok-spec : {M : Type 1} → statement M
 default-ok-spec =
-    tie.close (tie.spec add-word word-requires add-word-2 word-requires-2 returns returns-2)
+    tie.close (tie.spec add-whole-word whole-word-requires add-whole-word-2 whole-word-requires-2 returns returns-2)

@@ -14,25 +14,25 @@ returns : tie.Need-returns
 unfolding inputTest
 returns c = sym (one-fails _ 0 (sym (c .before .name-exact .ensures) ∙ not-true _ (c .if1 .taken)))
 
-add-word : tie.Need-add-word
-add-word c = search needs
+add-whole-word : tie.Need-add-whole-word
+add-whole-word c = search needs
 
-word-requires : tie.Need-word-requires
-word-requires c κs = search needs
+whole-word-requires : tie.Need-whole-word-requires
+whole-word-requires c κs = search needs
 
 returns-2 : tie.Need-returns-2
 unfolding inputTest
-returns-2 c = sym (one-fails _ 1 (over _ _ _ (c .before .word .ensures .0) (c .if2 .taken)))
+returns-2 c = sym (one-fails _ 1 (over _ _ _ (c .before .whole-word .ensures .0) (c .if2 .taken)))
 
-add-word-2 : tie.Need-add-word-2
-add-word-2 c = search needs
+add-whole-word-2 : tie.Need-add-whole-word-2
+add-whole-word-2 c = search needs
 
-word-requires-2 : tie.Need-word-requires-2
-word-requires-2 c κs = search needs
+whole-word-requires-2 : tie.Need-whole-word-requires-2
+whole-word-requires-2 c κs = search needs
 
 returns-3 : tie.Need-returns-3
 unfolding inputTest
-returns-3 c = sym (one-fails _ 2 (differs _ _ _ (c .before .word2 .ensures .0) (c .if3 .taken)))
+returns-3 c = sym (one-fails _ 2 (differs _ _ _ (c .before .whole-word2 .ensures .0) (c .if3 .taken)))
 
 returns-4 : tie.Need-returns-4
 unfolding inputTest
@@ -43,8 +43,8 @@ returns-4 c =
     (pass _ (
       sym (name .before .name-exact .ensures) ∙ not-false _ (name .if1 .left),
       (
-        within _ _ _ (type .before .word .ensures .0) (type .if2 .left),
-        (equal _ _ _ (c .before .word2 .ensures .0) (c .if3 .left), tt),
+        within _ _ _ (type .before .whole-word .ensures .0) (type .if2 .left),
+        (equal _ _ _ (c .before .whole-word2 .ensures .0) (c .if3 .left), tt),
       ),
     ))
 
@@ -54,10 +54,10 @@ input-ok-spec =
     (tie.spec
     name-exact-requires
     returns
-    add-word
-    word-requires
+    add-whole-word
+    whole-word-requires
     returns-2
-    add-word-2
-    word-requires-2
+    add-whole-word-2
+    whole-word-requires-2
     returns-3
     returns-4)

@@ -1,6 +1,8 @@
 use mathlib.Core.Path.{sym, ap, _∙_}
 use Prim.Native.Nat.{ℕ, _+_, _*_, _-_, _≤_}
 use native.Mathlib.Nat.{zero-add}
+use native.Mathlib.Omega.{arith}
+use lib.ListN.{length}
 use borrow.Author.Needs.{needs}
 use borrow.Author.Tests.{not-true, not-false}
 use Rattle.model.specs.Image.{wordAt, inputAt}
@@ -28,14 +30,20 @@ unfolding inputRows
 loop-holds c =
     let start = c .before in
     let w = wordAt (start .args .img .now) in
-    let e = start .pre .inputs in
+    let e = start .pre .0 .inputs in
     (search needs, (search needs, (rows-start inputRow inputNext (inputAt w) w (w 9) 7 0 _ _ e, count-start (inputCount w) 0 _ _ e)))
 
 input-row-requires : tie.Need-input-row-requires Inv-loop μ-loop
-input-row-requires c κs = let s = small (c .before .before .before .before .pre) in search needs
+input-row-requires c κs = let s = small (c .before .before .before .before .pre .0) in search needs
+
+within : (c : tie.After-input-row Inv-loop μ-loop) → (c .input-row .result + 7) * 4 ≤ length (c .before .before .before .before .before .args .img .now)
+within c =
+    let s = c .before .before .before .before .before in
+    let h = s .pre .0 in
+    omega (arith, c .input-row .ensures .0 (wordAt (s .args .img .now)) h, h .input-table, s .pre .1 .inputs, c .before .if1 .taken)
 
 input-ok-requires : tie.Need-input-ok-requires Inv-loop μ-loop
-input-ok-requires c κs = search needs
+input-ok-requires c κs = within c
 
 returns : tie.Need-returns Inv-loop μ-loop
 returns c =
@@ -43,20 +51,20 @@ returns c =
     let l = turn .before .before .before .loop in
     let start = turn .before .before .before .before .before in
     let w = wordAt (start .args .img .now) in
-    let o = turn .input-row .ensures .0 w (start .pre) in
+    let o = turn .input-row .ensures .0 w (start .pre .0) in
     let h = turn .before .if1 .taken in
     let r = input-row w (l .i) (l .p) in
     let t = seen (λ (k : ℕ). inputTest w k (l .p)) _ _ _ _ _ o (c .before .input-ok .ensures) (not-true _ (c .if2 .taken)) r in
     (rows-stop inputRow inputNext (inputAt w) w (w 9) 7 _ (l .i) (l .p) _ h t (l .inv .1 .1 .0), (λ q. clash q))
 
-add-word : tie.Need-add-word Inv-loop μ-loop
-add-word c = search needs
+add-whole-word : tie.Need-add-whole-word Inv-loop μ-loop
+add-whole-word c = search needs
 
-word-requires : tie.Need-word-requires Inv-loop μ-loop
-word-requires c κs = search needs
+whole-word-requires : tie.Need-whole-word-requires Inv-loop μ-loop
+whole-word-requires c κs = omega (arith, within (c .before .before))
 
 add-p : tie.Need-add-p Inv-loop μ-loop
-add-p c = let s = small (c .before .before .before .before .before .before .before .before .pre) in search needs
+add-p c = let s = small (c .before .before .before .before .before .before .before .before .pre .0) in search needs
 
 add-i : tie.Need-add-i Inv-loop μ-loop
 add-i c = search needs
@@ -70,9 +78,9 @@ loop-again c =
     let l = turn .before .before .before .loop in
     let start = turn .before .before .before .before .before in
     let w = wordAt (start .args .img .now) in
-    let o = turn .input-row .ensures .0 w (start .pre) in
+    let o = turn .input-row .ensures .0 w (start .pre .0) in
     let h = turn .before .if1 .taken in
-    let x = c .word .ensures .0 ∙ ap (λ (k : ℕ). w (k + 6)) o in
+    let x = c .whole-word .ensures .0 ∙ ap (λ (k : ℕ). w (k + 6)) o in
     let r = input-row w (l .i) (l .p) in
     let t = seen (λ (k : ℕ). inputTest w k (l .p)) _ _ _ _ _ o (c .before .before .input-ok .ensures) (not-false _ (c .before .if2 .left)) r in
     let n = input-next w (l .i) (l .p) ∙ ap (λ (k : ℕ). l .p + k) (sym x) in
@@ -97,8 +105,8 @@ input-rows-spec =
     input-row-requires
     input-ok-requires
     returns
-    add-word
-    word-requires
+    add-whole-word
+    whole-word-requires
     add-p
     add-i
     loop-less

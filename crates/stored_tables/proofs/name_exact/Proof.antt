@@ -1,79 +1,69 @@
-use mathlib.Core.Path.{_≡_, ap, _∙_}
-use mathlib.Core.List.{List}
-use Prim.Native.Nat.{ℕ, _+_, _*_, _-_}
-use native.Mathlib.Omega.{arith}
+use mathlib.Core.Path.{ap, _∙_}
+use Prim.Native.Nat.{ℕ}
+use lib.Dec.{leb}
+use Rattle.model.specs.Image.{wordAt}
+use Rattle.stored_tables.proofs.Names.{name-tests}
 use borrow.Author.Needs.{needs}
-use Rattle.model.specs.Image.{wordAt, bytesOf, tab}
-use Rattle.laws.proofs.Slices.{rest}
-use Rattle.name_field.proofs.Names.{part-words, byte-words}
-use Rattle.stored_tables.proofs.Names.{exact-words}
 use Rattle.stored_tables.proofs.name_exact.Statement.{statement}
 use Rattle.stored_tables.proofs.name_exact.Tie as tie
 
-mul-k : tie.Need-mul-k
-mul-k c = search needs
+whole-word-requires : tie.Need-whole-word-requires
+whole-word-requires c κs = search needs
 
-add-e : tie.Need-add-e
-add-e c = search needs
+pad-word-requires : tie.Need-pad-word-requires
+pad-word-requires c κs = search needs
 
-sub-is-padded : tie.Need-sub-is-padded
-sub-is-padded c = search needs
+add-whole-word : tie.Need-add-whole-word
+add-whole-word c = search needs
 
-part-is-padded-start : tie.Need-part-is-padded-start
-part-is-padded-start c = search needs
+whole-word-requires-2 : tie.Need-whole-word-requires-2
+whole-word-requires-2 c κs = search needs
 
-part-is-padded-end : tie.Need-part-is-padded-end
-part-is-padded-end c = search needs
+pad-word-requires-2 : tie.Need-pad-word-requires-2
+pad-word-requires-2 c κs = search needs
 
-is-padded-requires : tie.Need-is-padded-requires
-is-padded-requires c κs = search needs
+add-whole-word-2 : tie.Need-add-whole-word-2
+add-whole-word-2 c = search needs
+
+whole-word-requires-3 : tie.Need-whole-word-requires-3
+whole-word-requires-3 c κs = search needs
+
+pad-word-requires-3 : tie.Need-pad-word-requires-3
+pad-word-requires-3 c κs = search needs
+
+add-whole-word-3 : tie.Need-add-whole-word-3
+add-whole-word-3 c = search needs
+
+whole-word-requires-4 : tie.Need-whole-word-requires-4
+whole-word-requires-4 c κs = search needs
+
+pad-word-requires-4 : tie.Need-pad-word-requires-4
+pad-word-requires-4 c κs = search needs
 
 returns : tie.Need-returns
 returns c =
-    let a = c .before .before .before .before .args in
-    let n : a .o * 4 + 16 - a .o * 4 ≡ 16 = omega arith in
-    c .is-padded .ensures ∙ exact-words _ _ 0 (a .o) (part-words (a .img .now) (a .o) _ n)
-
-sub-bytes-at : tie.Need-sub-bytes-at
-sub-bytes-at c = search needs
-
-part-bytes-at-start : tie.Need-part-bytes-at-start
-part-bytes-at-start c = search needs
-
-part-bytes-at-end : tie.Need-part-bytes-at-end
-part-bytes-at-end c = search needs
-
-bytes-at-requires : tie.Need-bytes-at-requires
-bytes-at-requires c κs = search needs
-
-slice-aggregate-is-padded : tie.Need-slice-aggregate-is-padded
-slice-aggregate-is-padded c = search needs
-
-is-padded-requires-2 : tie.Need-is-padded-requires-2
-is-padded-requires-2 c κs = search needs
-
-returns-2 : tie.Need-returns-2
-returns-2 c =
-    let bytes = c .before .before in
-    let a = bytes .before .before .before .before .args in
-    let e = bytes .bytes-at .ensures ∙ ap (λ (s : List ℕ). bytesOf (tab (wordAt s) 4 (a .o))) (rest (a .img .now) 0) in
-    c .is-padded2 .ensures ∙ exact-words _ _ 0 (a .o) (byte-words _ (wordAt (a .img .now)) (a .o) e)
+    let a = c .before .before .before .before .before .before .before .before .before .args in
+    let d = c .before .before .pad-word3 in
+    let b = c .before .before .before .before .pad-word2 in
+    let e = c .before .before .before .before .before .before .pad-word in
+    ap (λ (k : ℕ). leb k 1) (c .pad-word4 .ensures)
+    ∙ name-tests (wordAt (a .img .now)) (a .o) _ _ _ _ _ _ _
+    (c .before .before .before .before .before .before .before .whole-word .ensures .0) (c .before .before .before .before .before .whole-word2 .ensures .0)
+    (c .before .before .before .whole-word3 .ensures .0) (c .before .whole-word4 .ensures .0) (e .ensures) (b .ensures) (d .ensures)
 
 pub name-exact-spec : {M : Type 1} → statement M
 name-exact-spec =
     tie.close
     (tie.spec
-    mul-k
-    add-e
-    sub-is-padded
-    part-is-padded-start
-    part-is-padded-end
-    is-padded-requires
-    returns
-    sub-bytes-at
-    part-bytes-at-start
-    part-bytes-at-end
-    bytes-at-requires
-    slice-aggregate-is-padded
-    is-padded-requires-2
-    returns-2)
+    whole-word-requires
+    pad-word-requires
+    add-whole-word
+    whole-word-requires-2
+    pad-word-requires-2
+    add-whole-word-2
+    whole-word-requires-3
+    pad-word-requires-3
+    add-whole-word-3
+    whole-word-requires-4
+    pad-word-requires-4
+    returns)

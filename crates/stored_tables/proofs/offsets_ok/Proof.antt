@@ -13,8 +13,8 @@ use Rattle.stored_tables.proofs.Lists.{equal, differs}
 use Rattle.stored_tables.proofs.offsets_ok.Statement.{statement}
 use Rattle.stored_tables.proofs.offsets_ok.Tie as tie
 
-word-requires : tie.Need-word-requires
-word-requires c κs = search needs
+whole-word-requires : tie.Need-whole-word-requires
+whole-word-requires c κs = search needs
 
 layout-word-requires : tie.Need-layout-word-requires
 layout-word-requires c κs = search needs
@@ -23,19 +23,19 @@ returns : tie.Need-returns
 returns c =
     let start = c .before .before .before .before in
     let one = c .before .layout-word .ensures (decode (wordAt (start .args .img .now))) in
-    sym (one-fails _ 0 (differs _ _ _ (c .before .before .word .ensures .0) (λ q. c .if1 .taken (q ∙ sym one))))
+    sym (one-fails _ 0 (differs _ _ _ (c .before .before .whole-word .ensures .0) (λ q. c .if1 .taken (q ∙ sym one))))
 
 returns-2 : tie.Need-returns-2
 returns-2 c = sym (one-fails _ 1 (differs _ _ _ refl (c .if2 .taken)))
 
 follows-requires : tie.Need-follows-requires
-follows-requires c κs = let s = small (c .before .before .before .before .before .before .pre) in search needs
+follows-requires c κs = let s = small (c .before .before .before .before .before .before .pre .0) in search needs
 
 returns-3 : tie.Need-returns-3
 returns-3 c = sym (one-fails _ 2 (sym (c .before .follows .ensures) ∙ not-true _ (c .if3 .taken)))
 
 follows-requires-2 : tie.Need-follows-requires-2
-follows-requires-2 c κs = let s = small (c .before .before .before .before .before .before .before .before .pre) in search needs
+follows-requires-2 c κs = let s = small (c .before .before .before .before .before .before .before .before .pre .0) in search needs
 
 returns-4 : tie.Need-returns-4
 returns-4 c = sym (one-fails _ 3 (sym (c .before .follows2 .ensures) ∙ not-true _ (c .if4 .taken)))
@@ -43,7 +43,7 @@ returns-4 c = sym (one-fails _ 3 (sym (c .before .follows2 .ensures) ∙ not-tru
 follows-requires-3 : tie.Need-follows-requires-3
 follows-requires-3 c κs =
     let p = c .before .before .before .before .before in
-    let s = small (p .before .before .before .before .before .pre) in
+    let s = small (p .before .before .before .before .before .pre .0) in
     search needs
 
 returns-5 : tie.Need-returns-5
@@ -52,7 +52,7 @@ returns-5 c = sym (one-fails _ 4 (sym (c .before .follows3 .ensures) ∙ not-tru
 follows-requires-4 : tie.Need-follows-requires-4
 follows-requires-4 c κs =
     let p = c .before .before .before .before .before .before in
-    let s = small (p .before .before .before .before .before .before .pre) in
+    let s = small (p .before .before .before .before .before .before .pre .0) in
     search needs
 
 returns-6 : tie.Need-returns-6
@@ -61,7 +61,7 @@ returns-6 c = sym (one-fails _ 5 (sym (c .before .follows4 .ensures) ∙ not-tru
 follows-requires-5 : tie.Need-follows-requires-5
 follows-requires-5 c κs =
     let p = c .before .before .before .before .before .before .before in
-    let s = small (p .before .before .before .before .before .before .before .pre) in
+    let s = small (p .before .before .before .before .before .before .before .pre .0) in
     search needs
 
 returns-7 : tie.Need-returns-7
@@ -70,19 +70,19 @@ returns-7 c = sym (one-fails _ 6 (sym (c .before .follows5 .ensures) ∙ not-tru
 follows-requires-6 : tie.Need-follows-requires-6
 follows-requires-6 c κs =
     let p = c .before .before .before .before .before .before .before .before in
-    let s = small (p .before .before .before .before .before .before .before .before .pre) in
+    let s = small (p .before .before .before .before .before .before .before .before .pre .0) in
     search needs
 
 returns-8 : tie.Need-returns-8
 returns-8 c = sym (one-fails _ 7 (sym (c .before .follows6 .ensures) ∙ not-true _ (c .if8 .taken)))
 
-word-requires-2 : tie.Need-word-requires-2
-word-requires-2 c κs = search needs
+whole-word-requires-2 : tie.Need-whole-word-requires-2
+whole-word-requires-2 c κs = search needs
 
 follows-requires-7 : tie.Need-follows-requires-7
 follows-requires-7 c κs =
     let p = c .before .before .before .before .before .before .before .before .before in
-    let s = small (p .before .before .before .before .before .before .before .before .before .before .pre) in
+    let s = small (p .before .before .before .before .before .before .before .before .before .before .pre .0) in
     search needs
 
 returns-9 : tie.Need-returns-9
@@ -99,12 +99,12 @@ returns-9 c =
     let a = first .before .before .args in
     let w = wordAt (a .img .now) in
     let tests = offsetTests w (a .h) in
-    let total = c .before .word2 .ensures .0 in
+    let total = c .before .whole-word2 .ensures .0 in
     c .follows7 .ensures
     ∙ (λ j. eqb (total j) (a .h .«conclusion_table» + a .h .conclusions * 2))
     ∙ sym
     (last-decides (take 8 tests) (getD tests 8 true) (
-      equal _ _ _ (first .word .ensures .0) (lay .if1 .left ∙ lay .before .layout-word .ensures (decode w)),
+      equal _ _ _ (first .whole-word .ensures .0) (lay .if1 .left ∙ lay .before .layout-word .ensures (decode w)),
       (
         equal _ _ _ refl (size .if2 .left),
         (
@@ -130,7 +130,7 @@ pub offsets-ok-spec : {M : Type 1} → statement M
 offsets-ok-spec =
     tie.close
     (tie.spec
-    word-requires
+    whole-word-requires
     layout-word-requires
     returns
     returns-2
@@ -146,6 +146,6 @@ offsets-ok-spec =
     returns-7
     follows-requires-6
     returns-8
-    word-requires-2
+    whole-word-requires-2
     follows-requires-7
     returns-9)

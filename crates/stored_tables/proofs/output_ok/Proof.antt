@@ -14,15 +14,15 @@ returns : tie.Need-returns
 unfolding outputTest
 returns c = sym (one-fails _ 0 (sym (c .before .name-exact .ensures) ∙ not-true _ (c .if1 .taken)))
 
-add-word : tie.Need-add-word
-add-word c = search needs
+add-whole-word : tie.Need-add-whole-word
+add-whole-word c = search needs
 
-word-requires : tie.Need-word-requires
-word-requires c κs = search needs
+whole-word-requires : tie.Need-whole-word-requires
+whole-word-requires c κs = search needs
 
 returns-2 : tie.Need-returns-2
 unfolding outputTest
-returns-2 c = sym (one-fails _ 1 (differs _ _ _ (c .before .word .ensures .0) (c .if2 .taken)))
+returns-2 c = sym (one-fails _ 1 (differs _ _ _ (c .before .whole-word .ensures .0) (c .if2 .taken)))
 
 range-ok-requires : tie.Need-range-ok-requires
 range-ok-requires c κs = search needs
@@ -48,7 +48,7 @@ returns-5 c =
     (pass _ (
       sym (name .before .name-exact .ensures) ∙ not-false _ (name .if1 .left),
       (
-        equal _ _ _ (first .before .word .ensures .0) (first .if2 .left),
+        equal _ _ _ (first .before .whole-word .ensures .0) (first .if2 .left),
         (
           sym (range .before .range-ok .ensures) ∙ not-false _ (range .if3 .left),
           (sym (c .before .default-ok .ensures) ∙ not-false _ (c .if4 .left), tt),
@@ -62,8 +62,8 @@ output-ok-spec =
     (tie.spec
     name-exact-requires
     returns
-    add-word
-    word-requires
+    add-whole-word
+    whole-word-requires
     returns-2
     range-ok-requires
     returns-3

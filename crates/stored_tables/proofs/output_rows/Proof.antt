@@ -1,5 +1,7 @@
 use mathlib.Core.Path.{sym, ap, _∙_}
 use Prim.Native.Nat.{ℕ, _+_, _*_, _-_, _≤_}
+use native.Mathlib.Omega.{arith}
+use lib.ListN.{length}
 use borrow.Author.Needs.{needs}
 use borrow.Author.Tests.{not-true, not-false}
 use Rattle.model.specs.Image.{wordAt, outputAt}
@@ -33,8 +35,14 @@ loop-holds c =
 output-row-requires : tie.Need-output-row-requires Inv-loop μ-loop
 output-row-requires c κs = let s = small (c .before .before .before .before .pre .0) in search needs
 
+within : (c : tie.After-output-row Inv-loop μ-loop) → (c .output-row .result + 11) * 4 ≤ length (c .before .before .before .before .before .args .img .now)
+within c =
+    let s = c .before .before .before .before .before in
+    let h = s .pre .0 in
+    omega (arith, c .output-row .ensures .0 (wordAt (s .args .img .now)) h, h .output-table, s .pre .1 .outputs, c .before .if1 .taken)
+
 output-ok-requires : tie.Need-output-ok-requires Inv-loop μ-loop
-output-ok-requires c κs = search needs
+output-ok-requires c κs = within c
 
 returns : tie.Need-returns Inv-loop μ-loop
 returns c =
@@ -48,11 +56,11 @@ returns c =
     let t = seen (λ (k : ℕ). outputTest w k (l .p)) _ _ _ _ _ o (c .before .output-ok .ensures) (not-true _ (c .if2 .taken)) r in
     (rows-stop outputRow outputNext (outputAt w) w (w 10) 11 _ (l .i) (l .p) _ h t (l .inv .1 .1 .0), (λ q. clash q))
 
-add-word : tie.Need-add-word Inv-loop μ-loop
-add-word c = search needs
+add-whole-word : tie.Need-add-whole-word Inv-loop μ-loop
+add-whole-word c = search needs
 
-word-requires : tie.Need-word-requires Inv-loop μ-loop
-word-requires c κs = search needs
+whole-word-requires : tie.Need-whole-word-requires Inv-loop μ-loop
+whole-word-requires c κs = omega (arith, within (c .before .before))
 
 add-p : tie.Need-add-p Inv-loop μ-loop
 add-p c = let s = small (c .before .before .before .before .before .before .before .before .pre .0) in search needs
@@ -71,7 +79,7 @@ loop-again c =
     let w = wordAt (start .args .img .now) in
     let o = turn .output-row .ensures .0 w (start .pre .0) in
     let h = turn .before .if1 .taken in
-    let x = c .word .ensures .0 ∙ ap (λ (k : ℕ). w (k + 5)) o in
+    let x = c .whole-word .ensures .0 ∙ ap (λ (k : ℕ). w (k + 5)) o in
     let r = output-row w (start .pre .0 .fits) (l .i) (l .p) in
     let t = seen (λ (k : ℕ). outputTest w k (l .p)) _ _ _ _ _ o (c .before .before .output-ok .ensures) (not-false _ (c .before .if2 .left)) r in
     let n = output-next w (l .i) (l .p) ∙ ap (λ (k : ℕ). l .p + k) (sym x) in
@@ -96,8 +104,8 @@ output-rows-spec =
     output-row-requires
     output-ok-requires
     returns
-    add-word
-    word-requires
+    add-whole-word
+    whole-word-requires
     add-p
     add-i
     loop-less

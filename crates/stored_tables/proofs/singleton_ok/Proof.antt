@@ -14,17 +14,17 @@ returns : tie.Need-returns
 unfolding singletonTest
 returns c = simp (sym (c .before .term-ok .ensures) ∙ not-true _ (c .if1 .taken))
 
-add-word : tie.Need-add-word
-add-word c = search needs
+add-whole-word : tie.Need-add-whole-word
+add-whole-word c = search needs
 
-word-requires : tie.Need-word-requires
-word-requires c κs = search needs
+whole-word-requires : tie.Need-whole-word-requires
+whole-word-requires c κs = search needs
 
 returns-2 : tie.Need-returns-2
 unfolding singletonTest
 returns-2 c =
     let name = c .before in
-    simp (sym (name .before .term-ok .ensures) ∙ not-false _ (name .if1 .left)) (ap (λ (k : ℕ). eqb k 1) (c .word .ensures .0))
+    simp (sym (name .before .term-ok .ensures) ∙ not-false _ (name .if1 .left)) (ap (λ (k : ℕ). eqb k 1) (c .whole-word .ensures .0))
 
 pub singleton-ok-spec : {M : Type 1} → statement M
-singleton-ok-spec = tie.close (tie.spec term-ok-requires returns add-word word-requires returns-2)
+singleton-ok-spec = tie.close (tie.spec term-ok-requires returns add-whole-word whole-word-requires returns-2)

@@ -1,5 +1,6 @@
 use mathlib.Core.Path.{refl, ap, _∙_}
 use Prim.Native.Nat.{ℕ, _+_, _-_, _≤_}
+use native.Mathlib.Omega.{arith}
 use borrow.Author.Needs.{needs}
 use Rattle.model.specs.Image.{wordAt, pointWords}
 use Rattle.header.proofs.Laws.{small}
@@ -31,11 +32,14 @@ loop-holds c =
 point-row-requires : tie.Need-point-row-requires Inv-loop μ-loop
 point-row-requires c κs = let s = small (c .before .before .before .pre .0) in search needs
 
-add-word : tie.Need-add-word Inv-loop μ-loop
-add-word c = search needs
+add-whole-word : tie.Need-add-whole-word Inv-loop μ-loop
+add-whole-word c = search needs
 
-word-requires : tie.Need-word-requires Inv-loop μ-loop
-word-requires c κs = search needs
+whole-word-requires : tie.Need-whole-word-requires Inv-loop μ-loop
+whole-word-requires c κs =
+    let s = c .before .before .before .before in
+    let h = s .pre .0 in
+    omega (arith, c .point-row .ensures .0 (wordAt (s .args .img .now)) h, h .point-table, s .pre .1 .points, s .pre .2, c .before .loop-test .taken)
 
 returns : tie.Need-returns Inv-loop μ-loop
 returns c =
@@ -46,7 +50,7 @@ returns c =
     let w = wordAt (a .img .now) in
     let o = turn .point-row .ensures .0 w (start .pre .0) in
     let h = turn .before .loop-test .taken in
-    let e = c .before .word .ensures .0 ∙ ap (λ (k : ℕ). w (k + 1)) o in
+    let e = c .before .whole-word .ensures .0 ∙ ap (λ (k : ℕ). w (k + 1)) o in
     let t = point-row w (start .pre .0 .fits) (l .i) ∙ differs _ _ _ e (c .if1 .taken) in
     rows-stop (alone pointWords) onward (outputPointAt w) w (w 12) 2 (a .s + a .n) (l .i) tt _ h t (l .inv .1)
 
@@ -65,7 +69,7 @@ loop-again c =
     let w = wordAt (a .img .now) in
     let o = turn .point-row .ensures .0 w (start .pre .0) in
     let h = turn .before .loop-test .taken in
-    let e = c .before .word .ensures .0 ∙ ap (λ (k : ℕ). w (k + 1)) o in
+    let e = c .before .whole-word .ensures .0 ∙ ap (λ (k : ℕ). w (k + 1)) o in
     let t = point-row w (start .pre .0 .fits) (l .i) ∙ equal _ _ _ e (c .if1 .left) in
     (search needs, rows-more (alone pointWords) onward (outputPointAt w) w (w 12) 2 (a .s + a .n) (l .i) tt _ tt h t refl (l .inv .1))
 
@@ -85,8 +89,8 @@ singleton-points-spec =
     add-e
     loop-holds
     point-row-requires
-    add-word
-    word-requires
+    add-whole-word
+    whole-word-requires
     returns
     add-i
     loop-less

@@ -1,12 +1,13 @@
 use mathlib.Core.Path.{refl}
 use Prim.Native.Nat.{ℕ, _+_, _-_, _≤_}
+use native.Mathlib.Omega.{arith}
 use borrow.Author.Needs.{needs}
 use borrow.Author.Tests.{not-true, not-false}
 use Rattle.model.specs.Image.{wordAt}
 use Rattle.header.proofs.Laws.{small}
 use Rattle.layout.specs.Tables.{outputTermAt, termNext, termRow}
 use Rattle.stored_tables.specs.Tests.{singletonTest, outputTermRowsFrom}
-use Rattle.stored_tables.proofs.RowTests.{term-row, output-term-row}
+use Rattle.stored_tables.proofs.RowTests.{output-term-row}
 use Rattle.stored_tables.proofs.Loops.{Rest, rows-from, rows-more, rows-stop, rows-end, seen}
 use Rattle.stored_tables.proofs.singleton_rows.Statement.{statement}
 use Rattle.stored_tables.proofs.singleton_rows.Tie as tie
@@ -33,7 +34,10 @@ term-row-requires : tie.Need-term-row-requires Inv-loop μ-loop
 term-row-requires c κs = let s = small (c .before .before .before .pre .0) in search needs
 
 singleton-ok-requires : tie.Need-singleton-ok-requires Inv-loop μ-loop
-singleton-ok-requires c κs = search needs
+singleton-ok-requires c κs =
+    let s = c .before .before .before .before in
+    let h = s .pre .0 in
+    omega (arith, c .term-row .ensures .0 (wordAt (s .args .img .now)) h, h .term-table, s .pre .1 .terms, s .pre .2, c .before .loop-test .taken)
 
 returns : tie.Need-returns Inv-loop μ-loop
 returns c =

@@ -1,17 +1,25 @@
 use mathlib.Core.Path.{refl, sym, _∙_}
 use Prim.Native.Nat.{ℕ}
+use native.Mathlib.Omega.{arith}
 use borrow.Author.Needs.{needs}
 use borrow.Author.Tests.{not-true, not-false}
 use Rattle.model.specs.Image.{wordAt}
 use Rattle.header.proofs.Laws.{small}
+use Rattle.header.specs.Header.{Holds}
 use Rattle.layout.specs.Tables.{outputRows, outputTermsIn}
 use Rattle.layout.specs.Groups.{tablesOk}
+use Rattle.layout.proofs.Within.{holds}
 use Rattle.laws.proofs.Tests.{clash, one-fails}
 use Rattle.stored_tables.specs.Tests.{outputRowsFrom}
 use Rattle.stored_tables.proofs.Loops.{seen}
 use Rattle.stored_tables.proofs.Whole.{refuses, too-few, not-all, all-there, rest-are, tables-left}
 use Rattle.stored_tables.proofs.tables_ok.Statement.{statement}
 use Rattle.stored_tables.proofs.tables_ok.Tie as tie
+
+held : (c : tie.Else1) → let s = c .before .before .before in Holds (s .args .img .now) (s .args .h)
+held c =
+    let s = c .before .before .before in
+    holds _ (s .pre .1) (sym (c .before .header-ok .ensures) ∙ not-false _ (c .if1 .left)) _ (s .pre .0)
 
 header-ok-requires : tie.Need-header-ok-requires
 header-ok-requires c κs = search needs
@@ -26,7 +34,7 @@ returns c =
     (refuses _ _ (c .refused .ensures .0) e, (search needs, (λ e. c .refused .ensures .1)))
 
 input-rows-requires : tie.Need-input-rows-requires
-input-rows-requires c κs = search needs
+input-rows-requires c κs = (c .before .before .before .pre .0, held c)
 
 refused-requires-2 : tie.Need-refused-requires-2
 refused-requires-2 c κs = search needs
@@ -45,13 +53,17 @@ unfolding tablesOk
 returns-3 c =
     let two = c .before .before .before in
     let ins = two .before .before in
-    let t = ins .before .before .before .before .pre .terms in
+    let t = ins .before .before .before .before .pre .0 .terms in
     let k = ins .input-rows .ensures .1 (not-false _ (two .if2 .left)) in
     let e = one-fails _ 6 (too-few _ _ _ _ _ t k (c .before .if3 .taken)) in
     (refuses _ _ (c .refused3 .ensures .0) e, (search needs, (λ e. c .refused3 .ensures .1)))
 
 output-rows-requires : tie.Need-output-rows-requires
-output-rows-requires c κs = let s = small (c .before .before .before .before .before .before .before .before .pre) in search needs
+output-rows-requires c κs =
+    let one = c .before .before .before .before .before in
+    let heads = one .before .before .before .pre .0 in
+    let s = small heads in
+    (heads, held one, search needs)
 
 refused-requires-4 : tie.Need-refused-requires-4
 refused-requires-4 c κs = search needs
@@ -78,7 +90,7 @@ returns-5 c =
     let outs = four .before .before in
     let two = outs .before .before .before in
     let ins = two .before .before in
-    let t = ins .before .before .before .before .pre .terms in
+    let t = ins .before .before .before .before .pre .0 .terms in
     let k = ins .input-rows .ensures .1 (not-false _ (two .if2 .left)) in
     let o = outs .output-rows .ensures .1 (not-false _ (four .if4 .left)) in
     let e = one-fails _ 6 (not-all _ _ _ _ _ t k _ o (c .before .if5 .taken)) in
@@ -86,9 +98,9 @@ returns-5 c =
 
 terms-ok-requires : tie.Need-terms-ok-requires
 terms-ok-requires c κs =
-    let p = c .before .before .before .before .before .before .before in
-    let s = small (p .before .before .before .before .before .before .before .before .pre) in
-    search needs
+    let three = c .before .before .before .before .before .before .before in
+    let one = three .before .before .before .before .before in
+    (one .before .before .before .pre .0, held one, omega (arith, three .if3 .left))
 
 refused-requires-6 : tie.Need-refused-requires-6
 refused-requires-6 c κs = search needs
@@ -109,7 +121,7 @@ returns-6 c =
     let i = ins .input-rows .ensures in
     let h = not-false _ (four .if4 .left) in
     let o = outs .output-rows .ensures in
-    let t = start .pre .terms in
+    let t = start .pre .0 .terms in
     let s = five .if5 .left in
     let r = seen (λ (p : ℕ). outputRowsFrom w p) _ _ _ _ _ (i .1 g) (o .0) h refl in
     let e = rest-are _ _ _ _ (outputTermsIn w) t (i .1 g) _ (o .1 h) s in
@@ -135,14 +147,14 @@ returns-7 c =
     let i = ins .input-rows .ensures in
     let h = not-false _ (four .if4 .left) in
     let o = outs .output-rows .ensures in
-    let t = start .pre .terms in
+    let t = start .pre .0 .terms in
     let s = five .if5 .left in
     let r = seen (λ (p : ℕ). outputRowsFrom w p) _ _ _ _ _ (i .1 g) (o .0) h refl in
     let e = rest-are _ _ _ _ (outputTermsIn w) t (i .1 g) _ (o .1 h) s in
     let a = all-there _ _ _ _ (outputTermsIn w) t (i .1 g) _ (o .1 h) s in
     let head = sym (one .before .header-ok .ensures) ∙ not-false _ (one .if1 .left) in
     let l = tables-left w _ _ (i .1 g) e head (sym (i .0) ∙ g) r a in
-    let small-terms = small (start .pre) in
+    let small-terms = small (start .pre .0) in
     ((sym (not-false _ (c .if6 .left)) ∙ done .terms-ok .ensures ∙ l, (λ q. i .1 g)), (search needs, (λ e. clash (sym e))))
 
 pub tables-ok-spec : {M : Type 1} → statement M

@@ -14,15 +14,15 @@ returns : tie.Need-returns
 unfolding termTest
 returns c = sym (one-fails _ 0 (sym (c .before .name-exact .ensures) ∙ not-true _ (c .if1 .taken)))
 
-add-word : tie.Need-add-word
-add-word c = search needs
+add-whole-word : tie.Need-add-whole-word
+add-whole-word c = search needs
 
-word-requires : tie.Need-word-requires
-word-requires c κs = search needs
+whole-word-requires : tie.Need-whole-word-requires
+whole-word-requires c κs = search needs
 
 returns-2 : tie.Need-returns-2
 unfolding termTest
-returns-2 c = sym (one-fails _ 1 (differs _ _ _ (c .before .word .ensures .0) (c .if2 .taken)))
+returns-2 c = sym (one-fails _ 1 (differs _ _ _ (c .before .whole-word .ensures .0) (c .if2 .taken)))
 
 returns-3 : tie.Need-returns-3
 unfolding termTest
@@ -31,9 +31,9 @@ returns-3 c =
     sym
     (pass _ (
       sym (name .before .name-exact .ensures) ∙ not-false _ (name .if1 .left),
-      (equal _ _ _ (c .before .word .ensures .0) (c .if2 .left), tt),
+      (equal _ _ _ (c .before .whole-word .ensures .0) (c .if2 .left), tt),
     ))
 
 pub term-ok-spec : {M : Type 1} → statement M
 term-ok-spec =
-    tie.close (tie.spec name-exact-requires returns add-word word-requires returns-2 returns-3)
+    tie.close (tie.spec name-exact-requires returns add-whole-word whole-word-requires returns-2 returns-3)

@@ -1,6 +1,8 @@
 use mathlib.Core.Path.{refl, sym, ap, _∙_}
 use Prim.Native.Nat.{ℕ, _+_, _*_, _-_, _≤_}
 use native.Mathlib.Nat.{zero-add}
+use native.Mathlib.Omega.{arith}
+use lib.ListN.{length}
 use borrow.Author.Needs.{needs}
 use borrow.Author.Tests.{not-true, not-false}
 use Rattle.model.specs.Image.{wordAt, termAt}
@@ -33,8 +35,14 @@ loop-holds c =
 term-row-requires : tie.Need-term-row-requires Inv-loop μ-loop
 term-row-requires c κs = let s = small (c .before .before .before .pre .0) in search needs
 
+within : (c : tie.After-term-row Inv-loop μ-loop) → (c .term-row .result + 6) * 4 ≤ length (c .before .before .before .before .args .img .now)
+within c =
+    let s = c .before .before .before .before in
+    let h = s .pre .0 in
+    omega (arith, c .term-row .ensures .0 (wordAt (s .args .img .now)) h, h .term-table, s .pre .1 .terms, c .before .loop-test .taken)
+
 term-ok-requires : tie.Need-term-ok-requires Inv-loop μ-loop
-term-ok-requires c κs = search needs
+term-ok-requires c κs = within c
 
 returns : tie.Need-returns Inv-loop μ-loop
 returns c =
@@ -46,16 +54,16 @@ returns c =
     let h = turn .before .loop-test .taken in
     let r = term-row w (l .i) (l .p) in
     let t = seen (λ (k : ℕ). termTest w k (l .p)) _ _ _ _ _ o (c .before .term-ok .ensures) (not-true _ (c .if1 .taken)) r in
-    ((rows-stop termRow termNext (termAt w) w (w 11) 6 _ (l .i) (l .p) _ h t (l .inv .1 .1 .0), (λ q. clash q)), search needs)
+    ((rows-stop termRow termNext (termAt w) w (w 11) 6 _ (l .i) (l .p) _ h t (l .inv .1 .1 .0), (λ q. clash q)), (let s = small (start .pre .0) in search needs))
 
-add-word : tie.Need-add-word Inv-loop μ-loop
-add-word c = search needs
+add-whole-word : tie.Need-add-whole-word Inv-loop μ-loop
+add-whole-word c = search needs
 
-word-requires : tie.Need-word-requires Inv-loop μ-loop
-word-requires c κs = search needs
+whole-word-requires : tie.Need-whole-word-requires Inv-loop μ-loop
+whole-word-requires c κs = omega (arith, within (c .before .before))
 
 add-p : tie.Need-add-p Inv-loop μ-loop
-add-p c = search needs
+add-p c = let s = small (c .before .before .before .before .before .before .before .pre .0) in search needs
 
 add-i : tie.Need-add-i Inv-loop μ-loop
 add-i c = search needs
@@ -71,7 +79,7 @@ loop-again c =
     let w = wordAt (start .args .img .now) in
     let o = turn .term-row .ensures .0 w (start .pre .0) in
     let h = turn .before .loop-test .taken in
-    let x = c .word .ensures .0 ∙ ap (λ (k : ℕ). w (k + 5)) o in
+    let x = c .whole-word .ensures .0 ∙ ap (λ (k : ℕ). w (k + 5)) o in
     let r = term-row w (l .i) (l .p) in
     let t = seen (λ (k : ℕ). termTest w k (l .p)) _ _ _ _ _ o (c .before .before .term-ok .ensures) (not-false _ (c .before .if1 .left)) r in
     let n = term-next w (l .i) (l .p) ∙ ap (λ (k : ℕ). l .p + k) (sym x) in
@@ -81,10 +89,11 @@ loop-again c =
 returns-2 : tie.Need-returns-2 Inv-loop μ-loop
 returns-2 c =
     let l = c .before .loop in
-    let w = wordAt (c .before .before .before .args .img .now) in
+    let start = c .before .before .before in
+    let w = wordAt (start .args .img .now) in
     let h = c .loop-test .left in
     let count = count-end (termCount w) _ (l .i) (l .p) _ h (l .inv .1 .1 .1) in
-    ((rows-end termRow termNext (termAt w) w (w 11) 6 _ (l .i) (l .p) _ h (l .inv .1 .1 .0), (λ q. count ∙ zero-add _)), search needs)
+    ((rows-end termRow termNext (termAt w) w (w 11) 6 _ (l .i) (l .p) _ h (l .inv .1 .1 .0), (λ q. count ∙ zero-add _)), (let s = small (start .pre .0) in search needs))
 
 pub term-rows-spec : {M : Type 1} → statement M
 term-rows-spec =
@@ -96,8 +105,8 @@ term-rows-spec =
     term-row-requires
     term-ok-requires
     returns
-    add-word
-    word-requires
+    add-whole-word
+    whole-word-requires
     add-p
     add-i
     loop-less

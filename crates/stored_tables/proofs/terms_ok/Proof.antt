@@ -19,7 +19,7 @@ returns : tie.Need-returns
 returns c = sym (one-fails _ 0 (sym (c .before .before .term-rows .ensures .0 .0) ∙ not-true _ (c .if1 .taken)))
 
 add-if2 : tie.Need-add-if2
-add-if2 c = search needs
+add-if2 c = let s = small (c .before .before .before .before .pre .0) in search needs
 
 returns-2 : tie.Need-returns-2
 returns-2 c =

@@ -11,23 +11,23 @@ in-bounds-requires c κs = search needs
 returns : tie.Need-returns
 returns c = simp (sym (c .before .in-bounds .ensures) ∙ not-true _ (c .if1 .taken))
 
-add-word : tie.Need-add-word
-add-word c = search needs
+add-whole-word : tie.Need-add-whole-word
+add-whole-word c = search needs
 
-word-requires : tie.Need-word-requires
-word-requires c κs = search needs
+whole-word-requires : tie.Need-whole-word-requires
+whole-word-requires c κs = search needs
 
-add-crisp-at : tie.Need-add-crisp-at
-add-crisp-at c = search needs
+add-whole-crisp : tie.Need-add-whole-crisp
+add-whole-crisp c = search needs
 
-crisp-at-requires : tie.Need-crisp-at-requires
-crisp-at-requires c κs = search needs
+whole-crisp-requires : tie.Need-whole-crisp-requires
+whole-crisp-requires c κs = search needs
 
-add-crisp-at-2 : tie.Need-add-crisp-at-2
-add-crisp-at-2 c = search needs
+add-whole-crisp-2 : tie.Need-add-whole-crisp-2
+add-whole-crisp-2 c = search needs
 
-crisp-at-requires-2 : tie.Need-crisp-at-requires-2
-crisp-at-requires-2 c κs = search needs
+whole-crisp-requires-2 : tie.Need-whole-crisp-requires-2
+whole-crisp-requires-2 c κs = search needs
 
 in-range-requires : tie.Need-in-range-requires
 in-range-requires c κs = search needs
@@ -37,7 +37,7 @@ returns-2 c =
     let flag = c .before .before .before in
     let first = flag .before in
     let a = sym (first .before .in-bounds .ensures) ∙ not-false _ (first .if1 .left) in
-    let s = figure-spelt _ _ _ _ _ (flag .word .ensures .0) (c .before .before .crisp-at .ensures) (c .before .crisp-at2 .ensures) _ in
+    let s = figure-spelt _ _ _ _ _ (flag .whole-word .ensures .0) (c .before .before .whole-crisp .ensures) (c .before .whole-crisp2 .ensures) _ in
     simp a (c .in-range .ensures ∙ s)
 
 pub figure-ok-spec : {M : Type 1} → statement M
@@ -46,11 +46,11 @@ figure-ok-spec =
     (tie.spec
     in-bounds-requires
     returns
-    add-word
-    word-requires
-    add-crisp-at
-    crisp-at-requires
-    add-crisp-at-2
-    crisp-at-requires-2
+    add-whole-word
+    whole-word-requires
+    add-whole-crisp
+    whole-crisp-requires
+    add-whole-crisp-2
+    whole-crisp-requires-2
     in-range-requires
     returns-2)

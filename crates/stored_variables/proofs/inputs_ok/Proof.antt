@@ -23,7 +23,7 @@ loop-holds : tie.Need-loop-holds Inv-loop μ-loop
 loop-holds c = (search needs, rw sub-zero)
 
 input-ok-requires : tie.Need-input-ok-requires Inv-loop μ-loop
-input-ok-requires c κs = let s = small (c .before .before .before .before .pre) in search needs
+input-ok-requires c κs = let s = small (c .before .before .before .before .pre .0) in search needs
 
 returns : tie.Need-returns Inv-loop μ-loop
 returns c =
@@ -34,7 +34,7 @@ returns c =
     sym (all-stop (inputStored w) (λ k. k) (a .h .inputs) (l .i) (c .before .before .if1 .taken) t) ∙ l .inv .1
 
 add-i : tie.Need-add-i Inv-loop μ-loop
-add-i c = let s = small (c .before .before .before .before .before .before .pre) in search needs
+add-i c = let s = small (c .before .before .before .before .before .before .pre .0) in search needs
 
 loop-less : tie.Need-loop-less Inv-loop μ-loop
 loop-less c = search needs

@@ -23,7 +23,7 @@ loop-holds : tie.Need-loop-holds Inv-loop μ-loop
 loop-holds c = (search needs, rw sub-zero)
 
 output-ok-requires : tie.Need-output-ok-requires Inv-loop μ-loop
-output-ok-requires c κs = let s = small (c .before .before .before .before .pre) in search needs
+output-ok-requires c κs = let s = small (c .before .before .before .before .pre .0) in search needs
 
 returns : tie.Need-returns Inv-loop μ-loop
 returns c =
@@ -34,7 +34,7 @@ returns c =
     sym (all-stop (outputStored w) (λ k. k) (a .h .outputs) (l .i) (c .before .before .if1 .taken) t) ∙ l .inv .1
 
 add-i : tie.Need-add-i Inv-loop μ-loop
-add-i c = let s = small (c .before .before .before .before .before .before .pre) in search needs
+add-i c = let s = small (c .before .before .before .before .before .before .pre .0) in search needs
 
 loop-less : tie.Need-loop-less Inv-loop μ-loop
 loop-less c = search needs

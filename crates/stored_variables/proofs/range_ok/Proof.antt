@@ -5,26 +5,26 @@ use Rattle.stored_variables.proofs.Spelt.{no-range, range-spelt}
 use Rattle.stored_variables.proofs.range_ok.Statement.{statement}
 use Rattle.stored_variables.proofs.range_ok.Tie as tie
 
-add-word : tie.Need-add-word
-add-word c = search needs
+add-whole-word : tie.Need-add-whole-word
+add-whole-word c = search needs
 
-word-requires : tie.Need-word-requires
-word-requires c κs = search needs
+whole-word-requires : tie.Need-whole-word-requires
+whole-word-requires c κs = search needs
 
 returns : tie.Need-returns
-returns c = sym (no-range _ _ _ (c .before .word .ensures .0) (c .if1 .taken))
+returns c = sym (no-range _ _ _ (c .before .whole-word .ensures .0) (c .if1 .taken))
 
-add-crisp-at : tie.Need-add-crisp-at
-add-crisp-at c = search needs
+add-whole-crisp : tie.Need-add-whole-crisp
+add-whole-crisp c = search needs
 
-crisp-at-requires : tie.Need-crisp-at-requires
-crisp-at-requires c κs = search needs
+whole-crisp-requires : tie.Need-whole-crisp-requires
+whole-crisp-requires c κs = search needs
 
-add-crisp-at-2 : tie.Need-add-crisp-at-2
-add-crisp-at-2 c = search needs
+add-whole-crisp-2 : tie.Need-add-whole-crisp-2
+add-whole-crisp-2 c = search needs
 
-crisp-at-requires-2 : tie.Need-crisp-at-requires-2
-crisp-at-requires-2 c κs = search needs
+whole-crisp-requires-2 : tie.Need-whole-crisp-requires-2
+whole-crisp-requires-2 c κs = search needs
 
 in-bounds-requires : tie.Need-in-bounds-requires
 in-bounds-requires c κs = search needs
@@ -33,8 +33,8 @@ returns-2 : tie.Need-returns-2
 returns-2 c =
     let most = c .before .before in
     let flag = most .before .before in
-    let e = flag .before .word .ensures .0 in
-    let s = range-spelt _ _ _ _ _ e (most .before .crisp-at .ensures) (most .crisp-at2 .ensures) (flag .if1 .left) in
+    let e = flag .before .whole-word .ensures .0 in
+    let s = range-spelt _ _ _ _ _ e (most .before .whole-crisp .ensures) (most .whole-crisp2 .ensures) (flag .if1 .left) in
     sym (sym s ∙ simp (sym (c .before .in-bounds .ensures) ∙ not-true _ (c .if2 .taken)))
 
 in-bounds-requires-2 : tie.Need-in-bounds-requires-2
@@ -45,8 +45,8 @@ returns-3 c =
     let first = c .before .before in
     let most = first .before .before in
     let flag = most .before .before in
-    let e = flag .before .word .ensures .0 in
-    let s = range-spelt _ _ _ _ _ e (most .before .crisp-at .ensures) (most .crisp-at2 .ensures) (flag .if1 .left) in
+    let e = flag .before .whole-word .ensures .0 in
+    let s = range-spelt _ _ _ _ _ e (most .before .whole-crisp .ensures) (most .whole-crisp2 .ensures) (flag .if1 .left) in
     let a = sym (first .before .in-bounds .ensures) ∙ not-false _ (first .if2 .left) in
     sym (sym s ∙ simp (a, sym (c .before .in-bounds2 .ensures) ∙ not-true _ (c .if3 .taken)))
 
@@ -59,8 +59,8 @@ returns-4 c =
     let first = second .before .before in
     let most = first .before .before in
     let flag = most .before .before in
-    let e = flag .before .word .ensures .0 in
-    let s = range-spelt _ _ _ _ _ e (most .before .crisp-at .ensures) (most .crisp-at2 .ensures) (flag .if1 .left) in
+    let e = flag .before .whole-word .ensures .0 in
+    let s = range-spelt _ _ _ _ _ e (most .before .whole-crisp .ensures) (most .whole-crisp2 .ensures) (flag .if1 .left) in
     let a = sym (first .before .in-bounds .ensures) ∙ not-false _ (first .if2 .left) in
     let b = sym (second .before .in-bounds2 .ensures) ∙ not-false _ (second .if3 .left) in
     c .less .ensures ∙ sym (sym s ∙ simp (a, b))
@@ -69,13 +69,13 @@ pub range-ok-spec : {M : Type 1} → statement M
 range-ok-spec =
     tie.close
     (tie.spec
-    add-word
-    word-requires
+    add-whole-word
+    whole-word-requires
     returns
-    add-crisp-at
-    crisp-at-requires
-    add-crisp-at-2
-    crisp-at-requires-2
+    add-whole-crisp
+    whole-crisp-requires
+    add-whole-crisp-2
+    whole-crisp-requires-2
     in-bounds-requires
     returns-2
     in-bounds-requires-2

@@ -7,9 +7,7 @@ use borrow.Author.Needs.{needs}
 use borrow.Author.Tests.{not-true, not-false}
 use Rattle.model.specs.WellFormed.{rising}
 use Rattle.model.specs.Image.{wordAt, tab, pointAt}
-use Rattle.header.proofs.Laws.{small}
 use Rattle.stored_variables.proofs.Rising.{rising-more, rising-stop, rising-end, rising-start}
-use Rattle.stored_variables.proofs.Spelt.{position}
 use Rattle.stored_variables.proofs.rising_ok.Statement.{statement}
 use Rattle.stored_variables.proofs.rising_ok.Tie as tie
 
@@ -32,20 +30,14 @@ loop-holds c = (search needs, (search needs, rising-start _ _ _))
 add-loop : tie.Need-add-loop Inv-loop μ-loop
 add-loop c = search needs
 
-point-row-requires : tie.Need-point-row-requires Inv-loop μ-loop
-point-row-requires c κs = let s = small (c .before .before .before .pre .0) in search needs
-
-crisp-at-requires : tie.Need-crisp-at-requires Inv-loop μ-loop
-crisp-at-requires c κs = search needs
+place-at-requires : tie.Need-place-at-requires Inv-loop μ-loop
+place-at-requires c κs = search needs
 
 add-i : tie.Need-add-i Inv-loop μ-loop
 add-i c = search needs
 
-point-row-requires-2 : tie.Need-point-row-requires-2 Inv-loop μ-loop
-point-row-requires-2 c κs = let s = small (c .before .before .before .before .before .pre .0) in search needs
-
-crisp-at-requires-2 : tie.Need-crisp-at-requires-2 Inv-loop μ-loop
-crisp-at-requires-2 c κs = search needs
+place-at-requires-2 : tie.Need-place-at-requires-2 Inv-loop μ-loop
+place-at-requires-2 c κs = search needs
 
 less-requires : tie.Need-less-requires Inv-loop μ-loop
 less-requires c κs = search needs
@@ -53,14 +45,11 @@ less-requires c κs = search needs
 returns : tie.Need-returns Inv-loop μ-loop
 returns c =
     let next = c .before .before in
-    let this = next .before .before in
-    let l = this .before .before .before .loop in
-    let start = this .before .before .before .before .before in
-    let a = start .args in
+    let this = next .before in
+    let l = this .before .before .loop in
+    let a = this .before .before .before .before .args in
     let w = wordAt (a .img .now) in
-    let p = position w (l .i) _ _ (this .before .point-row .ensures .0 w (start .pre .0)) (this .crisp-at .ensures) in
-    let q = position w (l .i + 1) _ _ (next .before .point-row2 .ensures .0 w (start .pre .0)) (next .crisp-at2 .ensures) in
-    let t = (λ j. ltZ (sym p j) (sym q j)) ∙ sym (c .before .less .ensures) ∙ not-true _ (c .if1 .taken) in
+    let t = (λ j. ltZ (sym (this .place-at .ensures) j) (sym (next .place-at2 .ensures) j)) ∙ sym (c .before .less .ensures) ∙ not-true _ (c .if1 .taken) in
     let e = rising-stop (pointAt w) (a .s + a .k) (l .i) (omega arith) t in
     sym e ∙ l .inv .1 .1
 
@@ -70,14 +59,11 @@ loop-less c = search needs
 loop-again : tie.Need-loop-again Inv-loop μ-loop
 loop-again c =
     let next = c .before .before in
-    let this = next .before .before in
-    let l = this .before .before .before .loop in
-    let start = this .before .before .before .before .before in
-    let a = start .args in
+    let this = next .before in
+    let l = this .before .before .loop in
+    let a = this .before .before .before .before .args in
     let w = wordAt (a .img .now) in
-    let p = position w (l .i) _ _ (this .before .point-row .ensures .0 w (start .pre .0)) (this .crisp-at .ensures) in
-    let q = position w (l .i + 1) _ _ (next .before .point-row2 .ensures .0 w (start .pre .0)) (next .crisp-at2 .ensures) in
-    let t = (λ j. ltZ (sym p j) (sym q j)) ∙ sym (c .before .less .ensures) ∙ not-false _ (c .if1 .left) in
+    let t = (λ j. ltZ (sym (this .place-at .ensures) j) (sym (next .place-at2 .ensures) j)) ∙ sym (c .before .less .ensures) ∙ not-false _ (c .if1 .left) in
     let e = rising-more (pointAt w) (a .s + a .k) (l .i) (omega arith) t in
     (search needs, (search needs, sym e ∙ l .inv .1 .1))
 
@@ -96,11 +82,9 @@ rising-ok-spec =
     add-e
     loop-holds
     add-loop
-    point-row-requires
-    crisp-at-requires
+    place-at-requires
     add-i
-    point-row-requires-2
-    crisp-at-requires-2
+    place-at-requires-2
     less-requires
     returns
     loop-less

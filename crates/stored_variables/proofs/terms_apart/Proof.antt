@@ -10,7 +10,11 @@ term-row-requires : tie.Need-term-row-requires
 term-row-requires c κs = let s = small (c .before .pre .0) in search needs
 
 distinct-ok-requires : tie.Need-distinct-ok-requires
-distinct-ok-requires c κs = search needs
+distinct-ok-requires c κs =
+    let start = c .before .before in
+    let heads = start .pre .0 in
+    let row = c .term-row .ensures .0 (wordAt (start .args .img .now)) heads in
+    search (needs, row, heads .term-table, start .pre .1 .terms)
 
 returns : tie.Need-returns
 returns c =

@@ -7,6 +7,7 @@ use Rattle.model.specs.Basic.{all}
 use Rattle.model.specs.WellFormed.{termOk}
 use Rattle.model.specs.Image.{wordAt, tab, termAt}
 use Rattle.laws.proofs.Places.{all-more, all-stop, all-end, all-start}
+use Rattle.layout.proofs.Within.{inputs-first}
 use Rattle.stored_variables.proofs.terms_ok.Statement.{statement}
 use Rattle.stored_variables.proofs.terms_ok.Tie as tie
 
@@ -21,7 +22,7 @@ abbrev μ-loop : tie.MeasureT-loop
 μ-loop img h s k e i₀ i = s + k - i
 
 add-e : tie.Need-add-e Inv-loop μ-loop
-add-e c = search needs
+add-e c = let start = c .before in search (needs, start .pre .0 .fits 4, inputs-first _ (start .pre .2))
 
 loop-holds : tie.Need-loop-holds Inv-loop μ-loop
 loop-holds c = (search needs, (search needs, all-start _ _ _ _))
@@ -38,7 +39,7 @@ returns c =
     sym (all-stop (termOk) (termAt w) (a .s + a .k) (l .i) (omega arith) t) ∙ l .inv .1 .1
 
 add-i : tie.Need-add-i Inv-loop μ-loop
-add-i c = search needs
+add-i c = let start = c .before .before .before .before .before in search (needs, start .pre .0 .fits 4, inputs-first _ (start .pre .2))
 
 loop-less : tie.Need-loop-less Inv-loop μ-loop
 loop-less c = search needs

@@ -8,34 +8,34 @@ use Rattle.stored_variables.proofs.variables_apart.Statement.{statement
 use Rattle.stored_variables.proofs.variables_apart.Tie as tie
 
 distinct-ok-requires : tie.Need-distinct-ok-requires
-distinct-ok-requires c κs = let s = small (c .before .pre) in search needs
+distinct-ok-requires c κs = let s = small (c .before .pre .0) in search needs
 
 returns : tie.Need-returns
 returns c =
     let start = c .before .before .before in
-    let h = start .pre in
+    let h = start .pre .0 in
     let s = apart-spelt (wordAt (start .args .img .now)) _ _ _ _ (h .input-table) (h .output-table) (h .inputs) (h .outputs) in
     sym (sym s ∙ simp (sym (c .before .distinct-ok .ensures) ∙ not-true _ (c .if1 .taken)))
 
 apart-ok-requires : tie.Need-apart-ok-requires
-apart-ok-requires c κs = let s = small (c .before .before .before .pre) in search needs
+apart-ok-requires c κs = let s = small (c .before .before .before .pre .0) in search needs
 
 returns-2 : tie.Need-returns-2
 returns-2 c =
     let start = c .before .before .before .before .before in
-    let h = start .pre in
+    let h = start .pre .0 in
     let s = apart-spelt (wordAt (start .args .img .now)) _ _ _ _ (h .input-table) (h .output-table) (h .inputs) (h .outputs) in
     let first = c .before .before in
     let d = sym (first .before .distinct-ok .ensures) ∙ not-false _ (first .if1 .left) in
     sym (sym s ∙ simp (d, sym (c .before .apart-ok .ensures) ∙ not-true _ (c .if2 .taken)))
 
 distinct-ok-requires-2 : tie.Need-distinct-ok-requires-2
-distinct-ok-requires-2 c κs = let s = small (c .before .before .before .before .before .pre) in search needs
+distinct-ok-requires-2 c κs = let s = small (c .before .before .before .before .before .pre .0) in search needs
 
 returns-3 : tie.Need-returns-3
 returns-3 c =
     let start = c .before .before .before .before .before .before in
-    let h = start .pre in
+    let h = start .pre .0 in
     let s = apart-spelt (wordAt (start .args .img .now)) _ _ _ _ (h .input-table) (h .output-table) (h .inputs) (h .outputs) in
     let second = c .before in
     let first = second .before .before in

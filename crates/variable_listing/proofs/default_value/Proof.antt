@@ -1,19 +1,31 @@
 use native.Mathlib.Omega.{arith}
 use mathlib.Core.Path.{sym}
+use Prim.Native.Nat.{_+_, _*_, _≤_}
+use lib.ListN.{length}
 use borrow.Author.Tests.{eq-eqb, ne-eqb}
 use Rattle.model.specs.Image.{wordAt, outputAt}
 use borrow.Author.Needs.{needs}
 use Rattle.variable_listing.proofs.default_value.Statement.{statement}
 use Rattle.variable_listing.proofs.default_value.Tie as tie
 
+-- the row lies in the image
+within : (c : tie.After-output-row) → (c .output-row .result + 11) * 4 ≤ length (c .before .before .before .args .img .now)
+within c =
+    let s = c .before .before .before in
+    let h = s .pre .0 in
+    omega (arith, c .output-row .ensures .0 (wordAt (s .args .img .now)) h, h .output-table, s .pre .1 .outputs, s .pre .2)
+
 output-row-requires : tie.Need-output-row-requires
-output-row-requires c κs = let h = c .before .before .pre .0 in omega (arith, h .output-table, h .fits 10)
+output-row-requires c κs =
+    let s = c .before .before in
+    let h = s .pre .0 in
+    omega (arith, h .output-table, h .fits 10, h .outputs, h .fits 3, s .pre .2)
 
-add-word : tie.Need-add-word
-add-word c = search needs
+add-whole-word : tie.Need-add-whole-word
+add-whole-word c = search needs
 
-word-requires : tie.Need-word-requires
-word-requires c κs = search needs
+whole-word-requires : tie.Need-whole-word-requires
+whole-word-requires c κs = omega (arith, within c)
 
 slice-aggregate-puts : tie.Need-slice-aggregate-puts
 slice-aggregate-puts c = search needs
@@ -34,13 +46,13 @@ returns c =
     let s = row .before .before .before in
     let w = wordAt (s .args .img .now) in
     let e = row .output-row .ensures .0 w (s .pre .0) in
-    simp (sym e, sym (v .word .ensures .0), eq-eqb _ _ (i .if1 .taken)) (p .puts .ensures)
+    simp (sym e, sym (v .whole-word .ensures .0), eq-eqb _ _ (i .if1 .taken)) (p .puts .ensures)
 
-add-crisp-at : tie.Need-add-crisp-at
-add-crisp-at c = search needs
+add-whole-crisp : tie.Need-add-whole-crisp
+add-whole-crisp c = search needs
 
-crisp-at-requires : tie.Need-crisp-at-requires
-crisp-at-requires c κs = search needs
+whole-crisp-requires : tie.Need-whole-crisp-requires
+whole-crisp-requires c κs = omega (arith, within (c .before .before))
 
 crisp-requires : tie.Need-crisp-requires
 crisp-requires c κs = search needs
@@ -59,21 +71,21 @@ returns-2 c =
     let s = row .before .before .before in
     let w = wordAt (s .args .img .now) in
     let e = row .output-row .ensures .0 w (s .pre .0) in
-    simp (sym e, sym (v .word .ensures .0), ne-eqb _ _ (i .if1 .left)) (rw (a .crisp-at .ensures) at (p .crisp .ensures))
+    simp (sym e, sym (v .whole-word .ensures .0), ne-eqb _ _ (i .if1 .left)) (rw (a .whole-crisp .ensures) at (p .crisp .ensures))
 
 pub default-value-spec : {M : Type 1} → statement M
 default-value-spec =
     tie.close
     (tie.spec
     output-row-requires
-    add-word
-    word-requires
+    add-whole-word
+    whole-word-requires
     slice-aggregate-puts
     puts-requires
     same-length
     returns
-    add-crisp-at
-    crisp-at-requires
+    add-whole-crisp
+    whole-crisp-requires
     crisp-requires
     same-length-2
     returns-2)

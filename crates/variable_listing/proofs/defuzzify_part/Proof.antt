@@ -1,27 +1,52 @@
 use native.Mathlib.Omega.{arith}
-use mathlib.Core.Path.{ap, _∙_}
-use Prim.Native.Nat.{ℕ, _+_}
-use Rattle.model.specs.Image.{wordAt, outputAt}
+use mathlib.Core.Path.{_≡_, ap, _∙_}
+use Prim.Native.Nat.{ℕ, _+_, _*_, _≤_}
+use lib.ListN.{length}
+use Rattle.model.specs.Image.{wordAt, outputPlace, outputAt}
 use Rattle.model.specs.Listing.{defuzzifyText}
+use Rattle.layout.specs.Tables.{outputCount}
+use Rattle.layout.proofs.Within.{output-terms-within}
 use Rattle.listing_writer.proofs.Prepends.{joined}
 use borrow.Author.Needs.{needs}
 use Rattle.variable_listing.proofs.defuzzify_part.Statement.{statement}
 use Rattle.variable_listing.proofs.defuzzify_part.Tie as tie
 
+-- the words of the output's row that were read
+reads-are : (c : tie.After-whole-word2) →
+    let s = c .before .before .before .before .before in
+    let w = wordAt (s .args .img .now) in
+    (c .before .whole-word .result ≡ w (outputPlace w (s .args .i) + 4)) × (c .whole-word2 .result ≡ outputCount w (s .args .i))
+reads-are c =
+    let row = c .before .before in
+    let s = row .before .before .before in
+    let w = wordAt (s .args .img .now) in
+    let e = row .output-row .ensures .0 w (s .pre .0) in
+    (c .before .whole-word .ensures .0 ∙ ap (λ (o : ℕ). w (o + 4)) e, c .whole-word2 .ensures .0 ∙ ap (λ (o : ℕ). w (o + 5)) e)
+
+-- the row lies in the image
+within : (c : tie.After-output-row) → (c .output-row .result + 11) * 4 ≤ length (c .before .before .before .args .img .now)
+within c =
+    let s = c .before .before .before in
+    let h = s .pre .0 in
+    omega (arith, c .output-row .ensures .0 (wordAt (s .args .img .now)) h, h .output-table, s .pre .1 .outputs, s .pre .3)
+
 output-row-requires : tie.Need-output-row-requires
-output-row-requires c κs = let h = c .before .before .pre .0 in omega (arith, h .output-table, h .fits 10)
+output-row-requires c κs =
+    let s = c .before .before in
+    let h = s .pre .0 in
+    omega (arith, h .output-table, h .fits 10, h .outputs, h .fits 3, s .pre .3)
 
-add-word : tie.Need-add-word
-add-word c = search needs
+add-whole-word : tie.Need-add-whole-word
+add-whole-word c = search needs
 
-word-requires : tie.Need-word-requires
-word-requires c κs = search needs
+whole-word-requires : tie.Need-whole-word-requires
+whole-word-requires c κs = omega (arith, within c)
 
-add-word-2 : tie.Need-add-word-2
-add-word-2 c = search needs
+add-whole-word-2 : tie.Need-add-whole-word-2
+add-whole-word-2 c = search needs
 
-word-requires-2 : tie.Need-word-requires-2
-word-requires-2 c κs = search needs
+whole-word-requires-2 : tie.Need-whole-word-requires-2
+whole-word-requires-2 c κs = omega (arith, within (c .before))
 
 slice-aggregate-puts : tie.Need-slice-aggregate-puts
 slice-aggregate-puts c = search needs
@@ -39,7 +64,14 @@ puts-requires-2 : tie.Need-puts-requires-2
 puts-requires-2 c κs = search needs
 
 singletons-requires : tie.Need-singletons-requires
-singletons-requires c κs = search needs
+singletons-requires c κs =
+    let p2 = c .before .before .before in
+    let v = p2 .before .before .before .before .before .before .before .before .before .before .before .before in
+    let s = v .before .before .before .before .before in
+    let h = s .pre .0 in
+    let q = reads-are v in
+    let r = output-terms-within (wordAt (s .args .img .now)) (s .pre .2) (s .args .i) (omega (arith, h .outputs, s .pre .3)) in
+    (h, s .pre .1, s .pre .2, omega (arith, q .0, r .0), omega (arith, q .0, q .1, h .terms, r .1))
 
 range-line-requires : tie.Need-range-line-requires
 range-line-requires c κs = search needs
@@ -90,16 +122,14 @@ returns c =
     let p2 = ts .before .before .before .before in
     let d = p2 .before .before .before .before .before in
     let p1 = d .before .before .before .before in
-    let v2 = p1 .before .before .before in
-    let v1 = v2 .before in
-    let row = v1 .before in
+    let v = p1 .before .before .before in
+    let row = v .before .before in
     let s = row .before .before .before in
     let w = wordAt (s .args .img .now) in
     let e = row .output-row .ensures .0 w (s .pre .0) in
-    let first = v1 .word .ensures .0 ∙ ap (λ (o : ℕ). w (o + 4)) e in
-    let count = v2 .word2 .ensures .0 ∙ ap (λ (o : ℕ). w (o + 5)) e in
+    let r = reads-are v in
     let below = joined (joined (p1 .puts .ensures) (d .default-value .ensures)) (p2 .puts2 .ensures) in
-    let terms = rw (first, count) at (ts .singletons .ensures) in
+    let terms = rw (r .0, r .1) at (ts .singletons .ensures) in
     let body = joined (joined below terms) (g .range-line .ensures) in
     joined (joined (joined body (p3 .puts3 .ensures)) (rw e at (n .name .ensures))) (p4 .puts4 .ensures)
 
@@ -108,10 +138,10 @@ defuzzify-part-spec =
     tie.close
     (tie.spec
     output-row-requires
-    add-word
-    word-requires
-    add-word-2
-    word-requires-2
+    add-whole-word
+    whole-word-requires
+    add-whole-word-2
+    whole-word-requires-2
     slice-aggregate-puts
     puts-requires
     default-value-requires

@@ -1,9 +1,11 @@
 use native.Mathlib.Omega.{arith}
 use mathlib.Core.Path.{_≡_, ap, _∙_}
-use Prim.Native.Nat.{ℕ, _+_}
+use Prim.Native.Nat.{ℕ, _+_, _*_, _≤_}
+use lib.ListN.{length}
 use Rattle.model.specs.Image.{wordAt, inputPlace, inputAt}
 use Rattle.model.specs.Listing.{fuzzifyText}
 use Rattle.layout.specs.Tables.{inputCount}
+use Rattle.layout.proofs.Within.{input-terms-within}
 use Rattle.listing_writer.proofs.Prepends.{joined}
 use Rattle.fuzzification.proofs.Entries.{input-limit, first-is, accepted-terms}
 use borrow.Author.Needs.{needs}
@@ -11,16 +13,23 @@ use Rattle.variable_listing.proofs.fuzzify_part.Statement.{statement}
 use Rattle.variable_listing.proofs.fuzzify_part.Tie as tie
 
 -- the words of the input's row that were read
-reads-are : (c : tie.After-word2) →
+reads-are : (c : tie.After-whole-word2) →
     let s = c .before .before .before .before .before in
     let w = wordAt (s .args .img .now) in
-    (c .before .word .result ≡ w (inputPlace w (s .args .i) + 5)) × (c .word2 .result ≡ inputCount w (s .args .i))
+    (c .before .whole-word .result ≡ w (inputPlace w (s .args .i) + 5)) × (c .whole-word2 .result ≡ inputCount w (s .args .i))
 reads-are c =
     let row = c .before .before in
     let s = row .before .before .before in
     let w = wordAt (s .args .img .now) in
     let e = row .input-row .ensures .0 w (s .pre .1) in
-    (c .before .word .ensures .0 ∙ ap (λ (o : ℕ). w (o + 5)) e, c .word2 .ensures .0 ∙ ap (λ (o : ℕ). w (o + 6)) e)
+    (c .before .whole-word .ensures .0 ∙ ap (λ (o : ℕ). w (o + 5)) e, c .whole-word2 .ensures .0 ∙ ap (λ (o : ℕ). w (o + 6)) e)
+
+-- the row lies in the image
+within : (c : tie.After-input-row) → (c .input-row .result + 7) * 4 ≤ length (c .before .before .before .args .img .now)
+within c =
+    let s = c .before .before .before in
+    let h = s .pre .1 in
+    omega (arith, c .input-row .ensures .0 (wordAt (s .args .img .now)) h, h .input-table, s .pre .3 .inputs, h .inputs, s .pre .2)
 
 input-row-requires : tie.Need-input-row-requires
 input-row-requires c κs =
@@ -28,17 +37,17 @@ input-row-requires c κs =
     let h = s .pre .1 in
     omega (arith, h .input-table, h .fits 9, s .pre .2, input-limit (wordAt (s .args .img .now)) (s .pre .0))
 
-add-word : tie.Need-add-word
-add-word c = search needs
+add-whole-word : tie.Need-add-whole-word
+add-whole-word c = search needs
 
-word-requires : tie.Need-word-requires
-word-requires c κs = search needs
+whole-word-requires : tie.Need-whole-word-requires
+whole-word-requires c κs = omega (arith, within c)
 
-add-word-2 : tie.Need-add-word-2
-add-word-2 c = search needs
+add-whole-word-2 : tie.Need-add-whole-word-2
+add-whole-word-2 c = search needs
 
-word-requires-2 : tie.Need-word-requires-2
-word-requires-2 c κs = search needs
+whole-word-requires-2 : tie.Need-whole-word-requires-2
+whole-word-requires-2 c κs = omega (arith, within (c .before))
 
 slice-aggregate-puts : tie.Need-slice-aggregate-puts
 slice-aggregate-puts c = search needs
@@ -53,8 +62,15 @@ input-terms-requires c κs =
     let w = wordAt (s .args .img .now) in
     let r = reads-are v in
     let i = s .args .i in
-    let t = accepted-terms w i (v .before .word .result) (v .word2 .result) (s .pre .0) (s .pre .2) (r .0 ∙ first-is w i (s .pre .0) (s .pre .2)) (r .1) in
-    ((s .pre .1, v .before .word .ensures .1, t .0), t .1)
+    let t = accepted-terms w i (v .before .whole-word .result) (v .whole-word2 .result) (s .pre .0) (s .pre .2) (r .0 ∙ first-is w i (s .pre .0) (s .pre .2)) (r .1) in (
+      (
+        s .pre .1,
+        s .pre .3,
+        s .pre .0 .frame,
+        omega (arith, r .0, r .1, input-terms-within w (s .pre .0 .frame) i (s .pre .2) .0),
+      ),
+      t .1,
+    )
 
 slice-aggregate-puts-2 : tie.Need-slice-aggregate-puts-2
 slice-aggregate-puts-2 c = search needs
@@ -96,10 +112,10 @@ fuzzify-part-spec =
     tie.close
     (tie.spec
     input-row-requires
-    add-word
-    word-requires
-    add-word-2
-    word-requires-2
+    add-whole-word
+    whole-word-requires
+    add-whole-word-2
+    whole-word-requires-2
     slice-aggregate-puts
     puts-requires
     input-terms-requires

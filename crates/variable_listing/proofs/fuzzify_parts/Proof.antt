@@ -29,7 +29,7 @@ sub-fuzzify-part c = search needs
 fuzzify-part-requires : tie.Need-fuzzify-part-requires Inv-loop μ-loop
 fuzzify-part-requires c κs =
     let s = c .before .before .before .before .before in
-    (s .pre .0, s .pre .1, omega (arith, s .pre .1 .inputs))
+    (s .pre .0, s .pre .1, omega (arith, s .pre .1 .inputs), s .pre .2)
 
 sub-i : tie.Need-sub-i Inv-loop μ-loop
 sub-i c = search needs

@@ -6,7 +6,10 @@ use Rattle.variable_listing.proofs.input_line.Statement.{statement}
 use Rattle.variable_listing.proofs.input_line.Tie as tie
 
 input-row-requires : tie.Need-input-row-requires
-input-row-requires c κs = let h = c .before .before .pre .0 in omega (arith, h .input-table, h .fits 9)
+input-row-requires c κs =
+    let s = c .before .before in
+    let h = s .pre .0 in
+    omega (arith, h .input-table, h .fits 9, h .inputs, h .fits 2, s .pre .2)
 
 slice-aggregate-puts : tie.Need-slice-aggregate-puts
 slice-aggregate-puts c = search needs

@@ -1,10 +1,12 @@
 use native.Mathlib.Omega.{arith}
 use mathlib.Core.Path.{_≡_, sym, ap, _∙_}
-use Prim.Native.Nat.{ℕ, _+_}
+use Prim.Native.Nat.{ℕ, _+_, _*_, _≤_}
+use lib.ListN.{length}
 use lib.Seq.{length-take-le}
 use Rattle.model.specs.Block.{Term}
 use Rattle.model.specs.Image.{wordAt, nameAt, termPlace, termAt}
 use Rattle.layout.specs.Tables.{termCount}
+use Rattle.layout.proofs.Within.{inputs-first, points-within}
 use Rattle.name_field.proofs.Names.{name-front}
 use Rattle.fuzzification.proofs.Entries.{points-few, points-read}
 use borrow.Author.Needs.{needs}
@@ -12,38 +14,51 @@ use Rattle.variable_listing.proofs.input_term.Statement.{statement}
 use Rattle.variable_listing.proofs.input_term.Tie as tie
 
 -- the words of the term's row that were read
-reads-are : (c : tie.After-word2) →
+reads-are : (c : tie.After-whole-word2) →
     let s = c .before .before .before .before .before in
     let w = wordAt (s .args .img .now) in
-    (c .before .word .result ≡ termCount w (s .args .t)) × (c .word2 .result ≡ w (termPlace w (s .args .t) + 4))
+    (c .before .whole-word .result ≡ termCount w (s .args .t)) × (c .whole-word2 .result ≡ w (termPlace w (s .args .t) + 4))
 reads-are c =
     let row = c .before .before in
     let s = row .before .before .before in
     let w = wordAt (s .args .img .now) in
     let e = row .term-row .ensures .0 w (s .pre .0 .0) in
-    (c .before .word .ensures .0 ∙ ap (λ (o : ℕ). w (o + 5)) e, c .word2 .ensures .0 ∙ ap (λ (o : ℕ). w (o + 4)) e)
+    (c .before .whole-word .ensures .0 ∙ ap (λ (o : ℕ). w (o + 5)) e, c .whole-word2 .ensures .0 ∙ ap (λ (o : ℕ). w (o + 4)) e)
+
+-- the row lies in the image
+within : (c : tie.After-term-row) → (c .term-row .result + 6) * 4 ≤ length (c .before .before .before .args .img .now)
+within c =
+    let s = c .before .before .before in
+    let h = s .pre .0 .0 in
+    omega (arith, c .term-row .ensures .0 (wordAt (s .args .img .now)) h, h .term-table, s .pre .0 .1 .terms, h .terms, s .pre .0 .3, inputs-first (wordAt (s .args .img .now)) (s .pre .0 .2))
 
 term-row-requires : tie.Need-term-row-requires
-term-row-requires c κs = let h = c .before .before .pre .0 .0 in omega (arith, h .term-table, h .fits 11)
+term-row-requires c κs =
+    let s = c .before .before in
+    let h = s .pre .0 .0 in
+    omega (arith, h .term-table, h .fits 11, h .fits 4, s .pre .0 .3, inputs-first (wordAt (s .args .img .now)) (s .pre .0 .2))
 
-add-word : tie.Need-add-word
-add-word c = search needs
+add-whole-word : tie.Need-add-whole-word
+add-whole-word c = search needs
 
-word-requires : tie.Need-word-requires
-word-requires c κs = search needs
+whole-word-requires : tie.Need-whole-word-requires
+whole-word-requires c κs = omega (arith, within c)
 
-add-word-2 : tie.Need-add-word-2
-add-word-2 c = search needs
+add-whole-word-2 : tie.Need-add-whole-word-2
+add-whole-word-2 c = search needs
 
-word-requires-2 : tie.Need-word-requires-2
-word-requires-2 c κs = search needs
+whole-word-requires-2 : tie.Need-whole-word-requires-2
+whole-word-requires-2 c κs = omega (arith, within (c .before))
 
 term-points-requires : tie.Need-term-points-requires
 term-points-requires c κs =
     let row = c .before .before in
     let s = row .before .before .before in
-    let few = points-few (wordAt (s .args .img .now)) (s .args .t) (s .pre .1) in
-    (s .pre .0 .0, c .word2 .ensures .1, omega (arith, reads-are c .0, few .1))
+    let w = wordAt (s .args .img .now) in
+    let r = reads-are c in
+    let few = points-few w (s .args .t) (s .pre .1) in
+    let ends = points-within w (s .pre .0 .2) (s .args .t) (s .pre .0 .3) in
+    (s .pre .0 .0, s .pre .0 .1, omega (arith, r .0, r .1, ends, s .pre .0 .0 .points), omega (arith, r .0, few .1))
 
 bytes-at-requires : tie.Need-bytes-at-requires
 bytes-at-requires c κs = search needs
@@ -93,10 +108,10 @@ input-term-spec =
     tie.close
     (tie.spec
     term-row-requires
-    add-word
-    word-requires
-    add-word-2
-    word-requires-2
+    add-whole-word
+    whole-word-requires
+    add-whole-word-2
+    whole-word-requires-2
     term-points-requires
     bytes-at-requires
     slice-aggregate-first-zero

@@ -8,6 +8,7 @@ use Rattle.model.specs.Image.{wordAt, termAt}
 use Rattle.model.specs.Listing.{termLine}
 use Rattle.model.specs.WellFormed.{termOk}
 use Rattle.laws.proofs.Lists.{all-at}
+use Rattle.layout.proofs.Within.{inputs-first}
 use Rattle.listing_writer.specs.Prepends.{Prepends}
 use Rattle.listing_writer.proofs.Lists.{from, items-none, items-more, items-all}
 use Rattle.variable_listing.proofs.input_terms.Statement.{statement}
@@ -29,14 +30,16 @@ sub-input-term : tie.Need-sub-input-term Inv-loop μ-loop
 sub-input-term c = search needs
 
 add-input-term : tie.Need-add-input-term Inv-loop μ-loop
-add-input-term c = search needs
+add-input-term c =
+    let s = c .before .before .before .before .before in
+    omega (arith, s .pre .0 .3, inputs-first (wordAt (s .args .img .now)) (s .pre .0 .2), s .pre .0 .0 .fits 4)
 
 input-term-requires : tie.Need-input-term-requires Inv-loop μ-loop
 input-term-requires c κs =
     let s = c .before .before .before .before .before in
     let g = termAt (wordAt (s .args .img .now)) in
     let i = c .before .before .loop .i in
-    ((s .pre .0 .0, omega arith), all-at termOk g (s .args .n) (s .args .first) (i - 1) (omega arith) (s .pre .1))
+    ((s .pre .0 .0, s .pre .0 .1, s .pre .0 .2, omega (arith, s .pre .0 .3)), all-at termOk g (s .args .n) (s .args .first) (i - 1) (omega arith) (s .pre .1))
 
 sub-i : tie.Need-sub-i Inv-loop μ-loop
 sub-i c = search needs

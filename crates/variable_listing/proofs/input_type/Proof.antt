@@ -7,13 +7,20 @@ use Rattle.variable_listing.proofs.input_type.Statement.{statement}
 use Rattle.variable_listing.proofs.input_type.Tie as tie
 
 input-row-requires : tie.Need-input-row-requires
-input-row-requires c κs = let h = c .before .before .pre .0 in omega (arith, h .input-table, h .fits 9)
+input-row-requires c κs =
+    let s = c .before .before in
+    let h = s .pre .0 in
+    omega (arith, h .input-table, h .fits 9, h .inputs, h .fits 2, s .pre .2)
 
-add-word : tie.Need-add-word
-add-word c = search needs
+add-whole-word : tie.Need-add-whole-word
+add-whole-word c = search needs
 
-word-requires : tie.Need-word-requires
-word-requires c κs = search needs
+whole-word-requires : tie.Need-whole-word-requires
+whole-word-requires c κs =
+    let row = c in
+    let s = row .before .before .before in
+    let h = s .pre .0 in
+    omega (arith, row .input-row .ensures .0 (wordAt (s .args .img .now)) h, h .input-table, s .pre .1 .inputs, s .pre .2)
 
 slice-aggregate-puts : tie.Need-slice-aggregate-puts
 slice-aggregate-puts c = search needs
@@ -34,7 +41,7 @@ returns c =
     let s = row .before .before .before in
     let w = wordAt (s .args .img .now) in
     let e = row .input-row .ensures .0 w (s .pre .0) in
-    simp (sym e, sym (v .word .ensures .0), eq-eqb _ _ (i .if1 .taken)) (p .puts .ensures)
+    simp (sym e, sym (v .whole-word .ensures .0), eq-eqb _ _ (i .if1 .taken)) (p .puts .ensures)
 
 slice-aggregate-puts-2 : tie.Need-slice-aggregate-puts-2
 slice-aggregate-puts-2 c = search needs
@@ -55,15 +62,15 @@ returns-2 c =
     let s = row .before .before .before in
     let w = wordAt (s .args .img .now) in
     let e = row .input-row .ensures .0 w (s .pre .0) in
-    simp (sym e, sym (v .word .ensures .0), ne-eqb _ _ (i .if1 .left)) (p .puts2 .ensures)
+    simp (sym e, sym (v .whole-word .ensures .0), ne-eqb _ _ (i .if1 .left)) (p .puts2 .ensures)
 
 pub input-type-spec : {M : Type 1} → statement M
 input-type-spec =
     tie.close
     (tie.spec
     input-row-requires
-    add-word
-    word-requires
+    add-whole-word
+    whole-word-requires
     slice-aggregate-puts
     puts-requires
     same-length

@@ -1,5 +1,7 @@
 use native.Mathlib.Omega.{arith}
 use mathlib.Core.Path.{sym}
+use Prim.Native.Nat.{_+_, _*_, _≤_}
+use lib.ListN.{length}
 use borrow.Author.Tests.{eq-eqb, ne-eqb}
 use Rattle.model.specs.Image.{wordAt, outputAt}
 use Rattle.listing_writer.proofs.Prepends.{joined, nothing}
@@ -7,14 +9,24 @@ use borrow.Author.Needs.{needs}
 use Rattle.variable_listing.proofs.range_line.Statement.{statement}
 use Rattle.variable_listing.proofs.range_line.Tie as tie
 
+-- the row lies in the image
+within : (c : tie.After-output-row) → (c .output-row .result + 11) * 4 ≤ length (c .before .before .before .args .img .now)
+within c =
+    let s = c .before .before .before in
+    let h = s .pre .0 in
+    omega (arith, c .output-row .ensures .0 (wordAt (s .args .img .now)) h, h .output-table, s .pre .1 .outputs, s .pre .2)
+
 output-row-requires : tie.Need-output-row-requires
-output-row-requires c κs = let h = c .before .before .pre .0 in omega (arith, h .output-table, h .fits 10)
+output-row-requires c κs =
+    let s = c .before .before in
+    let h = s .pre .0 in
+    omega (arith, h .output-table, h .fits 10, h .outputs, h .fits 3, s .pre .2)
 
-add-word : tie.Need-add-word
-add-word c = search needs
+add-whole-word : tie.Need-add-whole-word
+add-whole-word c = search needs
 
-word-requires : tie.Need-word-requires
-word-requires c κs = search needs
+whole-word-requires : tie.Need-whole-word-requires
+whole-word-requires c κs = omega (arith, within c)
 
 returns : tie.Need-returns
 unfolding outputAt
@@ -24,19 +36,19 @@ returns c =
     let s = row .before .before .before in
     let w = wordAt (s .args .img .now) in
     let e = row .output-row .ensures .0 w (s .pre .0) in
-    simp (sym e, sym (v .word .ensures .0), eq-eqb _ _ (c .if1 .taken)) (nothing (s .args .k) _)
+    simp (sym e, sym (v .whole-word .ensures .0), eq-eqb _ _ (c .if1 .taken)) (nothing (s .args .k) _)
 
-add-crisp-at : tie.Need-add-crisp-at
-add-crisp-at c = search needs
+add-whole-crisp : tie.Need-add-whole-crisp
+add-whole-crisp c = search needs
 
-crisp-at-requires : tie.Need-crisp-at-requires
-crisp-at-requires c κs = search needs
+whole-crisp-requires : tie.Need-whole-crisp-requires
+whole-crisp-requires c κs = omega (arith, within (c .before .before))
 
-add-crisp-at-2 : tie.Need-add-crisp-at-2
-add-crisp-at-2 c = search needs
+add-whole-crisp-2 : tie.Need-add-whole-crisp-2
+add-whole-crisp-2 c = search needs
 
-crisp-at-requires-2 : tie.Need-crisp-at-requires-2
-crisp-at-requires-2 c κs = search needs
+whole-crisp-requires-2 : tie.Need-whole-crisp-requires-2
+whole-crisp-requires-2 c κs = omega (arith, within (c .before .before .before))
 
 slice-aggregate-puts : tie.Need-slice-aggregate-puts
 slice-aggregate-puts c = search needs
@@ -81,9 +93,9 @@ returns-2 c =
     let s = row .before .before .before in
     let w = wordAt (s .args .img .now) in
     let e = row .output-row .ensures .0 w (s .pre .0) in
-    let m = rw (a2 .crisp-at2 .ensures) at (most .crisp .ensures) in
-    let l = rw (a1 .crisp-at .ensures) at (least .crisp2 .ensures) in
-    simp (sym e, sym (v .word .ensures .0), ne-eqb _ _ (i .if1 .left))
+    let m = rw (a2 .whole-crisp2 .ensures) at (most .crisp .ensures) in
+    let l = rw (a1 .whole-crisp .ensures) at (least .crisp2 .ensures) in
+    simp (sym e, sym (v .whole-word .ensures .0), ne-eqb _ _ (i .if1 .left))
     (joined (joined (joined (joined (p1 .puts .ensures) m) (p2 .puts2 .ensures)) l) (p3 .puts3 .ensures))
 
 pub range-line-spec : {M : Type 1} → statement M
@@ -91,13 +103,13 @@ range-line-spec =
     tie.close
     (tie.spec
     output-row-requires
-    add-word
-    word-requires
+    add-whole-word
+    whole-word-requires
     returns
-    add-crisp-at
-    crisp-at-requires
-    add-crisp-at-2
-    crisp-at-requires-2
+    add-whole-crisp
+    whole-crisp-requires
+    add-whole-crisp-2
+    whole-crisp-requires-2
     slice-aggregate-puts
     puts-requires
     crisp-requires

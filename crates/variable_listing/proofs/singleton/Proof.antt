@@ -1,27 +1,46 @@
 use native.Mathlib.Omega.{arith}
-use mathlib.Core.Path.{ap, _∙_}
+use mathlib.Core.Path.{_≡_, ap, _∙_}
 use Prim.Native.Nat.{ℕ, _+_}
-use Rattle.model.specs.Image.{wordAt, crispOf, pointPlace, pointAt, singletonAt}
+use Rattle.model.specs.Image.{wordAt, pointAt, singletonAt}
 use Rattle.model.specs.Listing.{singletonLine}
+use Rattle.layout.proofs.Parts.{termFirst}
+use Rattle.layout.proofs.Within.{point-within}
 use Rattle.listing_writer.proofs.Prepends.{joined}
 use borrow.Author.Needs.{needs}
 use Rattle.variable_listing.proofs.singleton.Statement.{statement}
 use Rattle.variable_listing.proofs.singleton.Tie as tie
 
+-- the word of the term's row that was read
+first-is : (c : tie.After-whole-word) →
+    let s = c .before .before .before .before in
+    c .whole-word .result ≡ termFirst (wordAt (s .args .img .now)) (s .args .t)
+first-is c =
+    let s = c .before .before .before .before in
+    let w = wordAt (s .args .img .now) in
+    c .whole-word .ensures .0 ∙ ap (λ (o : ℕ). w (o + 4)) (c .before .term-row .ensures .0 w (s .pre .0))
+
 term-row-requires : tie.Need-term-row-requires
-term-row-requires c κs = let h = c .before .before .pre .0 in omega (arith, h .term-table, h .fits 11)
+term-row-requires c κs =
+    let s = c .before .before in
+    let h = s .pre .0 in
+    omega (arith, h .term-table, h .fits 11, h .terms, h .fits 4, s .pre .4)
 
-add-word : tie.Need-add-word
-add-word c = search needs
+add-whole-word : tie.Need-add-whole-word
+add-whole-word c = search needs
 
-word-requires : tie.Need-word-requires
-word-requires c κs = search needs
+whole-word-requires : tie.Need-whole-word-requires
+whole-word-requires c κs =
+    let row = c in
+    let s = row .before .before .before in
+    let h = s .pre .0 in
+    omega (arith, row .term-row .ensures .0 (wordAt (s .args .img .now)) h, h .term-table, s .pre .1 .terms, s .pre .4)
 
-point-row-requires : tie.Need-point-row-requires
-point-row-requires c κs = let h = c .before .before .before .before .pre .0 in omega (arith, h .point-table, h .fits 12, c .word .ensures .1)
-
-crisp-at-requires : tie.Need-crisp-at-requires
-crisp-at-requires c κs = search needs
+place-at-requires : tie.Need-place-at-requires
+place-at-requires c κs =
+    let s = c .before .before .before .before in
+    let h = s .pre .0 in
+    let l = point-within (wordAt (s .args .img .now)) (s .pre .2) (s .args .t) (s .pre .3) (omega (arith, h .terms, s .pre .4)) in
+    (h, s .pre .1, omega (arith, first-is c, h .points, l))
 
 slice-aggregate-puts : tie.Need-slice-aggregate-puts
 slice-aggregate-puts c = search needs
@@ -59,15 +78,12 @@ returns c =
     let x = p2 .before .before .before .before .before in
     let p1 = x .before .before .before .before in
     let at = p1 .before .before .before in
-    let point = at .before in
-    let v = point .before in
+    let v = at .before in
     let row = v .before in
     let s = row .before .before .before in
     let w = wordAt (s .args .img .now) in
     let e = row .term-row .ensures .0 w (s .pre .0) in
-    let first = v .word .ensures .0 ∙ ap (λ (o : ℕ). w (o + 4)) e in
-    let place = point .point-row .ensures .0 w (s .pre .0) ∙ ap (pointPlace w) first in
-    let f = at .crisp-at .ensures ∙ ap (λ (o : ℕ). crispOf (w o)) place in
+    let f = at .place-at .ensures ∙ ap (λ (j : ℕ). pointAt w j .at) (first-is v) in
     joined (joined (joined (joined (p1 .puts .ensures) (rw f at (x .crisp .ensures))) (p2 .puts2 .ensures)) (rw e at (n .name .ensures))) (p3 .puts3 .ensures)
 
 pub singleton-spec : {M : Type 1} → statement M
@@ -75,10 +91,9 @@ singleton-spec =
     tie.close
     (tie.spec
     term-row-requires
-    add-word
-    word-requires
-    point-row-requires
-    crisp-at-requires
+    add-whole-word
+    whole-word-requires
+    place-at-requires
     slice-aggregate-puts
     puts-requires
     crisp-requires
