@@ -1,4 +1,5 @@
-// The words of a stored image, read where they stand. A byte past the end counts as 0, so no place needs a bound.
+// The words of a stored image, read where they stand: a word that is known to lie within it by one load, any other
+// with zeros past the end.
 ghost use mathlib.Core.Path.{_≡_};
 ghost use Prim.Native.Nat.{_+_, _*_, _≤_};
 ghost use lib.ListN.{length, getD};
@@ -43,7 +44,7 @@ pub fn whole_word(img: &[u8], i: usize) -> usize
     )
 }
 
-// The word at place i.
+// The word at any place i; bytes past the end count as 0.
 pub fn word(img: &[u8], i: usize) -> usize
     requires { ⌜ i ≤ 1000000000000 ⌝ }
     ensures { λ r. ⌜ (r ≡ wordAt (now (img .entry)) i) × (r ≤ 4294967295) ⌝ }
@@ -79,7 +80,7 @@ pub fn whole_crisp(img: &[u8], i: usize) -> Crisp
     crisp_of(whole_word(img, i))
 }
 
-// The word at place i as a crisp value.
+// The word at any place i as a crisp value.
 pub fn crisp_at(img: &[u8], i: usize) -> Crisp
     requires { ⌜ i ≤ 1000000000000 ⌝ }
     ensures { λ r. ⌜ r .0 ≡ crispOf (wordAt (now (img .entry)) i) ⌝ }
