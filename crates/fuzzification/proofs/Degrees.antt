@@ -14,10 +14,10 @@ use Rattle.laws.proofs.Places.{length-tab}
 use Rattle.layout.specs.Tables.{sums, inputCount}
 use Rattle.layout.specs.Groups.{Sound}
 use Rattle.layout.proofs.Parts.{inputFirst}
+use Rattle.layout.proofs.Inputs.{first-is}
 use Rattle.fuzzification.specs.Filled.{filled}
 use Rattle.fuzzification.proofs.Fill.{tab-more}
 use Rattle.laws.proofs.Lists.{sets-append}
-use Rattle.fuzzification.proofs.Entries.{first-is}
 
 abbrev pub degreesAt : ℤ → List Term → List ℕ
 degreesAt x ts = map (λ t. termDegree (t .points) x) ts

@@ -1,104 +1,17 @@
--- What an accepted image says of its inputs, and of a term's points.
-use mathlib.Core.Path.{_≡_, sym, ap, _∙_, subst}
+-- Of a point that is accepted.
+use mathlib.Core.Path.{_≡_}
 use mathlib.Core.Bool.{true, _&&_}
-use mathlib.Core.List.{List, map}
-use Prim.Native.Nat.{ℕ, zero, suc, _+_, _*_, _%_, _≤_, _<_}
-use native.Mathlib.Omega.{arith}
+use Prim.Native.Nat.{_%_, _≤_}
 use borrow.Author.Tests.{leb-true}
 use lib.Dec.{leb, eqb}
 use lib.IntN.{natAbs}
-use lib.ListN.{length, take}
-use lib.Seq.{take-at}
-use Rattle.model.specs.Basic.{all}
 use Rattle.model.specs.Bounds.{M, crispLimit}
 use Rattle.model.specs.Block.{Point as BlockPoint}
-use Rattle.model.specs.WellFormed.{unitOk, pointOk, termOk, inputOk}
-use Rattle.model.specs.Image.{termPlace, tab, pointAt, termAt, inputAt, decode}
-use Rattle.laws.proofs.Lists.{all-at}
-use Rattle.laws.proofs.Tests.{both, passed}
+use Rattle.model.specs.WellFormed.{unitOk, pointOk}
+use Rattle.laws.proofs.Tests.{both}
 use Rattle.terms.specs.declared.Point.{Point}
-use Rattle.terms.specs.Points.{PointOk, pointView, noPoint, pointViews}
-use Rattle.laws.proofs.Places.{length-tab}
-use Rattle.laws.proofs.Arrays.{map-take}
-use Rattle.layout.specs.Tables.{sums, inputCount, termCount}
-use Rattle.layout.specs.Groups.{Sound, tablesOk, variablesOk}
-use Rattle.layout.proofs.Sound.{runs-at}
-use Rattle.layout.proofs.Parts.{inputFirst, inputFirsts-run}
-use Rattle.fuzzification.specs.Filled.{filled}
+use Rattle.terms.specs.Points.{PointOk, pointView}
 
-pub sums-last : (c : ℕ → ℕ) (k s : ℕ) → sums c (k + 1) s ≡ sums c k s + c (s + k)
-unfolding sums
-sums-last c zero s = let q : s + 0 ≡ s = omega arith in rw q (omega arith)
-sums-last c (suc k) s =
-    let e : suc k + 1 ≡ suc (k + 1) = omega arith in
-    let q : s + suc k ≡ suc s + k = omega arith in
-    rw (e, q) (omega (arith, sums-last c k (suc s)))
-
-module _ (w : ℕ → ℕ) where
-  pub input-limit : Sound w → w 2 ≤ 8
-  unfolding variablesOk decode
-  input-limit s =
-      let v = passed _ (s .variables) in
-      let n = length (tab (inputAt w) (w 2) 0) in
-      omega (arith, length-tab (inputAt w) (w 2) 0, leb-true n 8 (both (leb 1 n) (leb n 8) (v .1 .1 .0) .1))
-
-  input-ok : (i : ℕ) → Sound w → i < w 2 → inputOk (inputAt w i) ≡ true
-  unfolding variablesOk decode
-  input-ok i s h =
-      let v = passed _ (s .variables) in
-      let e : 0 + i ≡ i = omega arith in
-      subst (λ (k : ℕ). inputOk (inputAt w k) ≡ true) e (all-at inputOk (inputAt w) (w 2) 0 i h (v .1 .1 .1 .1 .0))
-
-  pub first-is : (i : ℕ) → Sound w → i < w 2 → inputFirst w i ≡ sums (inputCount w) i 0
-  unfolding tablesOk
-  first-is i s h =
-      let v = passed _ (s .frame) in
-      let e : 0 + i ≡ i = omega arith in
-      let q : 0 + sums (inputCount w) i 0 ≡ sums (inputCount w) i 0 = omega arith in
-      ap (inputFirst w) (sym e) ∙ runs-at (inputFirst w) (inputCount w) (w 2) 0 0 i h (inputFirsts-run w (v .1 .0)) ∙ q
-
-  terms-few : (i : ℕ) → inputOk (inputAt w i) ≡ true → inputCount w i ≤ 7
-  unfolding inputOk inputAt
-  terms-few i h =
-      let n = length (tab (termAt w) (inputCount w i) (inputFirst w i)) in
-      omega (arith, length-tab (termAt w) (inputCount w i) (inputFirst w i), leb-true n 7 (both (leb 1 n) (leb n 7) (passed _ h .1 .0) .1))
-
-  terms-ok : (i : ℕ) → inputOk (inputAt w i) ≡ true → all termOk (tab (termAt w) (inputCount w i) (inputFirst w i)) ≡ true
-  unfolding inputOk inputAt
-  terms-ok i h = passed _ h .1 .1 .0
-
-  pub points-few : (t : ℕ) → termOk (termAt w t) ≡ true → (1 ≤ termCount w t) × (termCount w t ≤ 4)
-  unfolding termOk termAt
-  points-few t h =
-      let n = length (tab (pointAt w) (termCount w t) (w (w 11 + t * 6 + 4))) in
-      let e = length-tab (pointAt w) (termCount w t) (w (w 11 + t * 6 + 4)) in
-      let b = both (leb 2 n) (leb n 4) (passed _ h .1 .0) in
-      (omega (arith, e, leb-true 2 n (b .0)), omega (arith, e, leb-true n 4 (b .1)))
-
-  pub points-ok : (t : ℕ) → termOk (termAt w t) ≡ true → all pointOk (termAt w t .points) ≡ true
-  unfolding termOk
-  points-ok t h = passed _ h .1 .1 .0
-
-  -- the terms of input i, from its first on
-  pub accepted-terms : (i first count : ℕ) → Sound w → i < w 2 → first ≡ sums (inputCount w) i 0 → count ≡ inputCount w i
-      → (count ≤ 7) × (all termOk (tab (termAt w) count first) ≡ true)
-  accepted-terms i first count s h ef ec =
-      let k = input-ok i s h in
-      let e = ef ∙ sym (first-is i s h) in
-      (omega (arith, terms-few i k), (λ j. all termOk (tab (termAt w) (ec j) (e j))) ∙ terms-ok i k)
-
--- THE POINTS OF A TERM in an array of 4
-views-are : (ps : List Point) (xs : List BlockPoint) (n : ℕ) → length xs ≡ n → map pointView ps ≡ filled 4 (pointView noPoint) xs → pointViews ps n ≡ xs
-views-are ps xs n e h = map-take pointView n ps ∙ ap (take n) h ∙ take-at xs _ n e
-
--- as the words that were read say where they stand
-pub points-read : (w : ℕ → ℕ) (t n first : ℕ) (ps : List Point) → n ≡ termCount w t → first ≡ w (termPlace w t + 4)
-    → map pointView ps ≡ filled 4 (pointView noPoint) (tab (pointAt w) n first) → pointViews ps n ≡ termAt w t .points
-unfolding termAt
-points-read w t n first ps en ef h =
-    views-are ps (tab (pointAt w) n first) n (length-tab (pointAt w) n first) h ∙ (λ j. tab (pointAt w) (en j) (ef j))
-
--- of a point that is accepted
 pub fine : (p : Point) → pointOk (pointView p) ≡ true → PointOk p
 unfolding pointOk unitOk
 fine p h =

@@ -7,57 +7,27 @@ use model::Reading;
 use model::Taken;
 use stored_points::degree_at;
 use stored_points::place_at;
-use terms::Point;
+use stored_points::point_at;
 use words::whole_word;
 ghost use mathlib.Core.Path.{_≡_};
 ghost use mathlib.Core.Bool.{true};
-ghost use mathlib.Core.List.{map};
 ghost use Prim.Native.Nat.{_+_, _-_, _≤_, _<_};
 ghost use lib.IntN.{pos};
 ghost use lib.ListN.{length};
 ghost use lib.Signed.{_≤ℤ_};
 ghost use Rattle.model.specs.Basic.{all};
-ghost use Rattle.model.specs.Bounds.{M, inputLimit, pointLimit, inputTermLimit};
+ghost use Rattle.model.specs.Bounds.{M, inputLimit, inputTermLimit};
 ghost use Rattle.model.specs.Degrees.{degreeFrom, termDegree};
 ghost use Rattle.model.specs.Evaluation.{termDegrees};
 ghost use Rattle.model.specs.Image.{wordAt, tab, pointAt, termAt, inputAt, decode};
 ghost use Rattle.model.specs.WellFormed.{pointOk, termOk};
 ghost use Rattle.header.specs.Header.{Heads, Holds};
 ghost use Rattle.crisp.specs.Crisp.{InCrisp};
-ghost use Rattle.terms.specs.Points.{pointView, noPoint};
 ghost use Rattle.layout.specs.Tables.{inputTermsIn};
 ghost use Rattle.layout.specs.Groups.{tablesOk, Sound};
 ghost use Rattle.degrees.specs.Tables.{numbers, Low};
 ghost use Rattle.fuzzification.specs.Filled.{filled, figures, AllCrisp};
 ghost use Rattle.fuzzification.specs.Values.{valuesRead};
-
-fn point_at(img: &[u8], h: Header, i: usize) -> Point
-    requires { ⌜ Heads (wordAt (now img)) h × Holds (now img) h × (i < h .points) ⌝ }
-    ensures { λ r. ⌜ pointView r ≡ pointAt (wordAt (now (img .entry))) i ⌝ }
-{
-    Point {
-        at: place_at(img, h, i),
-        degree: degree_at(img, h, i),
-    }
-}
-
-// The n points from the first on.
-pub fn term_points(img: &[u8], h: Header, first: usize, n: usize) -> [Point; bounds::POINTS]
-    requires { ⌜ Heads (wordAt (now img)) h × Holds (now img) h × (first + n ≤ h .points) × (n ≤ pointLimit) ⌝ }
-    ensures { λ r. ⌜ map pointView r
-        ≡ filled pointLimit (pointView noPoint) (tab (pointAt (wordAt (now (img .entry)))) n first) ⌝ }
-{
-    let mut ps = [Point {
-        at: Crisp(0),
-        degree: Degree(0),
-    }; bounds::POINTS];
-    let mut k = 0;
-    while k < n {
-        ps[k] = point_at(img, h, first + k);
-        k += 1;
-    }
-    ps
-}
 
 // The degree at x of a term whose points go from the first to the one before `end`, where x is not below the first.
 fn degree_from(img: &[u8], h: Header, first: usize, end: usize, x: Crisp) -> Degree

@@ -10,3 +10,4 @@ pub mod Groups
 pub mod Sound
 pub mod Rules
 pub mod Within
+pub mod Inputs

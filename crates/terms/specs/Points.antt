@@ -1,5 +1,5 @@
--- A helper: the points of a term as the code holds them, and as a block has them. `points-read` and `fine` of
--- fuzzification/proofs/Entries tie them to the points of model's `termAt` and to its `pointOk`.
+-- A helper: the points of a term as the code holds them, and as a block has them. `stored_points::point_at` ties them to
+-- model's `pointAt`, `fine` of fuzzification/proofs/Entries to its `pointOk`.
 use mathlib.Core.List.{List, map}
 use Prim.Native.Nat.{ℕ, _≤_}
 use lib.IntN.{pos}

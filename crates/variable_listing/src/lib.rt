@@ -6,7 +6,7 @@ ghost use mathlib.Core.List.{map};
 ghost use Prim.Native.Nat.{_+_, _≤_, _<_};
 ghost use Rattle.model.specs.Basic.{all, gather};
 ghost use Rattle.model.specs.Bounds.{pointLimit};
-ghost use Rattle.model.specs.Image.{wordAt, tab, termAt, singletonAt, inputAt, outputAt, decode, INPUTS};
+ghost use Rattle.model.specs.Image.{wordAt, tab, pointAt, termAt, singletonAt, inputAt, outputAt, decode, INPUTS};
 ghost use Rattle.model.specs.Listing.{commaed, typeText, inputLine, outputLine, pointText, termLine, fuzzifyText};
 ghost use Rattle.model.specs.Listing.{rangeLine, singletonLine, defaultText, defuzzifyText};
 ghost use Rattle.model.specs.WellFormed.{termOk};
@@ -17,10 +17,13 @@ ghost use Rattle.layout.specs.Groups.{tablesOk, Sound};
 ghost use Rattle.listing_writer.specs.Prepends.{Prepends};
 use header::Header;
 use listing_writer::puts;
+use model::Crisp;
+use model::Degree;
 use name_listing::name;
 use number_listing::crisp;
 use number_listing::unit;
 use stored_points::place_at;
+use stored_points::point_at;
 use terms::Point;
 use words::whole_crisp;
 use words::whole_word;
@@ -140,6 +143,23 @@ pub fn term_line(
     puts(out, d, b"  TERM ")
 }
 
+// The n points from the first on.
+fn term_points(img: &[u8], h: Header, first: usize, n: usize) -> [Point; bounds::POINTS]
+    requires { ⌜ Heads (wordAt (now img)) h × Holds (now img) h × (first + n ≤ h .points) × (n ≤ pointLimit) ⌝ }
+    ensures { λ r. ⌜ pointViews r n ≡ tab (pointAt (wordAt (now (img .entry)))) n first ⌝ }
+{
+    let mut ps = [Point {
+        at: Crisp(0),
+        degree: Degree(0),
+    }; bounds::POINTS];
+    let mut k = 0;
+    while k < n {
+        ps[k] = point_at(img, h, first + k);
+        k += 1;
+    }
+    ps
+}
+
 // Term t of the image.
 fn input_term(out: &mut [u8], k: usize, img: &[u8], h: Header, t: usize) -> usize
     requires { ⌜ Heads (wordAt (now img)) h × Holds (now img) h
@@ -151,7 +171,7 @@ fn input_term(out: &mut [u8], k: usize, img: &[u8], h: Header, t: usize) -> usiz
     let row = header::term_row(h, t);
     let n = whole_word(img, row + header::TERM_POINTS);
     let first = whole_word(img, row + header::TERM_FIRST);
-    let ps = fuzzification::term_points(img, h, first, n);
+    let ps = term_points(img, h, first, n);
     let s = name_field::bytes_at(img, row);
     let e = name_field::first_zero(&s);
     term_line(out, k, &s[..e], ps, n)

@@ -14,7 +14,8 @@ use Rattle.laws.proofs.Lists.{all-at}
 use Rattle.crisp.proofs.Laws.{not-at-most}
 use Rattle.layout.specs.Tables.{termCount}
 use Rattle.layout.proofs.Within.{inputs-first, points-within}
-use Rattle.fuzzification.proofs.Entries.{points-few, points-ok, low}
+use Rattle.layout.proofs.Inputs.{points-few, points-ok}
+use Rattle.fuzzification.proofs.Entries.{low}
 use Rattle.fuzzification.proofs.Points.{at-first, after-first}
 use Rattle.fuzzification.proofs.input_term_degree.Statement.{statement}
 use Rattle.fuzzification.proofs.input_term_degree.Tie as tie

@@ -12,9 +12,9 @@ use Rattle.model.specs.Readings.{valueIn}
 use Rattle.model.specs.Image.{wordAt}
 use Rattle.laws.proofs.Arrays.{each-start, each-set, map-set}
 use Rattle.crisp.specs.Crisp.{InCrisp}
+use Rattle.layout.proofs.Inputs.{input-limit}
 use Rattle.fuzzification.specs.Filled.{filled, figures, AllCrisp}
 use Rattle.fuzzification.proofs.Fill.{one-more, filled-sets}
-use Rattle.fuzzification.proofs.Entries.{input-limit}
 use Rattle.fuzzification.proofs.Wrong.{found, found-most, found-next, found-all}
 use Rattle.fuzzification.proofs.input_values.Statement.{statement}
 use Rattle.fuzzification.proofs.input_values.Tie as tie

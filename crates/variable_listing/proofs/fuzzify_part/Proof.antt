@@ -6,8 +6,8 @@ use Rattle.model.specs.Image.{wordAt, inputPlace, inputAt}
 use Rattle.model.specs.Listing.{fuzzifyText}
 use Rattle.layout.specs.Tables.{inputCount}
 use Rattle.layout.proofs.Within.{input-terms-within}
+use Rattle.layout.proofs.Inputs.{input-limit, first-is, accepted-terms}
 use Rattle.listing_writer.proofs.Prepends.{joined}
-use Rattle.fuzzification.proofs.Entries.{input-limit, first-is, accepted-terms}
 use borrow.Author.Needs.{needs}
 use Rattle.variable_listing.proofs.fuzzify_part.Statement.{statement}
 use Rattle.variable_listing.proofs.fuzzify_part.Tie as tie

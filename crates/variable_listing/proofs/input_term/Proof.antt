@@ -4,11 +4,11 @@ use Prim.Native.Nat.{ℕ, _+_, _*_, _≤_}
 use lib.ListN.{length}
 use lib.Seq.{length-take-le}
 use Rattle.model.specs.Block.{Term}
-use Rattle.model.specs.Image.{wordAt, nameAt, termPlace, termAt}
+use Rattle.model.specs.Image.{wordAt, tab, nameAt, termPlace, pointAt, termAt}
 use Rattle.layout.specs.Tables.{termCount}
 use Rattle.layout.proofs.Within.{inputs-first, points-within}
+use Rattle.layout.proofs.Inputs.{points-few}
 use Rattle.name_field.proofs.Names.{name-front}
-use Rattle.fuzzification.proofs.Entries.{points-few, points-read}
 use borrow.Author.Needs.{needs}
 use Rattle.variable_listing.proofs.input_term.Statement.{statement}
 use Rattle.variable_listing.proofs.input_term.Tie as tie
@@ -99,7 +99,7 @@ returns c =
     let e = row .term-row .ensures .0 w (s .pre .0 .0) in
     let r = reads-are (ps .before) in
     let n = name-front w (row .term-row .result) _ _ (bytes .bytes-at .ensures) (zero .first-zero .ensures .0) ∙ ap (nameAt w) e in
-    let p = points-read w (s .args .t) _ _ (ps .term-points .result) (r .0) (r .1) (ps .term-points .ensures) in
+    let p = ps .term-points .ensures ∙ (λ j. tab (pointAt w) (r .0 j) (r .1 j)) in
     let same : _≡_ {A = Term} (record { name = _; points = _ }) (termAt w (s .args .t)) = λ j. record { name = n j; points = p j } in
     rw same at (l .term-line .ensures)
 

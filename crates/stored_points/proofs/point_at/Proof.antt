@@ -1,6 +1,6 @@
 use borrow.Author.Needs.{needs}
-use Rattle.fuzzification.proofs.point_at.Statement.{statement}
-use Rattle.fuzzification.proofs.point_at.Tie as tie
+use Rattle.stored_points.proofs.point_at.Statement.{statement}
+use Rattle.stored_points.proofs.point_at.Tie as tie
 
 place-at-requires : tie.Need-place-at-requires
 place-at-requires c κs = search needs

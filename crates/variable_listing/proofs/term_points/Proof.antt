@@ -1,25 +1,26 @@
 use borrow.Author.Needs.{needs}
 use mathlib.Core.Path.{_≡_, refl, sym, ap, _∙_}
-use mathlib.Core.List.{List, map}
-use Prim.Native.Nat.{ℕ, _+_, _-_, _≤_}
+use mathlib.Core.List.{List, [], _∷_, _++_, map, map-append}
+use Prim.Native.Nat.{ℕ, _+_, _-_, _≤_, _<_}
+use native.Mathlib.Numerals.{add-one}
 use native.Mathlib.Omega.{arith}
-use lib.ListN.{length, length-set, replicate}
-use lib.Seq.{sets}
-use Rattle.model.specs.Block.{Point}
+use lib.ListN.{length, take, set, length-set}
+use lib.Seq.{take-suc-set}
 use Rattle.model.specs.Image.{wordAt, tab, pointAt}
-use Rattle.terms.specs.Points.{pointView, noPoint}
-use Rattle.laws.proofs.Places.{length-tab}
-use Rattle.fuzzification.specs.Filled.{filled}
-use Rattle.fuzzification.proofs.Fill.{tab-more, one-more, filled-sets}
-use Rattle.fuzzification.proofs.term_points.Statement.{statement}
-use Rattle.fuzzification.proofs.term_points.Tie as tie
+use Rattle.terms.specs.declared.Point.{Point}
+use Rattle.terms.specs.Points.{pointView, pointViews}
+use Rattle.laws.proofs.Lists.{tab-append}
+use Rattle.variable_listing.proofs.term_points.Statement.{statement}
+use Rattle.variable_listing.proofs.term_points.Tie as tie
 
 abbrev Inv-loop : tie.InvT-loop
-Inv-loop img h first n ps₀ k₀ ps k =
-    (k ≤ n) × (length ps ≡ 4) × (map pointView ps ≡ sets (replicate 4 (pointView noPoint)) 0 (tab (pointAt (wordAt img)) k first))
+Inv-loop img h first n ps₀ k₀ ps k = (k ≤ n) × (length ps ≡ 4) × (pointViews ps k ≡ tab (pointAt (wordAt img)) k first)
 
 abbrev μ-loop : tie.MeasureT-loop
 μ-loop img h first n ps₀ k₀ ps k = n - k
+
+one-more : (ps : List Point) (k : ℕ) (p : Point) → k < length ps → pointViews (set ps k p) (k + 1) ≡ pointViews ps k ++ (pointView p ∷ [])
+one-more ps k p h = rw add-one (ap (map pointView) (take-suc-set ps k p h) ∙ map-append pointView (take k ps) (p ∷ []))
 
 loop-holds : tie.Need-loop-holds Inv-loop μ-loop
 unfolding tab
@@ -44,28 +45,25 @@ loop-less : tie.Need-loop-less Inv-loop μ-loop
 loop-less c = search needs
 
 loop-again : tie.Need-loop-again Inv-loop μ-loop
+unfolding tab
 loop-again c =
     let l = c .before .before .loop in
     let a = c .before .before .before .before .args in
     let f = pointAt (wordAt (a .img .now)) in
-    let p = c .point-at in
-    let l₀ = replicate 4 (pointView noPoint) in
-    let n : l .k ≡ 0 + length (tab f (l .k) (a .first)) = omega (arith, length-tab f (l .k) (a .first)) in (
+    let p = c .point-at in (
       search needs,
       length-set (l .ps) (l .k) (p .result) ∙ l .inv .1,
-      one-more pointView (l .ps) l₀ 0 (l .k) (tab f (l .k) (a .first)) (p .result) (f (a .first + l .k)) (l .inv .2) n (p .ensures)
-          ∙ ap (λ (xs : List Point). sets l₀ 0 xs) (sym (tab-more f (l .k) (a .first))),
+      one-more (l .ps) (l .k) (p .result) (omega (arith, l .inv .1))
+          ∙ (λ j. l .inv .2 j ++ (p .ensures j ∷ []))
+          ∙ sym (tab-append f (l .k) 1 (a .first)),
     )
 
 returns : tie.Need-returns Inv-loop μ-loop
 returns c =
     let l = c .before .loop in
     let a = c .before .before .before .args in
-    let f = pointAt (wordAt (a .img .now)) in
     let e : l .k ≡ a .n = omega arith in
-    l .inv .2
-    ∙ filled-sets 4 (pointView noPoint) (tab f (l .k) (a .first)) (omega (arith, length-tab f (l .k) (a .first)))
-    ∙ ap (λ (n : ℕ). filled 4 (pointView noPoint) (tab f n (a .first))) e
+    rw e at (l .inv .2)
 
 pub term-points-spec : {M : Type 1} → statement M
 term-points-spec =
