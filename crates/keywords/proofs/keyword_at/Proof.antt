@@ -1,11 +1,11 @@
 use borrow.Author.Needs.{needs}
 use borrow.Author.Tests.{lt-leb, not-true}
-use mathlib.Core.Path.{refl, sym}
+use mathlib.Core.Path.{refl, sym, _∙_}
 use lib.Dec.{leb}
 use lib.ListN.{length}
 use Rattle.model.specs.Basic.{all}
 use Rattle.model.specs.Keywords.{keywords}
-use Rattle.keywords.proofs.Laws.{unlike}
+use Rattle.keywords.proofs.Laws.{unlike, begins-none}
 use Rattle.keywords.proofs.keyword_at.Statement.{statement}
 use Rattle.keywords.proofs.keyword_at.Tie as tie
 
@@ -27,7 +27,7 @@ returns-3 : tie.Need-returns-3
 returns-3 c =
     let b = c .before in
     let w = b .before .before .before .before .before .args .w .now in
-    (sym (b .begins .ensures w refl (not-true _ (c .if3 .taken))), search needs)
+    (sym (begins-none w (sym (b .begins .ensures) ∙ not-true _ (c .if3 .taken))), search needs)
 
 shared-slice-read-slot : tie.Need-shared-slice-read-slot
 shared-slice-read-slot c = search needs

@@ -2,7 +2,7 @@ use mathlib.Core.Path.{_≡_, sym, ap, _∙_}
 use mathlib.Core.Bool.{true}
 use Prim.Native.Nat.{ℕ, _≤_, _<_}
 use native.Mathlib.Omega.{arith}
-use lib.Dec.{eqb}
+use lib.Dec.{leb, eqb}
 use lib.ListN.{take, getD}
 use lib.Seq.{length-take-le, getD-take}
 use borrow.Author.Needs.{needs}
@@ -11,6 +11,7 @@ use Rattle.model.specs.Keywords.{keywordAt}
 use Rattle.model.specs.Tokens.{isName}
 use Rattle.stored_names.specs.Stored.{front}
 use Rattle.laws.proofs.Tests.{one-fails, last-decides}
+use Rattle.keywords.proofs.Laws.{begins-none}
 use Rattle.stored_names.proofs.Names.{nameTests, name-spelt, no-keyword, starts-take, untidy, byte-after, front-is, spelt}
 use Rattle.stored_names.proofs.is_name.Statement.{statement}
 use Rattle.stored_names.proofs.is_name.Tie as tie
@@ -81,7 +82,8 @@ returns-4 c =
     let s = end .before .before .args .s .now in
     let n = end .tidy-end .result in
     let h : 0 < n = omega (arith, first .before .before .before .before .before .if1 .left) in
-    told first 43 (sym (b .begins .ensures (take n s) (getD-take n s 0 0 h) (not-true _ (c .if4 .taken)))) (omega arith)
+    let late = ap (λ (a : ℕ). leb a 87) (getD-take n s 0 0 h) ∙ sym (b .begins .ensures) ∙ not-true _ (c .if4 .taken) in
+    told first 43 (sym (begins-none (take n s) late)) (omega arith)
 
 slice-aggregate-keyword-at : tie.Need-slice-aggregate-keyword-at
 slice-aggregate-keyword-at c =
