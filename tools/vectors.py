@@ -1,6 +1,6 @@
 #!/usr/bin/env python3
-"""vectors.py FOLDER: from the vectors of FOLDER, writes what the programs text_vectors, listing_vectors, image_vectors
-and call_vectors read and must write."""
+"""vectors.py FOLDER: from the vectors of FOLDER, writes what the programs text_vectors, listing_vectors, image_vectors,
+call_vectors and chunk_vectors read and must write. A file that FOLDER does not have leaves its programs as they are."""
 import json
 import os
 import sys
@@ -21,7 +21,7 @@ def write(crate, data, lines):
     folder = os.path.join(crates, crate)
     os.makedirs(os.path.join(folder, "data"), exist_ok=True)
     with open(os.path.join(folder, "data", crate.split("_")[0] + "s"), "wb") as f:
-        f.write(data)
+        f.write(b"".join(data))
     with open(os.path.join(folder, "stdout"), "w") as f:
         f.write("".join(line + "\n" for line in lines))
 
@@ -55,46 +55,83 @@ def outcome(call):
     return refusal(*call.get("refused", [0, None])) + shown + figures(after)
 
 
-data, lines = [], []
-for case in json.load(open(os.path.join(source, "texts.json"))):
-    data.append(with_length(case["text"].encode("latin-1")))
-    if "refused" in case:
-        lines.append(refusal(*case["refused"]))
-    else:
-        # then the same text with the room that it needs, and with one byte less
-        lines += [case["image"], case["image"], refusal(10, len(case["image"]) // 2)]
-# the longest text and one byte more, by document 01: no token in it, and too long
-data += [with_length(b" " * 65536), with_length(b" " * 65537)]
-lines += [refusal(2, 65536), refusal(1, 0)]
-write("text_vectors", b"".join(data), lines)
-
-data, lines = [], []
-for case in json.load(open(os.path.join(source, "texts.json"))):
-    if "listing" in case:
+def texts(cases):
+    data, lines = [], []
+    for case in cases:
         data.append(with_length(case["text"].encode("latin-1")))
-        # a listing ends its own last line
-        lines += [case["listing"] + "again", refusal(10, len(case["listing"]))]
-write("listing_vectors", b"".join(data), lines)
+        if "refused" in case:
+            lines.append(refusal(*case["refused"]))
+        else:
+            # then the same text with the room that it needs, and with one byte less
+            lines += [case["image"], case["image"], refusal(10, len(case["image"]) // 2)]
+    # the longest text and one byte more, by document 01: no token in it, and too long
+    data += [with_length(b" " * 65536), with_length(b" " * 65537)]
+    lines += [refusal(2, 65536), refusal(1, 0)]
+    write("text_vectors", data, lines)
 
-# of a refused image a fresh record, all zero; a call, which leaves the record that image_vectors lends it; no listing
-lent = [1, -2, 30, -400, 5000, -60000]
-refused = [refusal(11, None), refusal(11, None) + figures([0] * 6), outcome({"refused": [11, None], "held": lent})]
-refused.append(refusal(11, None))
-data, lines = [], []
-for case in json.load(open(os.path.join(source, "images.json"))):
-    data.append(with_length(bytes.fromhex(case["image"])))
-    lines += [refusal(0, None)] if case["accepted"] else refused
-write("image_vectors", b"".join(data), lines)
 
-data, lines = [], []
-for block in json.load(open(os.path.join(source, "calls.json"))):
-    data.append(with_length(bytes.fromhex(block["image"])))
-    lines.append(refusal(0, None) + figures(block["fresh"]))
-    for call in block["calls"]:
-        readings = call["readings"]
-        parts = [word(len(readings))] + [reading(r) for r in readings + [None] * (8 - len(readings))]
-        data.append(with_length(b"".join(parts + [word(x) for x in call["held"]])))
-        lines.append(outcome(call))
-    # an empty case behind the calls
-    data.append(with_length(b""))
-write("call_vectors", b"".join(data), lines)
+def listings(cases):
+    data, lines = [], []
+    for case in cases:
+        if "listing" in case:
+            data.append(with_length(case["text"].encode("latin-1")))
+            # a listing ends its own last line
+            lines += [case["listing"] + "again", refusal(10, len(case["listing"]))]
+    write("listing_vectors", data, lines)
+
+
+def images(cases):
+    # of a refused image a fresh record, all zero; a call, which leaves the record that image_vectors lends it; no listing
+    lent = [1, -2, 30, -400, 5000, -60000]
+    refused = [refusal(11, None), refusal(11, None) + figures([0] * 6), outcome({"refused": [11, None], "held": lent})]
+    refused.append(refusal(11, None))
+    data, lines = [], []
+    for case in cases:
+        data.append(with_length(bytes.fromhex(case["image"])))
+        lines += [refusal(0, None)] if case["accepted"] else refused
+    write("image_vectors", data, lines)
+
+
+def calls(blocks):
+    data, lines = [], []
+    for block in blocks:
+        data.append(with_length(bytes.fromhex(block["image"])))
+        lines.append(refusal(0, None) + figures(block["fresh"]))
+        for call in block["calls"]:
+            readings = call["readings"]
+            parts = [word(len(readings))] + [reading(r) for r in readings + [None] * (8 - len(readings))]
+            data.append(with_length(b"".join(parts + [word(x) for x in call["held"]])))
+            lines.append(outcome(call))
+        # an empty case behind the calls
+        data.append(with_length(b""))
+    write("call_vectors", data, lines)
+
+
+def chunks(cases):
+    data, lines = [], []
+    for case in cases:
+        text = "".join(part * times for part, times in case["text"])
+        made = []
+        for call in case["calls"]:
+            if "piece" in call:
+                made.append(word(1) + word(call["piece"]))
+            else:
+                # no image is longer than 10,200 bytes
+                made.append(word(0) + word(10200 if call["end"] is None else call["end"]))
+            lines.append(call["image"] if "image" in call else refusal(*call.get("refused", [0, None])))
+        data += [with_length(text.encode("latin-1")), with_length(b"".join(made))]
+    write("chunk_vectors", data, lines)
+
+
+for name, programs in {
+    "texts.json": [texts, listings],
+    "images.json": [images],
+    "calls.json": [calls],
+    "pieces.json": [chunks],
+}.items():
+    path = os.path.join(source, name)
+    if os.path.exists(path):
+        with open(path) as f:
+            cases = json.load(f)
+        for program in programs:
+            program(cases)

@@ -23,7 +23,6 @@ use Rattle.model.specs.declared.Pair.{Pair}
 use Rattle.model.specs.declared.Reading.{Reading}
 use Rattle.model.specs.declared.Evaluation.{Evaluation}
 use Rattle.model.specs.declared.Refusal.{Refusal}
-use Rattle.model.specs.declared.Refusal.the-variants.{TextTooLong, WrongToken, WrongNumber, WrongName, NotDeclared, TooMany, WrongPosition, Unpaired, PartMissing, BufferTooShort, ImageNotAccepted, WrongCount, WrongHeld, WrongReading}
 use Rattle.model.specs.declared.Verdict.the-variants.{Refused}
 use Rattle.laws.proofs.Places.{tab-ext}
 use Rattle.layout.specs.Tables.{inputTermsIn}
@@ -41,20 +40,7 @@ use Rattle.defuzzification.specs.Outputs.{heightOf, answersBy}
 -- REFUSALS
 -- what a refused call hands back
 pub refused-tells : (why : Refusal) (h : Held) → Tells (record { verdict = Refused why; answers = padded noAnswer []; held = h }) h (refusalOf why)
-refused-tells TextTooLong h = record { verdict = refl; answers = refl; held = refl }
-refused-tells (WrongToken place) h = record { verdict = refl; answers = refl; held = refl }
-refused-tells (WrongNumber place) h = record { verdict = refl; answers = refl; held = refl }
-refused-tells (WrongName place) h = record { verdict = refl; answers = refl; held = refl }
-refused-tells (NotDeclared place) h = record { verdict = refl; answers = refl; held = refl }
-refused-tells (TooMany place) h = record { verdict = refl; answers = refl; held = refl }
-refused-tells (WrongPosition place) h = record { verdict = refl; answers = refl; held = refl }
-refused-tells (Unpaired place) h = record { verdict = refl; answers = refl; held = refl }
-refused-tells (PartMissing place) h = record { verdict = refl; answers = refl; held = refl }
-refused-tells (BufferTooShort needed) h = record { verdict = refl; answers = refl; held = refl }
-refused-tells ImageNotAccepted h = record { verdict = refl; answers = refl; held = refl }
-refused-tells WrongCount h = record { verdict = refl; answers = refl; held = refl }
-refused-tells WrongHeld h = record { verdict = refl; answers = refl; held = refl }
-refused-tells (WrongReading index) h = record { verdict = refl; answers = refl; held = refl }
+refused-tells why h = record { verdict = refl; answers = refl; held = refl }
 
 -- of an outcome that is the one told
 pub tells-as : (r : Evaluation) (h : Held) (o p : Outcome CallResult) → o ≡ p → Tells r h p → Tells r h o

@@ -15,13 +15,11 @@ use Rattle.model.specs.Basic.{if_then_else_}
 use Rattle.model.specs.Block.{Input}
 use Rattle.model.specs.Image.{tab}
 use Rattle.model.specs.Outcome.{Outcome, accepted, refused, andThen}
-use Rattle.model.specs.Refusals.{refusalOf, writtenOf, verdictOf}
+use Rattle.model.specs.Refusals.{numberAndPlace, writtenOf, verdictOf}
 use Rattle.model.specs.Readings.{taken, valueIn}
 use Rattle.model.specs.Evaluation.{CallResult, Tells, figuresOf, heldOf, valuesOf}
 use Rattle.model.specs.declared.Held.{Held}
 use Rattle.model.specs.declared.Evaluation.{Evaluation}
-use Rattle.model.specs.declared.Refusal.{Refusal}
-use Rattle.model.specs.declared.Refusal.the-variants.{TextTooLong, WrongToken, WrongNumber, WrongName, NotDeclared, TooMany, WrongPosition, Unpaired, PartMissing, BufferTooShort, ImageNotAccepted, WrongCount, WrongHeld, WrongReading}
 use Rattle.model.specs.declared.InputType.{InputType}
 use Rattle.model.specs.declared.InputType.the-variants.{Real as real, Int as int}
 use Rattle.model.specs.declared.Mark.{Mark}
@@ -31,6 +29,7 @@ use Rattle.model.specs.declared.Reading.the-variants.{Absent}
 use Rattle.model.specs.declared.Written.{Written}
 use Rattle.model.specs.declared.Written.the-variants.{Bytes, Refused}
 use Rattle.refusals.specs.Told.{placeOf}
+use Rattle.refusals.proofs.Numbers.{above-zero}
 use Rattle.laws.proofs.Places.{tab-ext}
 use Rattle.grillenhelm.specs.Crossing.{outcomeOf, bareOutcome, readingOf, markNumber, answerOf, evaluationIn}
 use Rattle.grillenhelm.specs.declared.GrillenhelmOutcome.{GrillenhelmOutcome}
@@ -46,21 +45,9 @@ refusal-told o number place false e z =
     (λ j. record { refusal = number; «has_place» = 0; place = z refl j; length = 0 }) ∙ sym (ap (outcomeOf (λ n. n)) e)
 
 -- a refusal is told alike whatever was to be answered
-pub any-refusal : {A B : Type 0} (f : A → ℕ) (g : B → ℕ) (r : Refusal) → outcomeOf f (refusalOf r) ≡ outcomeOf g (refusalOf r)
-any-refusal f g TextTooLong = refl
-any-refusal f g (WrongToken place) = refl
-any-refusal f g (WrongNumber place) = refl
-any-refusal f g (WrongName place) = refl
-any-refusal f g (NotDeclared place) = refl
-any-refusal f g (TooMany place) = refl
-any-refusal f g (WrongPosition place) = refl
-any-refusal f g (Unpaired place) = refl
-any-refusal f g (PartMissing place) = refl
-any-refusal f g (BufferTooShort needed) = refl
-any-refusal f g ImageNotAccepted = refl
-any-refusal f g WrongCount = refl
-any-refusal f g WrongHeld = refl
-any-refusal f g (WrongReading index) = refl
+pub any-refusal : {A B : Type 0} (f : A → ℕ) (g : B → ℕ) (n : ℕ) (p : Option ℕ) → outcomeOf f (refused n p) ≡ outcomeOf g (refused n p)
+any-refusal f g n none = refl
+any-refusal f g n (some place) = refl
 
 -- of a result that was made of another
 pub told-then : {A B : Type 0} (g : B → ℕ) (f : A → B) (o : Outcome A) → outcomeOf g (andThen o (λ a. accepted (f a))) ≡ outcomeOf (λ a. g (f a)) o
@@ -92,22 +79,13 @@ abbrev pub outcomeBack : GrillenhelmOutcome → Outcome ℕ
 outcomeBack o =
     if eqb (o .refusal) 0 then accepted (o .length) else refused (o .refusal) (placeOf (eqb (o .«has_place») 1) (o .place))
 
+refusal-back : (n : ℕ) (p : Option ℕ) → eqb n 0 ≡ false → outcomeBack (outcomeOf (λ k. k) (refused n p)) ≡ refused n p
+refusal-back n none z = rw z refl
+refusal-back n (some place) z = rw z refl
+
 pub outcome-back : (w : Written) → outcomeBack (outcomeOf (λ n. n) (writtenOf w)) ≡ writtenOf w
 outcome-back (Bytes n) = refl
-outcome-back (Refused TextTooLong) = refl
-outcome-back (Refused (WrongToken place)) = refl
-outcome-back (Refused (WrongNumber place)) = refl
-outcome-back (Refused (WrongName place)) = refl
-outcome-back (Refused (NotDeclared place)) = refl
-outcome-back (Refused (TooMany place)) = refl
-outcome-back (Refused (WrongPosition place)) = refl
-outcome-back (Refused (Unpaired place)) = refl
-outcome-back (Refused (PartMissing place)) = refl
-outcome-back (Refused (BufferTooShort needed)) = refl
-outcome-back (Refused ImageNotAccepted) = refl
-outcome-back (Refused WrongCount) = refl
-outcome-back (Refused WrongHeld) = refl
-outcome-back (Refused (WrongReading index)) = refl
+outcome-back (Refused r) = refusal-back (numberAndPlace r .0) (numberAndPlace r .1) (above-zero r)
 
 abbrev pub markBack : ℕ → Mark
 markBack n = if eqb n 0 then None else if eqb n 1 then Fired else if eqb n 2 then Default else HeldMark

@@ -8,6 +8,7 @@ ghost use Rattle.model.specs.Refusals.{refusalOf, writtenOf, verdictOf};
 ghost use Rattle.model.specs.Image.{loads};
 ghost use Rattle.model.specs.Buffers.{readsInto, listsInto};
 ghost use Rattle.model.specs.Evaluation.{evaluate, figuresOf, fresh, heldOf};
+ghost use Rattle.model.specs.Chunks.{chunk as aChunk, finish as theEnd, answerIn, stateAfter};
 ghost use Rattle.grillenhelm.specs.Crossing.{outcomeOf, bareOutcome, readingOf, markNumber, answerOf};
 ghost use Rattle.grillenhelm.specs.Crossing.{freshIn, evaluationIn, leaving};
 use model::Answer;
@@ -223,6 +224,34 @@ pub extern "C" fn grillenhelm_read(text: &[u8], image: &mut [u8]) -> Grillenhelm
         ≡ bufferAfter (now (image .entry)) (readsInto (length (now (image .entry))) (now (text .entry))) ⌝ }
 {
     let w = reader::read(text, image);
+    written(w)
+}
+
+// `chunked_text::append`.
+#[no_mangle]
+pub extern "C" fn grillenhelm_append(chunk: &[u8], store: &mut [u8], count: &mut usize) -> GrillenhelmOutcome
+    ensures { λ r. ⌜ r ≡ bareOutcome (answerIn (record { store = now (store .entry); count = now (count .entry) })
+        (aChunk (now (chunk .entry)))) ⌝ }
+    ensures state { λ r. ⌜ record { store = now (store .exit); count = now (count .exit) }
+        ≡ stateAfter (record { store = now (store .entry); count = now (count .entry) })
+        (aChunk (now (chunk .entry))) ⌝ }
+{
+    let v = chunked_text::append(chunk, store, count);
+    verdict(v)
+}
+
+// `chunked_text::finish`.
+#[no_mangle]
+pub extern "C" fn grillenhelm_finish(store: &[u8], count: &mut usize, image: &mut [u8]) -> GrillenhelmOutcome
+    ensures { λ r. ⌜ r ≡ outcomeOf length (answerIn
+        (record { store = now (store .entry); count = now (count .entry) }) (theEnd (now (image .entry)))) ⌝ }
+    ensures buffer { λ r. ⌜ now (image .exit) ≡ bufferAfter (now (image .entry)) (answerIn
+        (record { store = now (store .entry); count = now (count .entry) }) (theEnd (now (image .entry)))) ⌝ }
+    ensures state { λ r. ⌜ record { store = now (store .entry); count = now (count .exit) }
+        ≡ stateAfter (record { store = now (store .entry); count = now (count .entry) })
+        (theEnd (now (image .entry))) ⌝ }
+{
+    let w = chunked_text::finish(store, count, image);
     written(w)
 }
 

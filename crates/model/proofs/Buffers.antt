@@ -12,7 +12,7 @@ use Rattle.model.specs.Refusals.{refusalOf, writtenOf, verdictOf}
 use Rattle.model.specs.Image.{image}
 use Rattle.model.specs.Buffers.{readsInto, listsInto, readsTo}
 use Rattle.model.specs.declared.Refusal.{Refusal}
-use Rattle.model.specs.declared.Refusal.the-variants.{TextTooLong, WrongToken, WrongNumber, WrongName, NotDeclared, TooMany, WrongPosition, Unpaired, PartMissing, BufferTooShort, ImageNotAccepted, WrongCount, WrongHeld, WrongReading}
+use Rattle.model.specs.declared.Refusal.the-variants.{TextTooLong, WrongToken, WrongNumber, WrongName, NotDeclared, TooMany, WrongPosition, Unpaired, PartMissing, BufferTooShort, ImageNotAccepted, WrongCount, WrongHeld, WrongReading, TextOver}
 use Rattle.model.specs.declared.Written.the-variants.{Bytes, Refused as NotWritten}
 use Rattle.model.specs.declared.Verdict.the-variants.{Accepted, Refused as NotAccepted}
 use Rattle.model.proofs.Opened.{opened}
@@ -22,13 +22,13 @@ use Rattle.model.proofs.Example.{exampleText, trust, exampleListing}
 abbrev refusals : List Refusal
 refusals =
     TextTooLong ∷ WrongToken 21 ∷ WrongNumber 31 ∷ WrongName 41 ∷ NotDeclared 51 ∷ TooMany 61 ∷ WrongPosition 71 ∷ Unpaired 81 ∷ PartMissing 91
-    ∷ BufferTooShort 101 ∷ ImageNotAccepted ∷ WrongCount ∷ WrongHeld ∷ WrongReading 7 ∷ []
+    ∷ BufferTooShort 101 ∷ ImageNotAccepted ∷ WrongCount ∷ WrongHeld ∷ WrongReading 7 ∷ TextOver ∷ []
 
 abbrev numbered : {A : Type 0} → List (Outcome A)
 numbered =
     refused 1 (some 0) ∷ refused 2 (some 21) ∷ refused 3 (some 31) ∷ refused 4 (some 41) ∷ refused 5 (some 51) ∷ refused 6 (some 61)
     ∷ refused 7 (some 71) ∷ refused 8 (some 81) ∷ refused 9 (some 91) ∷ refused 10 (some 101) ∷ refused 11 none ∷ refused 12 none
-    ∷ refused 13 none ∷ refused 14 (some 7) ∷ []
+    ∷ refused 13 none ∷ refused 14 (some 7) ∷ refused 16 none ∷ []
 
 refusal-numbers : map (λ r. refusalOf {A = ℕ} r) refusals ≡ numbered
 refusal-numbers = refl

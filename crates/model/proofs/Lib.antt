@@ -13,4 +13,5 @@ pub mod Buffers
 pub mod Listings
 pub mod Degrees
 pub mod Calls
+pub mod Chunks
 pub mod Vectors

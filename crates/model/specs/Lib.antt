@@ -19,3 +19,4 @@ pub mod Degrees
 pub mod Readings
 pub mod Evaluation
 pub mod Calls
+pub mod Chunks

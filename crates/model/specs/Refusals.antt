@@ -1,29 +1,33 @@
 -- Refusal numbers: the number and the place of each case of each answer.
-use mathlib.Core.Option.{none, some}
+use mathlib.Core.Option.{Option, none, some}
 use Prim.Native.Nat.{ℕ}
 use Rattle.model.specs.Outcome.{Outcome, accepted, refused}
 use Rattle.model.specs.declared.Refusal.{Refusal}
-use Rattle.model.specs.declared.Refusal.the-variants.{TextTooLong, WrongToken, WrongNumber, WrongName, NotDeclared, TooMany, WrongPosition, Unpaired, PartMissing, BufferTooShort, ImageNotAccepted, WrongCount, WrongHeld, WrongReading}
+use Rattle.model.specs.declared.Refusal.the-variants.{TextTooLong, WrongToken, WrongNumber, WrongName, NotDeclared, TooMany, WrongPosition, Unpaired, PartMissing, BufferTooShort, ImageNotAccepted, WrongCount, WrongHeld, WrongReading, TextOver}
 use Rattle.model.specs.declared.Written.{Written}
 use Rattle.model.specs.declared.Written.the-variants.{Bytes, Refused as NotWritten}
 use Rattle.model.specs.declared.Verdict.{Verdict}
 use Rattle.model.specs.declared.Verdict.the-variants.{Accepted, Refused as NotAccepted}
 
+abbrev pub numberAndPlace : Refusal → ℕ × Option ℕ
+numberAndPlace TextTooLong = (1, some 0)
+numberAndPlace (WrongToken place) = (2, some place)
+numberAndPlace (WrongNumber place) = (3, some place)
+numberAndPlace (WrongName place) = (4, some place)
+numberAndPlace (NotDeclared place) = (5, some place)
+numberAndPlace (TooMany place) = (6, some place)
+numberAndPlace (WrongPosition place) = (7, some place)
+numberAndPlace (Unpaired place) = (8, some place)
+numberAndPlace (PartMissing place) = (9, some place)
+numberAndPlace (BufferTooShort needed) = (10, some needed)
+numberAndPlace ImageNotAccepted = (11, none)
+numberAndPlace WrongCount = (12, none)
+numberAndPlace WrongHeld = (13, none)
+numberAndPlace (WrongReading index) = (14, some index)
+numberAndPlace TextOver = (16, none)
+
 abbrev pub refusalOf : {A : Type 0} → Refusal → Outcome A
-refusalOf TextTooLong = refused 1 (some 0)
-refusalOf (WrongToken place) = refused 2 (some place)
-refusalOf (WrongNumber place) = refused 3 (some place)
-refusalOf (WrongName place) = refused 4 (some place)
-refusalOf (NotDeclared place) = refused 5 (some place)
-refusalOf (TooMany place) = refused 6 (some place)
-refusalOf (WrongPosition place) = refused 7 (some place)
-refusalOf (Unpaired place) = refused 8 (some place)
-refusalOf (PartMissing place) = refused 9 (some place)
-refusalOf (BufferTooShort needed) = refused 10 (some needed)
-refusalOf ImageNotAccepted = refused 11 none
-refusalOf WrongCount = refused 12 none
-refusalOf WrongHeld = refused 13 none
-refusalOf (WrongReading index) = refused 14 (some index)
+refusalOf r = refused (numberAndPlace r .0) (numberAndPlace r .1)
 
 -- the reader's and the lister's answer: how many bytes were written
 abbrev pub writtenOf : Written → Outcome ℕ

@@ -83,6 +83,7 @@ pub enum Refusal {
     WrongCount,
     WrongHeld,
     WrongReading(usize),
+    TextOver,
 }
 
 // What the reader and the lister answer: how many bytes they wrote, or the refusal.

@@ -1,5 +1,4 @@
 -- Whatever the text, the reader refuses by a number from 2 to 9: the steps of reading keep to these numbers, and so does every part.
-use mathlib.Core.Option.{Option, none, some}
 use mathlib.Core.Path.{_≡_, refl}
 use mathlib.Core.Bool.{Bool, true, false}
 use mathlib.Core.List.{List}
@@ -9,10 +8,9 @@ use lib.Dec.{ltb, eqb}
 use Rattle.model.specs.Basic.{if_then_else_}
 use Rattle.model.specs.Bounds.{wordLimit}
 use Rattle.model.specs.Block.{Block}
-use Rattle.model.specs.Outcome.{refused}
-use Rattle.model.specs.Refusals.{refusalOf}
+use Rattle.model.specs.Refusals.{numberAndPlace}
 use Rattle.model.specs.declared.Refusal.{Refusal}
-use Rattle.model.specs.declared.Refusal.the-variants.{TextTooLong, WrongToken, WrongNumber, WrongName, NotDeclared, TooMany, WrongPosition, Unpaired, PartMissing, BufferTooShort, ImageNotAccepted, WrongCount, WrongHeld, WrongReading}
+use Rattle.model.specs.declared.Refusal.the-variants.{TextTooLong, WrongToken, WrongNumber, WrongName, NotDeclared, TooMany, WrongPosition, Unpaired, PartMissing, BufferTooShort, ImageNotAccepted, WrongCount, WrongHeld, WrongReading, TextOver}
 use Rattle.model.specs.Parse.{Parse, refuse, advance, change}
 use Rattle.model.specs.Rules.{word}
 use Rattle.model.specs.Reader.{functionBlock, start}
@@ -49,19 +47,20 @@ known-steps = record { refused = known-refuse; advanced = known-advance; changed
 pub reads-known : (s : List ℕ) → Known (functionBlock (start s))
 reads-known s = keeps-functionBlock Known known-steps (start s) (record { most = omega arith; not-one = λ e. omega arith })
 
--- every refusal has a number
-pub refusal-is : (r : Refusal) → (n : ℕ) × (p : Option ℕ) × (refusalOf {A = ℕ} r ≡ refused n p)
-refusal-is TextTooLong = (1, some 0, refl)
-refusal-is (WrongToken place) = (2, some place, refl)
-refusal-is (WrongNumber place) = (3, some place, refl)
-refusal-is (WrongName place) = (4, some place, refl)
-refusal-is (NotDeclared place) = (5, some place, refl)
-refusal-is (TooMany place) = (6, some place, refl)
-refusal-is (WrongPosition place) = (7, some place, refl)
-refusal-is (Unpaired place) = (8, some place, refl)
-refusal-is (PartMissing place) = (9, some place, refl)
-refusal-is (BufferTooShort place) = (10, some place, refl)
-refusal-is ImageNotAccepted = (11, none, refl)
-refusal-is WrongCount = (12, none, refl)
-refusal-is WrongHeld = (13, none, refl)
-refusal-is (WrongReading place) = (14, some place, refl)
+-- 0 is the number of no refusal
+pub above-zero : (r : Refusal) → eqb (numberAndPlace r .0) 0 ≡ false
+above-zero TextTooLong = refl
+above-zero (WrongToken place) = refl
+above-zero (WrongNumber place) = refl
+above-zero (WrongName place) = refl
+above-zero (NotDeclared place) = refl
+above-zero (TooMany place) = refl
+above-zero (WrongPosition place) = refl
+above-zero (Unpaired place) = refl
+above-zero (PartMissing place) = refl
+above-zero (BufferTooShort needed) = refl
+above-zero ImageNotAccepted = refl
+above-zero WrongCount = refl
+above-zero WrongHeld = refl
+above-zero (WrongReading index) = refl
+above-zero TextOver = refl

@@ -71,5 +71,6 @@ pub fn number_and_place(r: Refusal) -> Told
         Refusal::WrongCount => nowhere(12),
         Refusal::WrongHeld => nowhere(13),
         Refusal::WrongReading(index) => at(14, index),
+        Refusal::TextOver => nowhere(16),
     }
 }

@@ -15,7 +15,6 @@ use Rattle.model.specs.Refusals.{refusalOf}
 use Rattle.model.specs.Buffers.{readsInto, listsInto}
 use Rattle.model.specs.declared.Refusal.{Refusal}
 use Rattle.laws.proofs.Buffers.{fits}
-use Rattle.refusals.proofs.Numbers.{refusal-is}
 use Rattle.image_laws.proofs.Loads.{loads-iff}
 use Rattle.listing_laws.proofs.RoundTrip.{listing-reads}
 use Rattle.relisting.specs.Relists.{relists}
@@ -57,8 +56,7 @@ stops img text room why e = go (listsInto text img) refl
     go : (o : Outcome (List ℕ)) → listsInto text img ≡ o
         → (n : ℕ) × (p : Option ℕ) × (listsInto text img ≡ refused n p) × (andThen (listsInto text img) (readsInto room) ≡ refused n p)
     go (accepted s) h =
-        let t = refusal-is why in
-        let q : refused (t .0) (t .1) ≡ accepted (length s) = sym (t .2) ∙ e ∙ ap lengthIn h in
+        let q : refusalOf why ≡ accepted (length s) = e ∙ ap lengthIn h in
         let z : _≡_ {A = ℕ} 0 1 = cc in
         absurd (omega arith)
     go (refused n p) h = (n, p, h, ap (λ (o : Outcome (List ℕ)). andThen o (readsInto room)) h)

@@ -4,47 +4,18 @@
 ghost use mathlib.Core.Path.{_≡_};
 ghost use lib.ListN.{length};
 use model::Written;
-use vectors::FILL;
-use vectors::end_line;
+use vectors::image_buffer;
 use vectors::next_case;
-use vectors::write_refusal;
-
-fn wide(b: u8) -> u64 {
-    b as u64
-}
-
-// The first n bytes, if there are as many.
-fn write_bytes(out: &[u8], n: usize) {
-    let mut i = 0;
-    while i < n {
-        if out.len() <= i {
-            return;
-        }
-        io::print_hex(1, wide(out[i]), 2);
-        i += 1;
-    }
-}
+use vectors::write_image;
 
 // The line of one reading, and how long the image is; 0 where there is none.
 fn run_reading(text: &[u8], out: &mut [u8]) -> usize {
-    match reader::read(text, out) {
-        Written::Bytes(n) => {
-            write_bytes(out, n);
-            end_line(out, n);
-            n
-        }
-        Written::Refused(r) => {
-            write_refusal(r);
-            end_line(out, 0);
-            0
-        }
+    let w = reader::read(text, out);
+    write_image(w, out);
+    match w {
+        Written::Bytes(n) => n,
+        Written::Refused(_) => 0,
     }
-}
-
-fn filled() -> [u8; 16384]
-    ensures { λ r. ⌜ 16384 ≡ length r ⌝ }
-{
-    [FILL; 16384]
 }
 
 // One byte more than a text may have.
@@ -57,13 +28,13 @@ fn long_buffer() -> [u8; 65537]
 // Into the first n bytes of a buffer.
 fn run_room(text: &[u8], n: usize) {
     if n <= 16384 {
-        let mut out = filled();
+        let mut out = image_buffer();
         run_reading(text, &mut out[..n]);
     }
 }
 
 fn run_text(text: &[u8]) {
-    let mut out = filled();
+    let mut out = image_buffer();
     let n = run_reading(text, &mut out);
     if 0 < n {
         run_room(text, n);

@@ -1,6 +1,8 @@
 // What the programs over vectors share: the cases of a file one by one, whether a buffer that was lent changed, and how
-// refusals, figures and answers are written. The files, and the lines to expect, are made by tools/vectors.py from
-// vectors worked out elsewhere.
+// refusals, images, figures and answers are written. The files, and the lines to expect, are made by tools/vectors.py
+// from vectors worked out elsewhere.
+ghost use mathlib.Core.Path.{_≡_};
+ghost use lib.ListN.{length};
 use model::Answer;
 use model::Crisp;
 use model::Evaluation;
@@ -73,6 +75,43 @@ pub fn write_verdict(v: Verdict) {
             io::write_all(1, b"0 -");
         }
         Verdict::Refused(r) => write_refusal(r),
+    }
+}
+
+// A buffer that holds every image.
+pub fn image_buffer() -> [u8; 16384]
+    ensures { λ r. ⌜ 16384 ≡ length r ⌝ }
+{
+    [FILL; 16384]
+}
+
+fn wide(b: u8) -> u64 {
+    b as u64
+}
+
+// The first n bytes, if there are as many.
+fn write_bytes(out: &[u8], n: usize) {
+    let mut i = 0;
+    while i < n {
+        if out.len() <= i {
+            return;
+        }
+        io::print_hex(1, wide(out[i]), 2);
+        i += 1;
+    }
+}
+
+// The line of an image that was to be written to the front of a buffer: in hex, or the refusal.
+pub fn write_image(w: Written, out: &[u8]) {
+    match w {
+        Written::Bytes(n) => {
+            write_bytes(out, n);
+            end_line(out, n);
+        }
+        Written::Refused(r) => {
+            write_refusal(r);
+            end_line(out, 0);
+        }
     }
 }
 

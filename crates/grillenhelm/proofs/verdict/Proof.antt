@@ -1,5 +1,5 @@
 use mathlib.Core.Path.{sym, ap, _∙_}
-use Rattle.model.specs.Refusals.{verdictOf}
+use Rattle.model.specs.Refusals.{numberAndPlace, verdictOf}
 use Rattle.model.specs.declared.Verdict.{Verdict}
 use Rattle.grillenhelm.specs.Crossing.{bareOutcome}
 use Rattle.grillenhelm.proofs.Laws.{any-refusal}
@@ -26,7 +26,8 @@ returns c =
 returns-2 : tie.Need-returns-2
 returns-2 c =
     let v = c .before .before .v in
-    c .refused .ensures ∙ any-refusal (λ n. n) (λ a. 0) (v .given .0 .0) ∙ ap (λ (v : Verdict). bareOutcome (verdictOf v)) (sym (v .given .1))
+    let why = numberAndPlace (v .given .0 .0) in
+    c .refused .ensures ∙ any-refusal (λ n. n) (λ a. 0) (why .0) (why .1) ∙ ap (λ (v : Verdict). bareOutcome (verdictOf v)) (sym (v .given .1))
 
 pub verdict-spec : {M : Type 1} → statement M
 verdict-spec =

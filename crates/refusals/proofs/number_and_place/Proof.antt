@@ -103,6 +103,12 @@ enum-known-r-10 c = search needs
 at-requires-11 : tie.Need-at-requires-11
 at-requires-11 c κs = search needs
 
+enum-told-5 : tie.Need-enum-told-5
+enum-told-5 c = search needs
+
+nowhere-requires-4 : tie.Need-nowhere-requires-4
+nowhere-requires-4 c κs = search needs
+
 returns : tie.Need-returns
 returns c = told-at (ap refusalOf (c .before .enum-told .given .1)) (c .at .ensures)
 
@@ -145,6 +151,9 @@ returns-13 c = told-nowhere (ap refusalOf (c .before .enum-told4 .given .1)) (c 
 returns-14 : tie.Need-returns-14
 returns-14 c = told-at (ap refusalOf (c .before .before .r10 .given .1)) (c .at11 .ensures)
 
+returns-15 : tie.Need-returns-15
+returns-15 c = told-nowhere (ap refusalOf (c .before .enum-told5 .given .1)) (c .nowhere4 .ensures)
+
 pub number-and-place-spec : {M : Type 1} → statement M
 number-and-place-spec =
     tie.close
@@ -177,6 +186,8 @@ number-and-place-spec =
     nowhere-requires-3
     enum-known-r-10
     at-requires-11
+    enum-told-5
+    nowhere-requires-4
     returns
     returns-2
     returns-3
@@ -190,4 +201,5 @@ number-and-place-spec =
     returns-11
     returns-12
     returns-13
-    returns-14)
+    returns-14
+    returns-15)

@@ -5,15 +5,15 @@ use borrow.Author.Needs.{needs}
 use Rattle.text_vectors.proofs.run_room.Statement.{statement}
 use Rattle.text_vectors.proofs.run_room.Tie as tie
 
-filled-requires : tie.Need-filled-requires
-filled-requires c κs = search needs
+image-buffer-requires : tie.Need-image-buffer-requires
+image-buffer-requires c κs = search needs
 
 array-borrow-prefix-out : tie.Need-array-borrow-prefix-out
 array-borrow-prefix-out c = search needs
 
 slice-aggregate-run-reading : tie.Need-slice-aggregate-run-reading
 slice-aggregate-run-reading c =
-    sym (length-take-le (c .before .before .before .before .args .n) (c .before .filled .result) (omega (arith, c .before .before .if1 .taken)))
+    sym (length-take-le (c .before .before .before .before .args .n) (c .before .image-buffer .result) (omega (arith, c .before .before .if1 .taken)))
 
 run-reading-requires : tie.Need-run-reading-requires
 run-reading-requires c κs = search needs
@@ -28,7 +28,7 @@ pub run-room-spec : {M : Type 1} → statement M
 run-room-spec =
     tie.close
     (tie.spec
-    filled-requires
+    image-buffer-requires
     array-borrow-prefix-out
     slice-aggregate-run-reading
     run-reading-requires

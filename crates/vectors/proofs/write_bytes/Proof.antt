@@ -1,7 +1,7 @@
 use Prim.Native.Nat.{_≤_, _-_}
 use borrow.Author.Needs.{needs}
-use Rattle.text_vectors.proofs.write_bytes.Statement.{statement}
-use Rattle.text_vectors.proofs.write_bytes.Tie as tie
+use Rattle.vectors.proofs.write_bytes.Statement.{statement}
+use Rattle.vectors.proofs.write_bytes.Tie as tie
 
 abbrev Inv-loop : tie.InvT-loop
 Inv-loop out n i₀ i = i ≤ n
