@@ -18,7 +18,7 @@ same-length c = search needs
 returns : tie.Need-returns
 returns c =
     let b = c .before .before .before in
-    let a = b .before .before .before .before .args in
+    let a = b .before .before .before .before .before .args in
     let o = answerIn (record { store = a .store .now; count = a .count .now }) (chunk (a .chunk .now)) in
     (c .verdict .ensures ∙ ap bareOutcome (b .append .ensures .0) ∙ told-then (λ u. 0) (λ s. tt) o, b .append .ensures .1)
 

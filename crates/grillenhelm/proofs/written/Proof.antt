@@ -23,7 +23,8 @@ returns c =
     c .accepted .ensures ∙ ap (λ (w : Written). outcomeOf (λ n. n) (writtenOf w)) (sym (c .before .before .w .given .1))
 
 returns-2 : tie.Need-returns-2
-returns-2 c = search needs
+returns-2 c =
+    c .refused .ensures ∙ ap (λ (w : Written). outcomeOf (λ n. n) (writtenOf w)) (sym (c .before .before .w2 .given .1))
 
 pub written-spec : {M : Type 1} → statement M
 written-spec =
