@@ -2,14 +2,15 @@
  * Grillenhelm for C and C++ hosts on x86-64: FCL texts to stored images and back, and figures from readings.
  * Link target/staticlib/libgrillenhelm.a, which `rt staticlib grillenhelm` proves and writes.
  *
- * Who owns what: the host owns all memory. Bytes and the held record of grillenhelm_evaluate_held are lent for the
- * time of the call; everything else goes by value. No function allocates, keeps a pointer or has a state of its own,
- * so threads need no lock between them while each lends its own buffer and record. A pointer is never null, even to
- * no bytes, and bytes that are written overlap with no others that are lent. A thread that calls wants 96 KB of
- * stack (reading was measured to need 52, listing 39, a check or an evaluation 3).
+ * Who owns what: the host owns all memory. Bytes, the held record of grillenhelm_evaluate_held and the number beside a
+ * text in chunks are lent for the time of the call; everything else goes by value. No function allocates, keeps a
+ * pointer or has a state of its own, so threads need no lock between them while each lends its own buffers, record and
+ * number. A pointer is never null, even to no bytes, and what is written overlaps with nothing else that is lent. A
+ * thread that calls wants 96 KB of stack (reading was measured to need 52, listing 39, a check or an evaluation 3).
  *
  * No function asks anything of the contents: any bytes and any values get an answer, which is accepted or one
- * numbered refusal. After a refusal a lent buffer or record holds what it came with.
+ * numbered refusal. After a refusal a lent buffer or record holds what it came with; so does the number beside a text
+ * in chunks, unless the refusal is the end of that text, which the number then says.
  */
 #ifndef GRILLENHELM_H
 #define GRILLENHELM_H
@@ -25,6 +26,9 @@ extern "C" {
 #define GRILLENHELM_TEXT 65536
 #define GRILLENHELM_IMAGE 10200
 #define GRILLENHELM_LISTING 31421
+
+/* The number beside a text in chunks that is over. */
+#define GRILLENHELM_OVER (GRILLENHELM_TEXT + 1)
 
 /* Places for readings, and for outputs. */
 #define GRILLENHELM_INPUTS 8
@@ -46,8 +50,10 @@ extern "C" {
  *   12  the number of readings is not that of the inputs
  *   13  the held record is not one of this image
  *   14  a reading is absent, not finite or of the wrong kind; the place is its index, the first one
- * The place of 2 to 9 is the byte of the text, from 0, where the refused token begins. has_place is 1 where there is a
- * place, else it and place are 0. length is how many bytes grillenhelm_read or grillenhelm_list wrote, else 0.
+ *   16  a call after the end of a text in chunks
+ * There is no 15. The place of 2 to 9 is the byte of the text, from 0, where the refused token begins. has_place is 1
+ * where there is a place, else it and place are 0. length is how many bytes of an image or a listing were written,
+ * else 0.
  */
 typedef struct {
     uint32_t refusal;
@@ -106,6 +112,26 @@ typedef struct {
 
 /* Reads an FCL text and writes its image to the start of the buffer; refused by 1 to 10. */
 GrillenhelmOutcome grillenhelm_read(const uint8_t *text, size_t text_length, uint8_t *image, size_t image_room);
+
+/*
+ * A text in chunks, as it comes over a serial line. The host lends a store of GRILLENHELM_TEXT bytes or more, which may
+ * hold anything, and a number, which it sets to 0 where a text begins; until the text is over it writes to neither. The
+ * number is how many bytes have come, or GRILLENHELM_OVER. A call after the end is refused by 16 before all else and
+ * alters nothing; so is one with a shorter store or any other number.
+ *
+ * Hands over the bytes that have come, perhaps none, which are put into the store behind those before. Refused by 1 as
+ * soon as the text is too long, whatever else is wrong with it, and the text is over; else by 16 alone.
+ */
+GrillenhelmOutcome grillenhelm_append(const uint8_t *chunk, size_t chunk_length, uint8_t *store, size_t store_length,
+                                      size_t *count);
+
+/*
+ * The end of the text, which is read as by grillenhelm_read, the place counted from its first byte; refused by 2 to 10
+ * or 16. The image buffer is lent for this call only. Whatever it answers, the text is over. It still stands in the
+ * store, as long as the number was: after a 10, grillenhelm_read reads it from there into a longer buffer.
+ */
+GrillenhelmOutcome grillenhelm_finish(const uint8_t *store, size_t store_length, size_t *count, uint8_t *image,
+                                      size_t image_room);
 
 /* Says whether these bytes are an image, all of them: accepted, or refused by 11. */
 GrillenhelmOutcome grillenhelm_check(const uint8_t *image, size_t image_length);

@@ -1,10 +1,14 @@
 //! The functions of `host/grillenhelm.h`, over slices: what is lent is a slice, so no pointer is null and what is
 //! written overlaps with nothing else.
 
+pub const TEXT: usize = 65_536;
 pub const IMAGE: usize = 10_200;
 pub const LISTING: usize = 31_421;
 pub const INPUTS: usize = 8;
 pub const OUTPUTS: usize = 6;
+
+/// The number beside a text in chunks that is over.
+pub const OVER: usize = TEXT + 1;
 
 #[repr(C)]
 #[derive(Clone, Copy, Debug)]
@@ -69,6 +73,20 @@ pub struct Reply {
 
 extern "C" {
     fn grillenhelm_read(text: *const u8, text_length: usize, image: *mut u8, image_room: usize) -> Outcome;
+    fn grillenhelm_append(
+        chunk: *const u8,
+        chunk_length: usize,
+        store: *mut u8,
+        store_length: usize,
+        count: *mut usize,
+    ) -> Outcome;
+    fn grillenhelm_finish(
+        store: *const u8,
+        store_length: usize,
+        count: *mut usize,
+        image: *mut u8,
+        image_room: usize,
+    ) -> Outcome;
     fn grillenhelm_check(image: *const u8, image_length: usize) -> Outcome;
     fn grillenhelm_list(image: *const u8, image_length: usize, text: *mut u8, text_room: usize) -> Outcome;
     fn grillenhelm_fresh(image: *const u8, image_length: usize) -> Fresh;
@@ -79,6 +97,16 @@ extern "C" {
 pub fn read(text: &[u8], image: &mut [u8]) -> Outcome {
     // SAFETY: both slices are alive for the call and apart from each other; any contents are allowed.
     unsafe { grillenhelm_read(text.as_ptr(), text.len(), image.as_mut_ptr(), image.len()) }
+}
+
+pub fn append(chunk: &[u8], store: &mut [u8], count: &mut usize) -> Outcome {
+    // SAFETY: the slices and the number are alive for the call and apart from each other; any contents are allowed.
+    unsafe { grillenhelm_append(chunk.as_ptr(), chunk.len(), store.as_mut_ptr(), store.len(), count) }
+}
+
+pub fn finish(store: &[u8], count: &mut usize, image: &mut [u8]) -> Outcome {
+    // SAFETY: the slices and the number are alive for the call and apart from each other; any contents are allowed.
+    unsafe { grillenhelm_finish(store.as_ptr(), store.len(), count, image.as_mut_ptr(), image.len()) }
 }
 
 pub fn check(image: &[u8]) -> Outcome {

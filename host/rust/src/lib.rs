@@ -1,8 +1,9 @@
 //! Grillenhelm for Rust hosts: FCL texts to stored images and back, and figures from readings.
 //!
 //! The work is done by the proved static library; this crate gives it types that cannot be misused. An [`Image`] is
-//! one that was read from a text or passed the load check. A [`HeldRecord`] belongs to its image and is what
-//! evaluates readings. Whatever is refused is a [`Refusal`], which says why in words.
+//! one that was read from a text or passed the load check. [`TextChunks`] reads a text that comes bit by bit. A
+//! [`HeldRecord`] belongs to its image and is what evaluates readings. Whatever is refused is a [`Refusal`], which says
+//! why in words.
 //!
 //! ```
 //! use grillenhelm::{Image, Mark, Reading, Refusal};
@@ -25,10 +26,12 @@
 #![deny(missing_docs)]
 #![deny(unsafe_code)]
 
+mod chunks;
 #[allow(missing_docs, unsafe_code)]
 mod ffi;
 mod refusal;
 
+pub use chunks::TextChunks;
 pub use refusal::Refusal;
 
 use std::ops::Deref;
@@ -57,8 +60,13 @@ pub struct Image {
 impl Image {
     /// Reads an FCL text; refused by 1 to 9.
     pub fn read(text: &[u8]) -> Result<Image, Refusal> {
+        Image::written_by(|buffer| ffi::read(text, buffer))
+    }
+
+    /// The image that the library writes to a buffer, which is never too short.
+    fn written_by(write: impl FnOnce(&mut [u8]) -> ffi::Outcome) -> Result<Image, Refusal> {
         let mut buffer = vec![0; ffi::IMAGE];
-        let length = written(ffi::read(text, &mut buffer))?;
+        let length = written(write(&mut buffer))?;
         buffer.truncate(length);
         Ok(Image { bytes: buffer.into() })
     }

@@ -3,7 +3,7 @@ use crate::ffi::Outcome;
 use std::error::Error;
 use std::fmt;
 
-/// Why a call was refused: the fourteen refusals of document 01, each with its place.
+/// Why a call was refused: the refusals of documents 01 and 02, each with its place.
 ///
 /// `at` is the byte of the text, from 0, where the refused token begins.
 ///
@@ -80,6 +80,8 @@ pub enum Refusal {
         /// The index of the first such reading, from 0.
         index: usize,
     },
+    /// 16: the text in chunks is over, by its end or by a chunk that made it too long.
+    TextOver,
 }
 
 impl Refusal {
@@ -102,28 +104,14 @@ impl Refusal {
             12 => Refusal::WrongCount,
             13 => Refusal::ForeignRecord,
             14 => Refusal::UnusableReading { index: at },
+            16 => Refusal::TextOver,
             other => unreachable!("the library has no refusal {other}"),
         })
     }
 
-    /// Its number in document 01, 1 to 14.
+    /// Its number in documents 01 and 02.
     pub fn number(&self) -> u8 {
-        match self {
-            Refusal::TextTooLong => 1,
-            Refusal::WrongToken { .. } => 2,
-            Refusal::WrongNumber { .. } => 3,
-            Refusal::LongOrRepeated { .. } => 4,
-            Refusal::Undeclared { .. } => 5,
-            Refusal::TooMany { .. } => 6,
-            Refusal::WrongPosition { .. } => 7,
-            Refusal::Unpaired { .. } => 8,
-            Refusal::PartMissing { .. } => 9,
-            Refusal::BufferTooShort { .. } => 10,
-            Refusal::NotAnImage => 11,
-            Refusal::WrongCount => 12,
-            Refusal::ForeignRecord => 13,
-            Refusal::UnusableReading { .. } => 14,
-        }
+        self.number_and_words().0
     }
 
     /// The byte of the text that a refusal of the reader points at. One of a text as a whole points at none.
@@ -161,23 +149,28 @@ impl Refusal {
     }
 
     fn words(&self) -> &'static str {
+        self.number_and_words().1
+    }
+
+    fn number_and_words(&self) -> (u8, &'static str) {
         match self {
-            Refusal::TextTooLong => "the text is too long",
-            Refusal::WrongToken { .. } => "a wrong byte or token, or the text ends early",
-            Refusal::WrongNumber { .. } => "the form or the bound of a number",
-            Refusal::LongOrRepeated { .. } => "a name that is too long, or something given twice",
-            Refusal::Undeclared { .. } => "a name that is not declared for this use",
-            Refusal::TooMany { .. } => "more than a bound allows",
+            Refusal::TextTooLong => (1, "the text is too long"),
+            Refusal::WrongToken { .. } => (2, "a wrong byte or token, or the text ends early"),
+            Refusal::WrongNumber { .. } => (3, "the form or the bound of a number"),
+            Refusal::LongOrRepeated { .. } => (4, "a name that is too long, or something given twice"),
+            Refusal::Undeclared { .. } => (5, "a name that is not declared for this use"),
+            Refusal::TooMany { .. } => (6, "more than a bound allows"),
             Refusal::WrongPosition { .. } => {
-                "a position that does not rise or is outside of RANGE, or fewer than two points"
+                (7, "a position that does not rise or is outside of RANGE, or fewer than two points")
             }
-            Refusal::Unpaired { .. } => "AND and OR that are no pair",
-            Refusal::PartMissing { .. } => "a declared variable lacks its part",
-            Refusal::BufferTooShort { .. } => "the buffer is too short",
-            Refusal::NotAnImage => "the image is not accepted",
-            Refusal::WrongCount => "the number of readings is not that of the inputs",
-            Refusal::ForeignRecord => "the held record is not one of this image",
-            Refusal::UnusableReading { .. } => "a reading is absent, not finite or of the wrong kind",
+            Refusal::Unpaired { .. } => (8, "AND and OR that are no pair"),
+            Refusal::PartMissing { .. } => (9, "a declared variable lacks its part"),
+            Refusal::BufferTooShort { .. } => (10, "the buffer is too short"),
+            Refusal::NotAnImage => (11, "the image is not accepted"),
+            Refusal::WrongCount => (12, "the number of readings is not that of the inputs"),
+            Refusal::ForeignRecord => (13, "the held record is not one of this image"),
+            Refusal::UnusableReading { .. } => (14, "a reading is absent, not finite or of the wrong kind"),
+            Refusal::TextOver => (16, "the text is over"),
         }
     }
 }
