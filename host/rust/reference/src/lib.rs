@@ -1,9 +1,10 @@
 //! An independent implementation of document 01, written from the paper: reader, load check,
-//! lister and evaluator. It is what the proved library is compared with.
+//! lister and evaluator; of document 02, texts in chunks. It is what the proved library is compared with.
 #![forbid(unsafe_code)]
 #![allow(clippy::needless_range_loop)]
 
 mod block;
+mod chunks;
 mod evaluate;
 mod lexer;
 mod lister;
@@ -11,11 +12,12 @@ mod numbers;
 mod reader;
 mod stored;
 
+pub use chunks::Chunks;
 pub use evaluate::{evaluate, evaluate_held, Answer, Evaluated, Held, Mark, Reading};
 pub use numbers::{nearest, thousandths};
 pub use stored::Stored;
 
-/// A refusal's number, and its place, or the needed length for 10, where document 01 gives one.
+/// A refusal's number, and its place, or the needed length for 10, where the papers give one.
 #[derive(Clone, Copy, PartialEq, Eq, Debug)]
 pub struct Refusal {
     pub number: u8,

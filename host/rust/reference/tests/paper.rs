@@ -1,4 +1,5 @@
-//! Document 01's worked example, its values to check and the errors the trade has made.
+//! Document 01's worked example, its values to check and the errors the trade has made; of document 02, what each
+//! sentence of W-201 says.
 use reference::*;
 
 const TEXT: &str = "FUNCTION_BLOCK trust VAR_INPUT sharp: REAL; END_VAR VAR_OUTPUT grade: REAL; END_VAR \
@@ -334,4 +335,111 @@ fn buffers() {
     assert_eq!(room, [7; 700]);
     assert_eq!(list_into(&image, &mut room), Ok(length));
     assert_eq!((&room[..length], room[length]), (LISTING.as_bytes(), 7));
+}
+
+const OVER: Refusal = Refusal { number: 16, place: None };
+
+/// What the end answers after these chunks, each of which is accepted, and the buffer then.
+fn in_chunks(chunks: &[&[u8]]) -> (Result<usize, Refusal>, [u8; 400]) {
+    let mut text = Chunks::default();
+    for chunk in chunks {
+        assert_eq!(text.append(chunk), Ok(()));
+    }
+    let mut buffer = [7; 400];
+    (text.finish(&mut buffer), buffer)
+}
+
+/// Every later call is refused by 16, before 1 and before 10, and leaves the buffer as it was.
+fn is_over(mut text: Chunks) {
+    let mut buffer = [7; 400];
+    for _ in 0..2 {
+        assert_eq!(text.append(b";"), Err(OVER));
+        assert_eq!(text.append(b""), Err(OVER));
+        assert_eq!(text.append(&[b' '; 65_537]), Err(OVER));
+        assert_eq!(text.finish(&mut buffer), Err(OVER));
+        assert_eq!(text.finish(&mut []), Err(OVER));
+    }
+    assert_eq!(buffer, [7; 400]);
+}
+
+/// However the text was cut, the image equals that of reading it at once.
+#[test]
+fn image_of_chunks() {
+    let image = read(TEXT.as_bytes()).unwrap();
+    let is_read = |chunks: &[&[u8]]| {
+        let (answer, buffer) = in_chunks(chunks);
+        assert_eq!(answer, Ok(364));
+        assert_eq!((&buffer[..364], &buffer[364..]), (&image[..], &[7; 36][..]));
+    };
+    is_read(&[TEXT.as_bytes()]);
+    is_read(&TEXT.as_bytes().chunks(1).collect::<Vec<_>>());
+    // Inside a keyword, a number and `:=`, and with nothing come in between.
+    for inside in ["FUNC", "sha", "TERM clear :", "(60.", "END_FUNCTION_BLOCK"] {
+        let (before, after) = TEXT.as_bytes().split_at(TEXT.find(inside).unwrap() + inside.len());
+        is_read(&[before, after]);
+        is_read(&[b"", before, b"", b"", after, b""]);
+    }
+    is_read(&[b"(", b"* a comment *", b")", TEXT.as_bytes()]);
+}
+
+/// The refusal and its place, counted from the first byte, equal those of reading at once; both are kept until the end.
+#[test]
+fn refusals_of_chunks() {
+    let is_refused = |chunks: &[&[u8]], number, place| {
+        assert_eq!(in_chunks(chunks), (Err(Refusal { number, place: Some(place) }), [7; 400]));
+    };
+    is_refused(&[], 2, 0);
+    is_refused(&[b""], 2, 0);
+    // The name is missing: VAR_INPUT at 17 stands in its place.
+    let text = b"FUNCTION_BLOCK\n  VAR_INPUT sharp";
+    for at in 0..=text.len() {
+        is_refused(&[&text[..at], &text[at..]], 2, 17);
+    }
+    // Names that are cut: ab a second time, and one of 17 bytes.
+    is_refused(&[b"FUNCTION_BLOCK f VAR_INPUT a", b"b, a", b"b : REAL;"], 4, 31);
+    is_refused(&[b"FUNCTION_BLOCK abcdefgh", b"ijklmnop", b"q VAR_INPUT"], 4, 15);
+    // The first refusal stands, whatever comes behind it.
+    is_refused(&[b"FUNCTION_BLOCK ;", TEXT.as_bytes(), b"(*"], 2, 15);
+    // A comment that is never closed.
+    is_refused(&[b" (", b"*", TEXT.as_bytes()], 2, 1);
+}
+
+/// A refused end is an end: a call after it is a call after the end.
+#[test]
+fn calls_after_the_end() {
+    let ended = |chunk: &[u8], room: usize| {
+        let mut text = Chunks::default();
+        assert_eq!(text.append(chunk), Ok(()));
+        let answer = text.finish(&mut vec![7; room]);
+        is_over(text);
+        answer
+    };
+    assert_eq!(ended(TEXT.as_bytes(), 364), Ok(364));
+    assert_eq!(ended(b"END", 364), Err(Refusal { number: 2, place: Some(0) }));
+    assert_eq!(ended(TEXT.as_bytes(), 363), Err(Refusal { number: 10, place: Some(364) }));
+    assert_eq!(ended(TEXT.as_bytes(), 0), Err(Refusal { number: 10, place: Some(364) }));
+}
+
+/// Exactly 65,536 bytes are read; one more is refused at once, before what is kept, and counts as the end.
+#[test]
+fn chunks_that_pass_the_limit() {
+    let too_long = Err(Refusal { number: 1, place: Some(0) });
+    let mut long = TEXT.as_bytes().to_vec();
+    long.resize(65_536, b' ');
+    assert_eq!(in_chunks(&[&long]).0, Ok(364));
+    assert_eq!(in_chunks(&[&long[..300], &long[300..], b"", b""]).0, Ok(364));
+    assert_eq!(in_chunks(&[&[b' '; 65_535], b" "]).0, Err(Refusal { number: 2, place: Some(65_536) }));
+    // Of what comes before it, the first is right and the second refused at its first byte.
+    for before in [&long[..], &[b';'; 65_536]] {
+        for cut in [0, 1, 65_535, 65_536] {
+            let mut text = Chunks::default();
+            assert_eq!(text.append(&before[..cut]), Ok(()));
+            assert_eq!(text.append(b""), Ok(()));
+            assert_eq!(text.append(&[&before[cut..], b" "].concat()), too_long);
+            is_over(text);
+        }
+    }
+    let mut text = Chunks::default();
+    assert_eq!(text.append(&[b' '; 200_000]), too_long);
+    is_over(text);
 }
