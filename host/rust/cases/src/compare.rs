@@ -1,18 +1,27 @@
 //! The comparison of two implementations on a case.
 use crate::calls::{Call, HeldFrom};
+use crate::chunks::Step;
 use crate::{Answer, Case, Evaluated, Held, Implementation, Refusal, Room};
 use std::fmt::Debug;
 
 /// A room for answers that are refused in any.
 const SOME_ROOM: usize = 200;
 
+/// Acceptance, which is 0, and the refusals of documents 01 and 02.
+const NUMBERS: usize = 27;
+
 /// How often each refusal, or 0 for acceptance, was the answer.
 #[derive(Clone, Copy, Default, Debug)]
 pub struct Tally {
-    pub texts: [usize; 15],
-    pub images: [usize; 15],
-    pub calls: [usize; 15],
+    pub texts: [usize; NUMBERS],
+    pub images: [usize; NUMBERS],
+    pub calls: [usize; NUMBERS],
+    /// Of texts in chunks, to each chunk and to each end.
+    pub chunks: [usize; NUMBERS],
+    pub ends: [usize; NUMBERS],
 }
+
+const OVER: Refusal = Refusal { number: 16, place: None };
 
 /// The length that a refusal for want of room asks for.
 fn needed(answer: &Result<usize, Refusal>) -> Option<usize> {
@@ -49,7 +58,7 @@ fn holds(what: &str, is: bool) -> Result<(), String> {
     }
 }
 
-/// Runs both implementations on a case; what differs, or breaks what document 01 says of any answer, is
+/// Runs both implementations on a case; what differs, or breaks what documents 01 and 02 say of any answer, is
 /// the error.
 pub fn compare<A: Implementation, B: Implementation>(
     a: &A,
@@ -62,6 +71,7 @@ pub fn compare<A: Implementation, B: Implementation>(
         Case::Text { text, room } => both.text(text, *room, tally),
         Case::Image { image, room } => both.image(image, *room, tally),
         Case::Calls { image, calls } => both.calls(image, calls, tally),
+        Case::Chunks { steps } => both.chunks(steps, tally),
     }
 }
 
@@ -70,10 +80,19 @@ struct Both<'a, A, B> {
     b: &'a B,
 }
 
+/// A text that comes in chunks, as both have it.
+struct Chunks<A: Implementation, B: Implementation> {
+    a: A::Chunks,
+    b: B::Chunks,
+    /// What came until it was over.
+    text: Vec<u8>,
+    over: bool,
+}
+
 /// What a function answers and leaves in a lent buffer of some room.
 type Written = (Result<usize, Refusal>, Vec<u8>);
 
-fn written(room: usize, run: impl Fn(&mut [u8]) -> Result<usize, Refusal>) -> Result<Written, String> {
+fn written(room: usize, run: impl FnOnce(&mut [u8]) -> Result<usize, Refusal>) -> Result<Written, String> {
     let before: Vec<u8> = (0..room).map(|at| (at * 37 + 11) as u8).collect();
     let mut buffer = before.clone();
     let answer = run(&mut buffer);
@@ -190,6 +209,48 @@ impl<A: Implementation, B: Implementation> Both<'_, A, B> {
             same("record after the call", &a.held, &a.answers.map(|answer| answer.thousandths))?;
         }
         Ok(a)
+    }
+
+    fn chunks(&self, steps: &[Step], tally: &mut Tally) -> Result<(), String> {
+        let mut chunks = Chunks { a: self.a.begin(), b: self.b.begin(), text: Vec::new(), over: false };
+        for (nth, step) in steps.iter().enumerate() {
+            let (answers, number) = match step {
+                Step::Chunk(chunk) => (&mut tally.chunks, self.append(&mut chunks, chunk)),
+                Step::End(room) => (&mut tally.ends, self.finish(&mut chunks, *room)),
+            };
+            answers[number.map_err(|difference| format!("step {nth}: {difference}"))?] += 1;
+        }
+        Ok(())
+    }
+
+    fn append(&self, chunks: &mut Chunks<A, B>, chunk: &[u8]) -> Result<usize, String> {
+        let answer = self.a.append(&mut chunks.a, chunk);
+        same("answer to a chunk", &answer, &self.b.append(&mut chunks.b, chunk))?;
+        if chunks.over {
+            same("answer to a chunk after the end", &answer, &Err(OVER))?;
+        } else {
+            chunks.text.extend(chunk);
+            chunks.over = answer.is_err();
+        }
+        Ok(number(&answer))
+    }
+
+    fn finish(&self, chunks: &mut Chunks<A, B>, room: Room) -> Result<usize, String> {
+        // After the end too the room is that of the image, which must not be written again.
+        let room = room.of(needed(&self.read(&chunks.text, 0)?.0).unwrap_or(SOME_ROOM));
+        let a = written(room, |buffer| self.a.finish(&mut chunks.a, buffer))?;
+        let b = written(room, |buffer| self.b.finish(&mut chunks.b, buffer))?;
+        same("answer to the end", &a.0, &b.0)?;
+        same_bytes("image buffers after the end", &a.1, &b.1)?;
+        if chunks.over {
+            same("answer to an end after the end", &a.0, &Err(OVER))?;
+        } else {
+            let at_once = self.read(&chunks.text, room)?;
+            same("answers to the end and to the text at once", &a.0, &at_once.0)?;
+            same_bytes("image buffers after the end and after the text at once", &a.1, &at_once.1)?;
+            chunks.over = true;
+        }
+        Ok(number(&a.0))
     }
 }
 

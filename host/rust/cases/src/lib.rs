@@ -1,10 +1,11 @@
-//! Texts, images and lists of calls to try implementations of document 01 on, and the comparison of two
-//! of them. Each case follows from a seed and its number.
+//! Texts, images, lists of calls and texts in chunks to try implementations of documents 01 and 02 on, and the
+//! comparison of two of them. Each case follows from a seed and its number.
 #![forbid(unsafe_code)]
 
 pub mod block;
 pub mod blocks;
 pub mod calls;
+pub mod chunks;
 mod compare;
 pub mod images;
 mod neighbours;
@@ -19,6 +20,7 @@ pub use reference::{Answer, Evaluated, Held, Mark, Refusal};
 pub use run::Run;
 
 use calls::Call;
+use chunks::Step;
 use random::Random;
 use std::fmt;
 
@@ -41,8 +43,11 @@ impl Reading {
     }
 }
 
-/// The public functions of document 01. A place of refusal 10 is the needed length.
+/// The public functions of documents 01 and 02. A place of refusal 10 is the needed length.
 pub trait Implementation {
+    /// A text that comes in chunks.
+    type Chunks;
+
     fn read_into(&self, text: &[u8], image: &mut [u8]) -> Result<usize, Refusal>;
     fn check(&self, image: &[u8]) -> Result<(), Refusal>;
     fn list_into(&self, image: &[u8], listing: &mut [u8]) -> Result<usize, Refusal>;
@@ -56,6 +61,10 @@ pub trait Implementation {
         count: usize,
         held: &mut Held,
     ) -> (Option<Refusal>, [Answer; 6]);
+
+    fn begin(&self) -> Self::Chunks;
+    fn append(&self, chunks: &mut Self::Chunks, chunk: &[u8]) -> Result<(), Refusal>;
+    fn finish(&self, chunks: &mut Self::Chunks, image: &mut [u8]) -> Result<usize, Refusal>;
 }
 
 /// The independent implementation.
@@ -71,6 +80,8 @@ fn reference_readings(readings: &[Reading; 8]) -> [reference::Reading; 8] {
 }
 
 impl Implementation for Reference {
+    type Chunks = reference::Chunks;
+
     fn read_into(&self, text: &[u8], image: &mut [u8]) -> Result<usize, Refusal> {
         reference::read_into(text, image)
     }
@@ -102,6 +113,18 @@ impl Implementation for Reference {
         held: &mut Held,
     ) -> (Option<Refusal>, [Answer; 6]) {
         reference::evaluate_held(image, &reference_readings(readings), count, held)
+    }
+
+    fn begin(&self) -> reference::Chunks {
+        reference::Chunks::default()
+    }
+
+    fn append(&self, chunks: &mut reference::Chunks, chunk: &[u8]) -> Result<(), Refusal> {
+        chunks.append(chunk)
+    }
+
+    fn finish(&self, chunks: &mut reference::Chunks, image: &mut [u8]) -> Result<usize, Refusal> {
+        chunks.finish(image)
     }
 }
 
@@ -139,19 +162,21 @@ pub enum Case {
     Text { text: Vec<u8>, room: Room },
     Image { image: Vec<u8>, room: Room },
     Calls { image: Vec<u8>, calls: Vec<Call> },
+    Chunks { steps: Vec<Step> },
 }
 
 impl Case {
     /// The case of this number in the run with this seed.
     pub fn new(seed: u64, number: u64) -> Case {
         let random = &mut Random::new(seed, number);
-        match random.below(10) {
+        match random.below(12) {
             0..=4 => Case::Text { text: texts::text(random), room: Room::new(random) },
             5..=7 => Case::Image { image: images::image(random), room: Room::new(random) },
-            _ => {
+            8 | 9 => {
                 let (image, calls) = calls::calls(random);
                 Case::Calls { image, calls }
             }
+            _ => Case::Chunks { steps: chunks::steps(random) },
         }
     }
 }
@@ -159,14 +184,23 @@ impl Case {
 impl fmt::Display for Case {
     fn fmt(&self, f: &mut fmt::Formatter) -> fmt::Result {
         match self {
-            Case::Text { text, room } => write!(f, "{room:?}, text b\"{}\"", text.escape_ascii()),
+            Case::Text { text, room } => write!(f, "{room:?}, text {}", shown(text)),
             Case::Image { image, room } => write!(f, "{room:?}, image {}", hex(image)),
             Case::Calls { image, calls } => {
                 writeln!(f, "image {}", hex(image))?;
                 calls.iter().try_for_each(|call| writeln!(f, "{call:?}"))
             }
+            Case::Chunks { steps } => steps.iter().try_for_each(|step| match step {
+                Step::Chunk(chunk) => writeln!(f, "chunk of {} bytes, {}", chunk.len(), shown(chunk)),
+                Step::End(room) => writeln!(f, "end, room {room:?}"),
+            }),
         }
     }
+}
+
+/// A text as Rust writes bytes, but for its many blanks where it was made long.
+fn shown(text: &[u8]) -> String {
+    format!("b\"{}\"", text.escape_ascii()).replace(&" ".repeat(1000), "{1000 blanks}")
 }
 
 fn hex(bytes: &[u8]) -> String {

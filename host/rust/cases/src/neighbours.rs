@@ -1,5 +1,6 @@
-//! Every text and image one step away from those of one small block.
+//! Every text and image one step away from those of one small block, and texts cut in two.
 use crate::blocks::KEYWORDS;
+use crate::chunks::Step;
 use crate::texts::SYMBOLS;
 use crate::{Case, Room};
 
@@ -77,6 +78,27 @@ fn by_words() -> impl Iterator<Item = Case> {
     })
 }
 
+/// Accepted and refused texts in two chunks, cut at each byte; at some nothing has come in between.
+fn by_cuts() -> impl Iterator<Item = Case> {
+    let texts = [
+        include_str!("../../../../examples/trust.fcl").to_string(),
+        include_str!("../../../../examples/crane.fcl").to_string(),
+        include_str!("../../../../examples/everything.fcl").to_string(),
+        TEXT.to_string(),
+        TEXT.replacen("FUZZIFY c", "FUZZIFY d", 1),
+        TEXT.replacen("( +0.001", "(* +0.001", 1),
+        format!("{TEXT} ;"),
+    ];
+    texts.into_iter().flat_map(|text| {
+        (0..=text.len()).map(move |at| {
+            let (before, after) = text.as_bytes().split_at(at);
+            let chunks: &[&[u8]] = if at % 4 == 0 { &[before, b"", after] } else { &[before, after] };
+            let chunks = chunks.iter().map(|chunk| Step::Chunk(chunk.to_vec()));
+            Case::Chunks { steps: chunks.chain([Step::End(Room::Exact)]).collect() }
+        })
+    })
+}
+
 pub fn neighbours() -> impl Iterator<Item = Case> {
-    by_bytes().chain(by_tokens()).chain(by_words())
+    by_bytes().chain(by_tokens()).chain(by_words()).chain(by_cuts())
 }

@@ -103,8 +103,13 @@ fn used(tokens: &Tokens, from: &[u8], to: &[u8]) -> Vec<usize> {
 
 /// About 65,536 bytes.
 fn long(random: &mut Random, subject: &Block) -> Vec<u8> {
-    let mut text = valid(random, subject);
+    let text = valid(random, subject);
     let length = random.size(65_534, 65_538);
+    padded(random, text, length)
+}
+
+/// A text made that long, where it is shorter, by blanks or a comment.
+pub fn padded(random: &mut Random, mut text: Vec<u8>, length: usize) -> Vec<u8> {
     let filling = random.below(3);
     let at = if filling == 2 { 0 } else { text.len() };
     let missing = length.saturating_sub(text.len());

@@ -17,9 +17,38 @@ enum Fault {
     CountCutToByte,
     UnknownKindTakenAsReal,
     NegativeZero,
+    FullTextRefused,
+    ChunkOverTheFirst,
+    EmptyChunkAfterTheEnd,
+    OneAfterTheEnd,
+    OneAtTheEnd,
+    OneIsNoEnd,
+    KeptRefusalBeforeOne,
+    KeptRefusalToldByChunk,
+    PlaceInTheChunk,
+    TenIsNoEnd,
+    TenAfterTheEnd,
+    ImageAfterTheEnd,
 }
 
 struct Faulty(Fault);
+
+/// A text in chunks, as the faults need it.
+#[derive(Default)]
+struct Chunks {
+    text: Vec<u8>,
+    over: bool,
+    /// Where the last chunk begins.
+    last: usize,
+}
+
+const OVER: Refusal = Refusal { number: 16, place: None };
+
+/// The refusal that is kept until the end, other than that the text is not complete.
+fn kept(text: &[u8]) -> Option<Refusal> {
+    let refusal = Reference.read_into(text, &mut []).err();
+    refusal.filter(|refusal| refusal.number != 10 && refusal.place < Some(text.len()))
+}
 
 impl Faulty {
     fn answers(&self, answers: [Answer; 6]) -> [Answer; 6] {
@@ -35,6 +64,8 @@ impl Faulty {
 }
 
 impl Implementation for Faulty {
+    type Chunks = Chunks;
+
     fn read_into(&self, text: &[u8], image: &mut [u8]) -> Result<usize, Refusal> {
         let mut answer = Reference.read_into(text, image);
         match (self.0, &mut answer) {
@@ -92,6 +123,59 @@ impl Implementation for Faulty {
         }
         (call.refusal, call.answers)
     }
+
+    fn begin(&self) -> Chunks {
+        Chunks::default()
+    }
+
+    fn append(&self, chunks: &mut Chunks, chunk: &[u8]) -> Result<(), Refusal> {
+        let most = if self.0 == Fault::FullTextRefused { 65_535 } else { 65_536 };
+        let passes = chunks.text.len() + chunk.len() > most;
+        match self.0 {
+            Fault::EmptyChunkAfterTheEnd if chunk.is_empty() => return Ok(()),
+            Fault::OneAfterTheEnd if passes => {}
+            _ if chunks.over => return Err(OVER),
+            _ => {}
+        }
+        if passes && self.0 != Fault::OneAtTheEnd {
+            chunks.over = self.0 != Fault::OneIsNoEnd;
+            let first = kept(&chunks.text).filter(|_| self.0 == Fault::KeptRefusalBeforeOne);
+            return Err(first.unwrap_or(Refusal { number: 1, place: Some(0) }));
+        }
+        chunks.last = chunks.text.len();
+        chunks.text.extend(chunk);
+        match self.0 {
+            Fault::ChunkOverTheFirst => chunks.text[..chunk.len()].copy_from_slice(chunk),
+            Fault::KeptRefusalToldByChunk => return kept(&chunks.text).map_or(Ok(()), Err),
+            _ => {}
+        }
+        Ok(())
+    }
+
+    fn finish(&self, chunks: &mut Chunks, image: &mut [u8]) -> Result<usize, Refusal> {
+        if chunks.over {
+            let mut buffer = image.to_vec();
+            let again = Reference.read_into(&chunks.text, &mut buffer);
+            return match (self.0, again) {
+                (Fault::TenAfterTheEnd, Err(Refusal { number: 10, .. })) => again,
+                (Fault::ImageAfterTheEnd, _) => {
+                    image.copy_from_slice(&buffer);
+                    Err(OVER)
+                }
+                _ => Err(OVER),
+            };
+        }
+        chunks.over = true;
+        let mut answer = self.read_into(&chunks.text, image);
+        match (self.0, &mut answer) {
+            (Fault::PlaceInTheChunk, Err(Refusal { number: 2..=9, place: Some(place) })) if *place >= chunks.last => {
+                *place -= chunks.last
+            }
+            (Fault::TenIsNoEnd, Err(Refusal { number: 10, .. })) => chunks.over = false,
+            _ => {}
+        }
+        answer
+    }
 }
 
 fn is_found(fault: Fault) -> bool {
@@ -114,6 +198,18 @@ fn every_fault_is_found() {
         Fault::CountCutToByte,
         Fault::UnknownKindTakenAsReal,
         Fault::NegativeZero,
+        Fault::FullTextRefused,
+        Fault::ChunkOverTheFirst,
+        Fault::EmptyChunkAfterTheEnd,
+        Fault::OneAfterTheEnd,
+        Fault::OneAtTheEnd,
+        Fault::OneIsNoEnd,
+        Fault::KeptRefusalBeforeOne,
+        Fault::KeptRefusalToldByChunk,
+        Fault::PlaceInTheChunk,
+        Fault::TenIsNoEnd,
+        Fault::TenAfterTheEnd,
+        Fault::ImageAfterTheEnd,
     ] {
         assert!(is_found(fault), "{fault:?}");
     }

@@ -21,6 +21,12 @@ fn every_case_has_a_sound_answer() {
     for refusal in [0, 11, 12, 13, 14] {
         assert!(tally.calls[refusal] >= 200, "calls, {refusal}: {tally:?}");
     }
+    for refusal in [0, 1, 16] {
+        assert!(tally.chunks[refusal] >= 200, "chunks, {refusal}: {tally:?}");
+    }
+    for refusal in [0].into_iter().chain(2..=10).chain([16]) {
+        assert!(tally.ends[refusal] >= 5, "ends, {refusal}: {tally:?}");
+    }
 }
 
 /// Every spelling of a block reads to the image that the cases lay out themselves.
