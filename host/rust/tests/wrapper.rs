@@ -1,6 +1,10 @@
-//! The safe wrapper: what the example prints, every refusal by name and in words, and answers of each mark.
-use grillenhelm::{Image, Mark, Reading, Refusal};
+//! The safe wrapper: what the examples print, every refusal by name and in words, texts in chunks, and answers of each
+//! mark.
+use grillenhelm::{Image, Mark, Reading, Refusal, TextChunks};
 
+#[allow(dead_code)]
+#[path = "../examples/serial.rs"]
+mod serial;
 #[allow(dead_code)]
 #[path = "../examples/trust.rs"]
 mod trust;
@@ -8,10 +12,13 @@ mod trust;
 const TRUST: &str = include_str!("../../../examples/trust.fcl");
 
 #[test]
-fn example_prints_what_is_expected() {
+fn examples_print_what_is_expected() {
     let mut out = Vec::new();
     trust::show(TRUST.as_bytes(), &mut out).unwrap();
     assert_eq!(String::from_utf8(out).unwrap(), include_str!("../examples/trust.expected"));
+    let mut out = Vec::new();
+    serial::show(include_bytes!("../../../examples/crane.fcl"), &mut out).unwrap();
+    assert_eq!(String::from_utf8(out).unwrap(), include_str!("../examples/serial.expected"));
 }
 
 fn refusal_of(text: &str) -> Refusal {
@@ -43,33 +50,63 @@ fn refusals_of_the_reader_have_their_names_and_places() {
 fn numbers_and_words() {
     let at = 3;
     let all = [
-        Refusal::TextTooLong,
-        Refusal::WrongToken { at },
-        Refusal::WrongNumber { at },
-        Refusal::LongOrRepeated { at },
-        Refusal::Undeclared { at },
-        Refusal::TooMany { at },
-        Refusal::WrongPosition { at },
-        Refusal::Unpaired { at },
-        Refusal::PartMissing { at },
-        Refusal::BufferTooShort { needed: at },
-        Refusal::NotAnImage,
-        Refusal::WrongCount,
-        Refusal::ForeignRecord,
-        Refusal::UnusableReading { index: at },
+        (1, Refusal::TextTooLong),
+        (2, Refusal::WrongToken { at }),
+        (3, Refusal::WrongNumber { at }),
+        (4, Refusal::LongOrRepeated { at }),
+        (5, Refusal::Undeclared { at }),
+        (6, Refusal::TooMany { at }),
+        (7, Refusal::WrongPosition { at }),
+        (8, Refusal::Unpaired { at }),
+        (9, Refusal::PartMissing { at }),
+        (10, Refusal::BufferTooShort { needed: at }),
+        (11, Refusal::NotAnImage),
+        (12, Refusal::WrongCount),
+        (13, Refusal::ForeignRecord),
+        (14, Refusal::UnusableReading { index: at }),
+        (16, Refusal::TextOver),
     ];
-    for (nth, refusal) in all.iter().enumerate() {
-        assert_eq!(usize::from(refusal.number()), nth + 1);
-        assert!(refusal.to_string().ends_with(&format!("(refusal {})", nth + 1)), "{refusal}");
-        let has_line = (2..=9).contains(&refusal.number());
+    for (number, refusal) in all {
+        assert_eq!(refusal.number(), number);
+        assert!(refusal.to_string().ends_with(&format!("(refusal {number})")), "{refusal}");
+        let has_line = (2..=9).contains(&number);
         assert_eq!(refusal.line_and_column(b"a\nbc"), has_line.then_some((2, 2)));
     }
-    assert_eq!(all[0].describe(b"a\nbc"), "the text is too long (refusal 1)");
-    assert_eq!(all[9].to_string(), "the buffer is too short, 3 bytes are needed (refusal 10)");
+    assert_eq!(Refusal::TextTooLong.describe(b"a\nbc"), "the text is too long (refusal 1)");
+    assert_eq!(Refusal::TextOver.describe(b"a\nbc"), "the text is over (refusal 16)");
+    let too_short = Refusal::BufferTooShort { needed: at };
+    assert_eq!(too_short.to_string(), "the buffer is too short, 3 bytes are needed (refusal 10)");
     // A place past the text, its end, and one right after an LF.
-    assert_eq!(all[1].line_and_column(b"a"), Some((1, 2)));
-    assert_eq!(all[1].line_and_column(b"abc"), Some((1, 4)));
-    assert_eq!(all[1].line_and_column(b"a\r\n"), Some((2, 1)));
+    let wrong = Refusal::WrongToken { at };
+    assert_eq!(wrong.line_and_column(b"a"), Some((1, 2)));
+    assert_eq!(wrong.line_and_column(b"abc"), Some((1, 4)));
+    assert_eq!(wrong.line_and_column(b"a\r\n"), Some((2, 1)));
+}
+
+#[test]
+fn texts_in_chunks() {
+    let image = Image::read(TRUST.as_bytes());
+    let (first, second) = TRUST.as_bytes().split_at(100);
+    let mut chunks = TextChunks::default();
+    for _ in 0..2 {
+        assert_eq!(chunks.text(), b"");
+        assert_eq!((chunks.append(first), chunks.append(b""), chunks.append(second)), (Ok(()), Ok(()), Ok(())));
+        assert_eq!(format!("{chunks:?}"), "TextChunks { kept: 386, over: false, .. }");
+        assert_eq!(chunks.finish(), image);
+        assert_eq!((chunks.append(b""), chunks.finish()), (Err(Refusal::TextOver), Err(Refusal::TextOver)));
+        assert_eq!(chunks.text(), TRUST.as_bytes());
+        assert_eq!(format!("{chunks:?}"), "TextChunks { kept: 386, over: true, .. }");
+        chunks.restart();
+    }
+    // What was kept stays when the limit is passed, and another text may begin before this one is over.
+    chunks.append(first).unwrap();
+    assert_eq!(chunks.append(&[b' '; 65_536]), Err(Refusal::TextTooLong));
+    assert_eq!(chunks.finish(), Err(Refusal::TextOver));
+    assert_eq!(chunks.text(), first);
+    chunks.restart();
+    chunks.append(b";").unwrap();
+    chunks.restart();
+    assert_eq!(chunks.finish(), Err(Refusal::WrongToken { at: 0 }));
 }
 
 /// A block without a rule for low readings: NC holds what was, a number after DEFAULT stands in for it.
