@@ -56,6 +56,20 @@ mod raw {
     use super::*;
     extern "C" {
         pub fn grillenhelm_read(text: *const u8, text_length: usize, image: *mut u8, image_room: usize) -> Outcome;
+        pub fn grillenhelm_append(
+            chunk: *const u8,
+            chunk_length: usize,
+            store: *mut u8,
+            store_length: usize,
+            count: *mut usize,
+        ) -> Outcome;
+        pub fn grillenhelm_finish(
+            store: *const u8,
+            store_length: usize,
+            count: *mut usize,
+            image: *mut u8,
+            image_room: usize,
+        ) -> Outcome;
         pub fn grillenhelm_check(image: *const u8, image_length: usize) -> Outcome;
         pub fn grillenhelm_list(image: *const u8, image_length: usize, text: *mut u8, text_room: usize) -> Outcome;
         pub fn grillenhelm_fresh(image: *const u8, image_length: usize) -> Fresh;
@@ -71,6 +85,14 @@ mod raw {
 // The slices are lent for the time of the call, and the borrow checker keeps the written ones apart from the others.
 pub fn read(text: &[u8], image: &mut [u8]) -> Outcome {
     unsafe { raw::grillenhelm_read(text.as_ptr(), text.len(), image.as_mut_ptr(), image.len()) }
+}
+
+pub fn read_in_chunks(text: &[u8], size: usize, store: &mut [u8], image: &mut [u8]) -> Outcome {
+    let mut count = 0;
+    for chunk in text.chunks(size) {
+        unsafe { raw::grillenhelm_append(chunk.as_ptr(), chunk.len(), store.as_mut_ptr(), store.len(), &mut count) };
+    }
+    unsafe { raw::grillenhelm_finish(store.as_ptr(), store.len(), &mut count, image.as_mut_ptr(), image.len()) }
 }
 
 pub fn check(image: &[u8]) -> Outcome {

@@ -16,6 +16,9 @@ const OPERATIONS: [&str; 5] = ["read", "check", "list", "evaluate", "below the c
 
 const TRUST: &[u8] = include_bytes!("../../../examples/trust.fcl");
 
+/// What a serial line brings at a time, in bytes.
+const CHUNK: usize = 64;
+
 /// Of the readings of blocks that are made here.
 const SPAN: [(i32, i32); 1] = [(-10, 70)];
 
@@ -105,12 +108,16 @@ fn say_spread(clock: &Clock, times: &[Times]) {
     }
 }
 
+fn crane() -> Subject {
+    Subject::new("crane", include_bytes!("../../../examples/crane.fcl").to_vec(), &[(-5, 25), (-55, 55)])
+}
+
+fn all_bounds() -> Subject {
+    Subject::new("all bounds", AT_ALL_BOUNDS.text(Dialect::Ours).into(), &SPAN)
+}
+
 fn compare_sides(clock: &mut Clock) {
-    let subjects = [
-        Subject::new("worked example", TRUST.to_vec(), &[(0, 80)]),
-        Subject::new("crane", include_bytes!("../../../examples/crane.fcl").to_vec(), &[(-5, 25), (-55, 55)]),
-        Subject::new("all bounds", AT_ALL_BOUNDS.text(Dialect::Ours).into(), &SPAN),
-    ];
+    let subjects = [Subject::new("worked example", TRUST.to_vec(), &[(0, 80)]), crane(), all_bounds()];
     assert_eq!(subjects[2].image.len(), 10_200, "not all bounds are reached");
     let their_texts = [
         include_str!("../fuzzylite/trust.fcl").to_string(),
@@ -181,6 +188,22 @@ fn followed(kilobytes: usize, comment: bool) -> (String, Vec<u8>) {
     (kilobytes.to_string(), text)
 }
 
+/// Our reading at once and in chunks.
+fn compare_chunks(clock: &mut Clock) {
+    let (mut store, mut image) = (vec![0; 65_536], vec![0; 10_200]);
+    clock.say(&format!("\n| block | chunks of {CHUNK} bytes | read at once, ns | in chunks, ns | more a chunk, ns |"));
+    clock.say("|---|---|---|---|---|");
+    for subject in [crane(), all_bounds()] {
+        let mut read = || library::read_in_chunks(black_box(&subject.text), CHUNK, &mut store, &mut image).length;
+        assert_eq!(read(), subject.image.len(), "{}: read otherwise in chunks", subject.name);
+        let [at_once, ..] = ours(&subject);
+        let best = clock.times(vec![at_once, Timed::new(|_| read())]).best;
+        let chunks = subject.text.len().div_ceil(CHUNK) as f64;
+        let cells = [chunks, best[0], best[1]].map(grouped).join(" | ");
+        clock.say(&format!("| {} | {cells} | {:.1} |", subject.name, (best[1] - best[0]) / chunks));
+    }
+}
+
 fn main() {
     let clock = &mut Clock::new();
     clock.say(&timing::how());
@@ -194,4 +217,5 @@ fn main() {
     growth(clock, "inputs", 5, &doubling(8, |inputs| (inputs.to_string(), sized(inputs, 1, 1))));
     growth(clock, "KB, with blanks", 1, &doubling(64, |kilobytes| followed(kilobytes, false)));
     growth(clock, "KB, with a comment", 1, &doubling(64, |kilobytes| followed(kilobytes, true)));
+    compare_chunks(clock);
 }
