@@ -127,8 +127,9 @@ GrillenhelmOutcome grillenhelm_append(const uint8_t *chunk, size_t chunk_length,
 
 /*
  * The end of the text, which is read as by grillenhelm_read, the place counted from its first byte; refused by 2 to 10
- * or 16. The image buffer is lent for this call only. Whatever it answers, the text is over. It still stands in the
- * store, as long as the number was: after a 10, grillenhelm_read reads it from there into a longer buffer.
+ * or 16. The image buffer is lent for this call only. Whatever it answers, the text is over. It still stands at the
+ * front of the store, as many bytes as the number said before: after a 10, grillenhelm_read reads it from there into a
+ * longer buffer.
  */
 GrillenhelmOutcome grillenhelm_finish(const uint8_t *store, size_t store_length, size_t *count, uint8_t *image,
                                       size_t image_room);

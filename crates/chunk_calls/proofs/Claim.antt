@@ -1,20 +1,20 @@
 -- However a text is cut: the state that the calls leave stands for them, whatever the store held at first, so each call is answered
 -- as the calls before it say.
 use mathlib.Core.Path.{_≡_, refl, sym, ap, _∙_, subst}
-use mathlib.Core.Bool.{Bool, true, false, _&&_, _||_, and-false}
+use mathlib.Core.Bool.{Bool, true, false, _||_, and-false}
 use mathlib.Core.List.{List, [], _∷_, _++_, append-assoc, append-nil}
 use mathlib.Core.Option.{none}
-use Prim.Native.Nat.{ℕ, _+_, _≤_, _<_}
+use Prim.Native.Nat.{ℕ, _+_, _≤_}
 use native.Mathlib.Omega.{arith}
-use borrow.Author.Tests.{ltb-true, ltb-false, lt-ltb, le-ltb, le-leb, lt-leb}
+use borrow.Author.Tests.{ltb-true, ltb-false, lt-ltb, le-ltb}
 use lib.Dec.{ltb, leb}
 use lib.ListN.{length, take, drop, length-append, length-drop}
 use lib.Seq.{take-at}
 use Rattle.model.specs.Bounds.{textLimit}
-use Rattle.model.specs.Outcome.{Outcome, refused}
-use Rattle.model.specs.Chunks.{TextCall, chunk, finish, textOf, anyFinish, isOver, answer, answerAfter, TextState, over, isOpen, bytesIn, answerIn, behind, closed, stateAfter, Made, callOf, stateThen, Tells, Link, Trace, EachCall, ChunksHold, InChunks}
-use Rattle.laws.proofs.Tests.{and-i, clash}
-use Rattle.chunked_text.proofs.Laws.{answer-over, state-over, room, few, longer, chunk-long, chunk-kept, end-read}
+use Rattle.model.specs.Outcome.{refused}
+use Rattle.model.specs.Chunks.{TextCall, chunk, finish, textOf, anyFinish, isOver, answer, answerAfter, TextState, isOpen, bytesIn, answerIn, behind, closed, stateAfter, Made, callOf, stateThen, Tells, Link, Trace, EachCall, InChunks}
+use Rattle.laws.proofs.Tests.{clash}
+use Rattle.chunked_text.proofs.Laws.{is-open, answer-over, state-over, room, few, longer, chunk-long, chunk-kept, end-read}
 
 -- THE CALLS, with one more
 text-chunk : (cs : List TextCall) (d : List ℕ) → textOf (cs ++ (chunk d ∷ [])) ≡ textOf cs ++ d
@@ -57,7 +57,8 @@ stays-over cs (chunk d) e =
     let n = length (textOf cs) in
     let m = length (textOf (cs ++ (chunk d ∷ []))) in
     rw (any-chunk cs d)
-    (or-more (anyFinish cs) (ltb textLimit n) (ltb textLimit m) (λ l. lt-ltb textLimit m (omega (arith, ltb-true textLimit n l, with-chunk cs d))) e)
+    (or-more (anyFinish cs) (ltb textLimit n) (ltb textLimit m)
+    (λ l. lt-ltb textLimit m (omega (arith, ltb-true textLimit n l, with-chunk cs d))) e)
 
 -- a chunk passes the limit, or does not
 module _ (cs : List TextCall) (d : List ℕ) (live : isOver cs ≡ false) where
@@ -72,10 +73,7 @@ pub data Stands (cs : List TextCall) (t : TextState) : Type 0 where
 -- a text begins with the number 0, whatever the store holds
 begins : (t : TextState) → textLimit ≤ length (t .store) → t .count ≡ 0 → Stands [] t
 unfolding textOf anyFinish
-begins t h z =
-    going refl
-    (and-i (leb textLimit (length (t .store))) (leb (t .count) textLimit) (le-leb textLimit (length (t .store)) h) (le-leb (t .count) textLimit (omega arith)))
-    (ap (λ (n : ℕ). take n (t .store)) z)
+begins t h z = going refl (is-open t h (omega arith)) (ap (λ (n : ℕ). take n (t .store)) z)
 
 closed-over : (t : TextState) → isOpen (closed t) ≡ false
 closed-over t = and-false (leb textLimit (length (t .store)))
@@ -87,7 +85,8 @@ same-answer cs t (going live ready same) c = rw (live, ready, same) refl
 same-answer cs t (gone ended shut) c = rw (ended, shut) refl
 
 -- OPEN: what a chunk leaves
-module _ (cs : List TextCall) (t : TextState) (live : isOver cs ≡ false) (ready : isOpen t ≡ true) (same : bytesIn t ≡ textOf cs) (d : List ℕ) where
+module _ (cs : List TextCall) (t : TextState) (live : isOver cs ≡ false) (ready : isOpen t ≡ true)
+    (same : bytesIn t ≡ textOf cs) (d : List ℕ) where
   abbrev rest : List ℕ
   rest = drop (t .count + length d) (t .store)
 
@@ -99,33 +98,43 @@ module _ (cs : List TextCall) (t : TextState) (live : isOver cs ≡ false) (read
 
   kept-bytes : bytesIn (behind t d) ≡ textOf (cs ++ (chunk d ∷ []))
   kept-bytes =
-      ap (take (t .count + length d)) (sym (append-assoc (bytesIn t) d rest)) ∙ take-at (bytesIn t ++ d) rest (t .count + length d) (longer t ready d)
+      ap (take (t .count + length d)) (sym (append-assoc (bytesIn t) d rest))
+      ∙ take-at (bytesIn t ++ d) rest (t .count + length d) (longer t ready d)
       ∙ ap (λ (s : List ℕ). s ++ d) same ∙ sym (text-chunk cs d)
 
-  kept-open : t .count + length d ≤ textLimit → isOpen (behind t d) ≡ true
-  kept-open h =
-      let long : textLimit ≤ length (behind t d .store) =
-      omega (arith, room t ready, length-append (bytesIn t) (d ++ rest), length-append d rest, length-drop (t .count + length d) (t .store), longer t ready d, length-append (bytesIn t) d) in
-      and-i (leb textLimit (length (behind t d .store))) (leb (t .count + length d) textLimit) (le-leb textLimit (length (behind t d .store)) long) (le-leb (t .count + length d) textLimit h)
+  kept-room : t .count + length d ≤ textLimit → textLimit ≤ length (behind t d .store)
+  kept-room h =
+      omega (
+        arith,
+        room t ready,
+        length-append (bytesIn t ++ d) rest,
+        ap length (append-assoc (bytesIn t) d rest),
+        longer t ready d,
+        length-drop (t .count + length d) (t .store),
+      )
 
   after-chunk : Stands (cs ++ (chunk d ∷ [])) (stateAfter t (chunk d))
   after-chunk = go (ltb textLimit (t .count + length d)) refl
     where
       go : (b : Bool) → ltb textLimit (t .count + length d) ≡ b → Stands (cs ++ (chunk d ∷ [])) (stateAfter t (chunk d))
       go true e =
-          subst (Stands (cs ++ (chunk d ∷ []))) (sym (chunk-long t ready d (ltb-true textLimit (t .count + length d) e) .1)) (gone (passes ∙ e) (closed-over t))
+          let left = chunk-long t ready d (ltb-true textLimit (t .count + length d) e) .1 in
+          subst (Stands (cs ++ (chunk d ∷ []))) (sym left) (gone (passes ∙ e) (closed-over t))
       go false e =
           let h = ltb-false textLimit (t .count + length d) e in
-          subst (Stands (cs ++ (chunk d ∷ []))) (sym (chunk-kept t ready d h .1)) (going (passes ∙ e) (kept-open h) kept-bytes)
+          let kept = is-open (behind t d) (kept-room h) h in
+          subst (Stands (cs ++ (chunk d ∷ []))) (sym (chunk-kept t ready d h .1)) (going (passes ∙ e) kept kept-bytes)
 
 -- ONE CALL MORE
 stands-on : (cs : List TextCall) (t : TextState) → Stands cs t → (c : TextCall) → Stands (cs ++ (c ∷ [])) (stateAfter t c)
 stands-on cs t (going live ready same) (chunk d) = after-chunk cs t live ready same d
-stands-on cs t (going live ready same) (finish b) = subst (Stands (cs ++ (finish b ∷ []))) (sym (end-read t ready b .1)) (gone (ends cs b) (closed-over t))
+stands-on cs t (going live ready same) (finish b) =
+    subst (Stands (cs ++ (finish b ∷ []))) (sym (end-read t ready b .1)) (gone (ends cs b) (closed-over t))
 stands-on cs t (gone ended shut) c = subst (Stands (cs ++ (c ∷ []))) (sym (state-over t shut c)) (gone (stays-over cs c ended) shut)
 
 -- a fact that each call has where the state stands for the calls before it
-module _ (P : List TextCall → TextState → Made → Type 0) (step : (cs : List TextCall) (t : TextState) → Stands cs t → (m : Made) → Link t m → P cs t m) where
+module _ (P : List TextCall → TextState → Made → Type 0)
+    (step : (cs : List TextCall) (t : TextState) → Stands cs t → (m : Made) → Link t m → P cs t m) where
   each-call : (ms : List Made) (cs : List TextCall) (t : TextState) → Stands cs t → Trace t ms → EachCall P cs t ms
   each-call [] cs t s w = tt
   each-call (m ∷ ms) cs t s w =

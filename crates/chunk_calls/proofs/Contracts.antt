@@ -14,9 +14,14 @@ use contract.Monad.{Fun, fact}
 use contract.Notation.{connectives}
 use denote.Ref.{RefT, now}
 use denote.Triple.Clauses.{AtExit}
+use lib.ListN.{length}
+use Rattle.model.specs.Outcome.{lengthIn, bufferAfter}
+use Rattle.model.specs.Refusals.{writtenOf}
+use Rattle.model.specs.Buffers.{readsInto}
+use Rattle.model.specs.Chunks.{appended, finished, Link}
 use Rattle.model.specs.declared.Verdict.{Verdict}
 use Rattle.model.specs.declared.Written.{Written}
-use Rattle.model.specs.Chunks.{appended, finished, Link}
+use Rattle.reader.proofs.read as read
 use Rattle.chunked_text.proofs.append as append
 use Rattle.chunked_text.proofs.finish as finish
 
@@ -39,3 +44,11 @@ module _ {M : Type 1} (𝓤 : URA M) (H : Heap 𝓤) (A : Atoms 𝓤) (at-mem : 
       × (c .ensures tt r e ≡ fact 𝓤 (Link (record { store = now store; count = now count })
       (finished (now out) r (now (e .1 .1 .0)) (record { store = now store; count = now (e .1 .0) }))))
   finish-links store count out r e = (refl, refl)
+
+  -- `reader::read`: what reading at once is, to which the claim holds the end
+  reads-at-once : (s out : RefT (List ℕ)) (r : Written) (e : AtExit read.ended (κ, (κ′, tt)))
+      → let c = read.clauses 𝓤 H A at-mem run (κ, (κ′, tt)) (s, (out, tt)) in
+      let o = readsInto (length (now out)) (now s) in
+      Asks-nothing (c .requires tt)
+      × (c .ensures tt r e ≡ connectives 𝓤 ._∗_ (fact 𝓤 (writtenOf r ≡ lengthIn o)) (fact 𝓤 (now (e .1 .0) ≡ bufferAfter (now out) o)))
+  reads-at-once s out r e = (refl, refl)

@@ -1,6 +1,6 @@
 -- A chunk put into a store, and what a call is answered and leaves, in a state that is open and in one that is not.
 use mathlib.Core.Path.{_≡_, refl, sym, ap, _∙_}
-use mathlib.Core.Bool.{Bool, true, false, _&&_, _||_, not}
+use mathlib.Core.Bool.{Bool, true, false, not}
 use mathlib.Core.List.{List, [], _++_, append-nil}
 use mathlib.Core.Option.{none, some}
 use Prim.Native.Nat.{ℕ, _+_, _-_, _≤_, _<_}
@@ -11,13 +11,14 @@ use lib.Dec.{ltb, leb}
 use lib.ListN.{length, take, drop, length-append, length-take, length-drop, drop-of-length-le}
 use lib.Seq.{length-take-le, take-length}
 use Rattle.model.specs.Bounds.{textLimit}
-use Rattle.model.specs.Outcome.{Outcome, accepted, refused}
+use Rattle.model.specs.Outcome.{accepted, refused}
 use Rattle.model.specs.Buffers.{readsInto}
 use Rattle.model.specs.Chunks.{TextCall, chunk, finish, answer, TextState, isOpen, bytesIn, answerIn, behind, closed, stateAfter}
 use Rattle.laws.proofs.Tests.{both}
 
 -- bytes put into a part of a store that is as long
-pub put-behind : (n : ℕ) (d l ys : List ℕ) → n + length d ≤ length l → ys ≡ take (length d) d ++ drop (length d) (midOf n (n + length d - n) l)
+pub put-behind : (n : ℕ) (d l ys : List ℕ) → n + length d ≤ length l
+    → ys ≡ take (length d) d ++ drop (length d) (midOf n (n + length d - n) l)
     → putMid n (n + length d - n) l ys ≡ take n l ++ (d ++ drop (n + length d) l)
 put-behind n d l ys h e =
     let k = n + length d - n in
@@ -40,6 +41,9 @@ module _ (t : TextState) where
 
   pub by-count : textLimit ≤ length (t .store) → not (isOpen t) ≡ ltb textLimit (t .count)
   by-count h = rw (le-leb textLimit (length (t .store)) h) (not-least (t .count) textLimit)
+
+  pub is-open : textLimit ≤ length (t .store) → t .count ≤ textLimit → isOpen t ≡ true
+  is-open h l = rw (le-leb textLimit (length (t .store)) h) (le-leb (t .count) textLimit l)
 
   -- NOT OPEN: over, or a state that no calls made
   module _ (shut : isOpen t ≡ false) where
@@ -74,6 +78,7 @@ module _ (t : TextState) where
     unfolding answer stateAfter
     chunk-kept d l = rw (ready, longer d, le-ltb textLimit (t .count + length d) l) (refl, refl)
 
-    pub end-read : (buffer : List ℕ) → (answerIn t (finish buffer) ≡ readsInto (length buffer) (bytesIn t)) × (stateAfter t (finish buffer) ≡ closed t)
+    pub end-read : (buffer : List ℕ)
+        → (answerIn t (finish buffer) ≡ readsInto (length buffer) (bytesIn t)) × (stateAfter t (finish buffer) ≡ closed t)
     unfolding answer stateAfter
     end-read buffer = rw ready (refl, refl)

@@ -229,7 +229,11 @@ pub extern "C" fn grillenhelm_read(text: &[u8], image: &mut [u8]) -> Grillenhelm
 
 // `chunked_text::append`.
 #[no_mangle]
-pub extern "C" fn grillenhelm_append(chunk: &[u8], store: &mut [u8], count: &mut usize) -> GrillenhelmOutcome
+pub extern "C" fn grillenhelm_append(
+    chunk: &[u8],
+    store: &mut [u8],
+    count: &mut usize,
+) -> GrillenhelmOutcome
     ensures { λ r. ⌜ r ≡ bareOutcome (answerIn (record { store = now (store .entry); count = now (count .entry) })
         (aChunk (now (chunk .entry)))) ⌝ }
     ensures state { λ r. ⌜ record { store = now (store .exit); count = now (count .exit) }
@@ -242,7 +246,11 @@ pub extern "C" fn grillenhelm_append(chunk: &[u8], store: &mut [u8], count: &mut
 
 // `chunked_text::finish`.
 #[no_mangle]
-pub extern "C" fn grillenhelm_finish(store: &[u8], count: &mut usize, image: &mut [u8]) -> GrillenhelmOutcome
+pub extern "C" fn grillenhelm_finish(
+    store: &[u8],
+    count: &mut usize,
+    image: &mut [u8],
+) -> GrillenhelmOutcome
     ensures { λ r. ⌜ r ≡ outcomeOf length (answerIn
         (record { store = now (store .entry); count = now (count .entry) }) (theEnd (now (image .entry)))) ⌝ }
     ensures buffer { λ r. ⌜ now (image .exit) ≡ bufferAfter (now (image .entry)) (answerIn
