@@ -66,7 +66,7 @@ module _ (cs : List TextCall) (d : List ℕ) (live : isOver cs ≡ false) where
   on-chunk = rw (any-chunk cs d, or-false (anyFinish cs) (ltb textLimit (length (textOf cs))) live .0, with-chunk cs d) refl
 
 -- STANDING FOR THE CALLS SO FAR: the store holds their text, or it is over
-pub data Stands (cs : List TextCall) (t : TextState) : Type 0 where
+data Stands (cs : List TextCall) (t : TextState) : Type 0 where
   going : isOver cs ≡ false → isOpen t ≡ true → bytesIn t ≡ textOf cs → Stands cs t
   gone : isOver cs ≡ true → isOpen t ≡ false → Stands cs t
 
@@ -152,7 +152,7 @@ stored : (cs : List TextCall) (t : TextState) → Stands cs t → (m : Made) →
 stored cs t (going live ready same) m l e = same
 stored cs t (gone ended shut) m l e = clash (sym e ∙ ended)
 
--- THE CLAIM, of a state that stands for some calls, and so of every list of calls
+-- THE CLAIM
 pub chunks-hold : InChunks
 chunks-hold t room zero ms w =
     let s = begins t room zero in
@@ -167,9 +167,15 @@ pub no-calls-made : (t : TextState) → isOpen t ≡ false → (c : TextCall) �
 no-calls-made t shut c = (answer-over t shut c, state-over t shut c)
 
 -- an open state is what one chunk of its bytes leaves
-pub open-stands : (t : TextState) → isOpen t ≡ true → Stands (chunk (bytesIn t) ∷ []) t
+open-stands : (t : TextState) → isOpen t ≡ true → Stands (chunk (bytesIn t) ∷ []) t
 unfolding textOf anyFinish
 open-stands t ready =
     let short : length (bytesIn t) ≤ textLimit = omega (arith, few t ready, longer t ready [], length-append (bytesIn t) []) in
     let so = append-nil (bytesIn t) in
     going (rw (so, le-ltb textLimit (length (bytesIn t)) short) refl) ready (sym so)
+
+-- so the calls go on as after that chunk
+pub any-text : (t : TextState) → isOpen t ≡ true → (ms : List Made) → Trace t ms
+    → EachCall (λ cs u m. Tells m (answerAfter cs (callOf m))) (chunk (bytesIn t) ∷ []) t ms
+any-text t ready ms w =
+    each-call (λ cs u m. Tells m (answerAfter cs (callOf m))) answered ms (chunk (bytesIn t) ∷ []) t (open-stands t ready) w

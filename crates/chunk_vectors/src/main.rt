@@ -48,7 +48,7 @@ fn run_end(store: &[u8], count: &mut usize, room: usize) {
     }
 }
 
-// Call i, in two words: 1 and the length of a chunk, or 0 and the room for the image.
+// A call, in two words: 1 and the length of a chunk, or 0 and the room for the image.
 fn run_call(text: &[u8], at: usize, call: &[u8], store: &mut [u8], count: &mut usize) -> usize {
     let n = word(call, 1);
     if word(call, 0) == 1 {
