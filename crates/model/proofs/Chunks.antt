@@ -30,7 +30,7 @@ cut-read : answerAfter cut (finish (replicate 364 0)) ≡ accepted (image trust)
 unfolding opened
 cut-read = refl
 
--- REFUSALS, kept until the end: one byte wrong, whatever comes behind it; its place from the first byte of the text, cut before it,
+-- REFUSALS, kept until the end: a name is missing, whatever comes behind; the place from the first byte of the text, cut before it,
 -- behind it or inside; the empty text; a buffer that is short, which comes last
 kept : map (answerAfter (chunk (bytes "FUNCTION_BLOCK\n  VAR_INPUT") ∷ [])) (chunk (bytes ";") ∷ chunk [] ∷ []) ≡ accepted [] ∷ accepted [] ∷ []
 unfolding opened
@@ -159,7 +159,8 @@ module _ (s : List ℕ) (room : length s ≡ 65536) where
   abbrev made : List Made
   made =
       appended (120 ∷ []) Accepted after-chunk ∷ appended [] Accepted after-chunk
-      ∷ finished (7 ∷ []) (NotWritten (WrongToken 0)) (7 ∷ []) after-end ∷ appended (32 ∷ []) (NotAccepted TextOver) after-end ∷ finished (7 ∷ []) (NotWritten TextOver) (7 ∷ []) after-end ∷ []
+      ∷ finished (7 ∷ []) (NotWritten (WrongToken 0)) (7 ∷ []) after-end ∷ appended (32 ∷ []) (NotAccepted TextOver) after-end
+      ∷ finished (7 ∷ []) (NotWritten TextOver) (7 ∷ []) after-end ∷ []
 
   traced : Trace (state s 0) made
   unfolding opened
