@@ -1,5 +1,5 @@
 -- The answer of an output: fired, default or held, each with its figure; and all of them, with the record that they make.
-use mathlib.Core.Path.{_≡_, refl, sym, ap, _∙_, subst}
+use mathlib.Core.Path.{_≡_, refl, sym, ap, _∙_}
 use mathlib.Core.Bool.{Bool, true, false, _&&_, not}
 use mathlib.Core.List.{List, [], _∷_, _++_, map}
 use mathlib.Core.Logic.{_↔_}
@@ -7,11 +7,10 @@ use mathlib.Core.Option.{Option, none, some}
 use Prim.Native.Nat.{ℕ, zero, suc, _-_, _<_}
 use native.Mathlib.Omega.{arith}
 use borrow.Author.Tests.{ltb-true, leb-true}
-use lib.Dec.{T, ltb, eqb}
-use lib.Ieee.Bits.{is-true}
+use lib.Dec.{ltb, eqb}
 use lib.IntN.{ℤ, pos, natAbs}
 use lib.ListN.{length, replicate}
-use lib.Signed.{leZ, ltZ, ≤ℤ-refl, ltZ-yes, ltZ-no, clashℤ}
+use lib.Signed.{leZ, ltZ, ≤ℤ-refl}
 use Rattle.model.specs.Basic.{if_then_else_, all, isEmpty}
 use Rattle.model.specs.Bounds.{outputLimit}
 use Rattle.model.specs.Block.{Range, Output, Block, outputFirst, inRange}
@@ -23,11 +22,11 @@ use Rattle.model.specs.Evaluation.{moment, sumOf, answerWith, unfired, outputAn
 use Rattle.model.specs.declared.Mark.{Mark}
 use Rattle.model.specs.declared.Mark.the-variants.{None, Fired, Default, Held as HeldMark}
 use Rattle.model.specs.declared.Answer.{Answer}
+use Rattle.laws.proofs.Comparison.{not-below, le-passes, less-le}
 use Rattle.laws.proofs.Each.{Each, each-passes, each-so}
 use Rattle.laws.proofs.Tests.{both, and-i, passed, clash}
 use Rattle.laws.proofs.Places.{length-tab}
 use Rattle.crisp.specs.Crisp.{InCrisp}
-use Rattle.crisp.proofs.Laws.{not-at-most}
 use Rattle.model.specs.Calls.{Seen, outputsSeen, markOf, figureOf, raised, raisedIn, Between, isMarked}
 use Rattle.calls.proofs.Raised as R
 
@@ -196,15 +195,8 @@ pub held-fits : (vs : List Output) (xs : List ℤ) → Fit vs xs → heldOk vs (
 held-fits vs xs f = ap (heldOk vs) (figures-back xs) ∙ fit-held vs xs (outputLimit - length xs) f
 
 -- THE STARTING FIGURES
-less-most : (a b : ℤ) → ltZ a b ≡ true → leZ a b ≡ true
-less-most a b h = go (leZ a b) refl
-  where
-    go : (q : Bool) → leZ a b ≡ q → q ≡ true
-    go true e = refl
-    go false e = clashℤ (ltZ-yes (subst T (sym h) tt)) (not-at-most a b e)
-
 not-less : (a b : ℤ) → ltZ a b ≡ false → leZ b a ≡ true
-not-less a b h = is-true (leZ b a) (ltZ-no {a = a} {b = b} (subst (λ (q : Bool). T (not q)) (sym h) tt) .le)
+not-less a b h = le-passes b a (not-below a b h)
 
 start-ok : (g : Option Range) → rangeOk g ≡ true → figureOk g (startOf g) ≡ true
 start-ok none e = refl
@@ -223,14 +215,14 @@ start-ok (some g) e = go (ltZ (pos 0) l) (ltZ h (pos 0)) refl refl
     ends = both (inCrisp h) (ltZ l h) (parts .1)
 
     same : (x : ℤ) → leZ x x ≡ true
-    same x = is-true (leZ x x) (≤ℤ-refl x .le)
+    same x = le-passes x x (≤ℤ-refl x)
 
     ok : (z : ℤ) → inCrisp z ≡ true → leZ l z ≡ true → leZ z h ≡ true → figureOk (some g) z ≡ true
     ok z p q r = and-i (inCrisp z) (leZ l z && leZ z h) p (and-i (leZ l z) (leZ z h) q r)
 
     go : (p q : Bool) → ltZ (pos 0) l ≡ p → ltZ h (pos 0) ≡ q → figureOk (some g) (if p then l else if q then h else pos 0) ≡ true
-    go true q a b = ok l (parts .0) (same l) (less-most l h (ends .1))
-    go false true a b = ok h (ends .0) (less-most l h (ends .1)) (same h)
+    go true q a b = ok l (parts .0) (same l) (less-le l h (ends .1))
+    go false true a b = ok h (ends .0) (less-le l h (ends .1)) (same h)
     go false false a b = ok (pos 0) refl (not-less (pos 0) l a) (not-less h (pos 0) b)
 
 pub starting-fit : (vs : List Output) → all outputOk vs ≡ true → Fit vs (map (λ v. startOf (v .range)) vs)

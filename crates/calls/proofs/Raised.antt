@@ -1,22 +1,22 @@
 -- The singletons whose height is above zero: there are some exactly where the sum is above zero, and the figure lies between them.
-use mathlib.Core.Path.{_≡_, refl, sym, ap, _∙_, subst}
+use mathlib.Core.Path.{_≡_, refl, sym, ap, _∙_}
 use mathlib.Core.Bool.{Bool, true, false, _&&_, not}
 use mathlib.Core.List.{List, [], _∷_, map}
 use mathlib.Core.Option.{Option, none, some}
 use Prim.Native.Nat.{ℕ, zero, suc, _+_, _<_}
 use native.Mathlib.Omega.{arith}
 use borrow.Author.Tests.{ltb-true, ltb-false, lt-ltb, leb-true, le-leb}
-use lib.Dec.{T, ltb}
-use lib.Ieee.Bits.{is-true}
+use lib.Dec.{ltb}
 use lib.IntN.{ℤ, pos, negsuc}
 use lib.ListN.{length, getD, length-map}
-use lib.Signed.{leZ, _≤ℤ_, leZ-yes, ≤ℤ-refl}
+use lib.Signed.{leZ, _≤ℤ_, ≤ℤ-refl}
 use Rattle.model.specs.Basic.{if_then_else_, isEmpty, total}
 use Rattle.model.specs.Block.{Singleton, Range, inRange}
 use Rattle.model.specs.Tokens.{inCrisp}
 use Rattle.model.specs.WellFormed.{figureOk}
 use Rattle.model.specs.Degrees.{nearestℤ}
 use Rattle.model.specs.Evaluation.{moment, sumOf}
+use Rattle.laws.proofs.Comparison.{at-most, le-passes}
 use Rattle.laws.proofs.Each.{Each, each-so, each-map, each-at}
 use Rattle.laws.proofs.Tests.{both, and-i, clash}
 use Rattle.crisp.specs.Crisp.{InCrisp}
@@ -34,12 +34,6 @@ le-trans (negsuc a) (pos b) (negsuc c) h k = clash k
 le-trans (negsuc a) (negsuc b) (pos c) h k = refl
 le-trans (negsuc a) (negsuc b) (negsuc c) h k = le-leb c a (omega (arith, leb-true b a h, leb-true c b k))
 
-test : (a b : ℤ) → a ≤ℤ b → leZ a b ≡ true
-test a b h = is-true (leZ a b) (h .le)
-
-order : (a b : ℤ) → leZ a b ≡ true → a ≤ℤ b
-order a b e = leZ-yes (subst T (sym e) tt)
-
 -- a figure between two that an output may have is one too
 pub ok-between : (g : Option Range) (lo hi z : ℤ) → figureOk g lo ≡ true → figureOk g hi ≡ true → lo ≤ℤ z → z ≤ℤ hi → figureOk g z ≡ true
 ok-between g lo hi z p q h k =
@@ -49,8 +43,8 @@ ok-between g lo hi z p q h k =
   where
     within : (a b : ℤ) → leZ a lo && leZ lo b ≡ true → leZ a hi && leZ hi b ≡ true → leZ a z && leZ z b ≡ true
     within a b e f =
-        and-i (leZ a z) (leZ z b) (le-trans a lo z (both (leZ a lo) (leZ lo b) e .0) (test lo z h))
-        (le-trans z hi b (test z hi k) (both (leZ a hi) (leZ hi b) f .1))
+        and-i (leZ a z) (leZ z b) (le-trans a lo z (both (leZ a lo) (leZ lo b) e .0) (le-passes lo z h))
+        (le-trans z hi b (le-passes z hi k) (both (leZ a hi) (leZ hi b) f .1))
 
     crisp : inCrisp lo ≡ true → inCrisp hi ≡ true → inCrisp z ≡ true
     crisp e f = bounds z ∙ within (negsuc 999999999) (pos 1000000000) (sym (bounds lo) ∙ e) (sym (bounds hi) ∙ f)
@@ -83,17 +77,17 @@ module _ (before : ℤ → ℤ → Bool) (self : (a : ℤ) → before a a ≡ tr
       go false e s t = (chain (foremost before y ys) y x (t .0) (turned x y e), t)
 
 le-self : (a : ℤ) → leZ a a ≡ true
-le-self a = test a a (≤ℤ-refl a)
+le-self a = le-passes a a (≤ℤ-refl a)
 
 le-turned : (a b : ℤ) → leZ a b ≡ false → leZ b a ≡ true
-le-turned a b e = test b a (not-at-most a b e)
+le-turned a b e = le-passes b a (not-at-most a b e)
 
 lowest-le : (x : ℤ) (xs : List ℤ) → Each (λ y. lowest x xs ≤ℤ y) (x ∷ xs)
-lowest-le x xs = each-so (λ y e. order (lowest x xs) y e) (x ∷ xs) (foremost-before leZ le-self le-trans le-turned x xs)
+lowest-le x xs = each-so (λ y e. at-most (lowest x xs) y e) (x ∷ xs) (foremost-before leZ le-self le-trans le-turned x xs)
 
 highest-ge : (x : ℤ) (xs : List ℤ) → Each (λ y. y ≤ℤ highest x xs) (x ∷ xs)
 highest-ge x xs =
-    each-so (λ y e. order y (highest x xs) e) (x ∷ xs)
+    each-so (λ y e. at-most y (highest x xs) e) (x ∷ xs)
     (foremost-before (λ y z. leZ z y) le-self (λ a b c h k. le-trans c b a k h) (λ a b e. le-turned b a e) x xs)
 
 -- THE RAISED SINGLETONS

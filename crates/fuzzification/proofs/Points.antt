@@ -5,20 +5,20 @@ use mathlib.Core.List.{_∷_}
 use Prim.Native.Nat.{ℕ, zero, suc, _+_, _-_, _≤_, _<_}
 use native.Mathlib.Omega.{arith}
 use lib.IntN.{ℤ}
-use lib.Signed.{leZ, ltZ}
+use lib.Signed.{ltZ}
 use Rattle.model.specs.Block.{Point}
 use Rattle.model.specs.Degrees.{onLine, degreeFrom, termDegree}
 use Rattle.model.specs.Image.{tab}
 use Rattle.laws.proofs.Places.{step, gone}
 
 module _ (f : ℕ → Point) (x : ℤ) where
-  -- at or below the first point, and above it
-  pub at-first : (n s : ℕ) → 1 ≤ n → leZ x (f s .at) ≡ true → termDegree (tab f n s) x ≡ f s .degree
+  -- below the first point, and not below it
+  pub below-first : (n s : ℕ) → 1 ≤ n → ltZ x (f s .at) ≡ true → termDegree (tab f n s) x ≡ f s .degree
   unfolding termDegree tab
-  at-first zero s h t = absurd (omega arith)
-  at-first (suc n) s h t = rw t refl
+  below-first zero s h t = absurd (omega arith)
+  below-first (suc n) s h t = rw t refl
 
-  pub after-first : (n s : ℕ) → 1 ≤ n → leZ x (f s .at) ≡ false → termDegree (tab f n s) x ≡ degreeFrom x (f s) (tab f (s + n - (s + 1)) (s + 1))
+  pub after-first : (n s : ℕ) → 1 ≤ n → ltZ x (f s .at) ≡ false → termDegree (tab f n s) x ≡ degreeFrom x (f s) (tab f (s + n - (s + 1)) (s + 1))
   unfolding termDegree tab
   after-first zero s h t = absurd (omega arith)
   after-first (suc n) s h t =

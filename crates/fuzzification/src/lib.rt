@@ -56,7 +56,7 @@ fn input_term_degree(img: &[u8], h: Header, t: usize, x: Crisp) -> Degree
     let row = header::term_row(h, t);
     let n = whole_word(img, row + header::TERM_POINTS);
     let first = whole_word(img, row + header::TERM_FIRST);
-    if crisp::not_above(x, place_at(img, h, first)) {
+    if crisp::less(x, place_at(img, h, first)) {
         return degree_at(img, h, first);
     }
     degree_from(img, h, first, first + n, x)

@@ -1,16 +1,14 @@
 -- What each part of FUZZIFY comes to, by the tests that the code makes.
 use mathlib.Core.Path.{_≡_, refl, sym, ap, _∙_}
 use mathlib.Core.Bool.{Bool, true, false, not, true≢false}
-use mathlib.Core.List.{List, [], _∷_, _++_, map}
+use mathlib.Core.List.{List, [], _∷_, _++_, map, map-append}
 use Prim.Native.Nat.{ℕ, zero, suc, _+_, _*_, _≤_, _<_}
-use native.Mathlib.Numerals.{add-one}
 use native.Mathlib.Omega.{arith}
 use borrow.Author.Tests.{eq-eqb, ne-eqb, lt-ltb, le-ltb, lt-leb, le-leb}
 use lib.Dec.{ltb}
-use lib.IntN.{ℤ, pos}
+use lib.IntN.{ℤ}
 use lib.ListN.{length, getD, set, length-set}
 use lib.Seq.{slice, getD-set-same, getD-set-other}
-use lib.Signed.{ltZ}
 use Rattle.model.specs.Basic.{if_then_else_, isEmpty, indexOf, update, updateLast}
 use Rattle.model.specs.Block as block
 use Rattle.model.specs.Block.{Block, termsOf, mayFollow, withInputs, withTerms, withPoint}
@@ -21,6 +19,7 @@ use Rattle.model.specs.Parse.{Parse, Part, kind, text, refuse, advance, change,
 use Rattle.model.specs.Declarations.{inputOf, isInput, isTerm, addTerm, addPoint, lastPoints, pointsOf, pointPosition, pointDegree, pointBody, point, endOfPoints, termName, inputTerm, fuzzifyOf, fuzzifyVariable}
 use Rattle.laws.proofs.Again.{Again, again-more, again-end, repeats}
 use Rattle.laws.proofs.Lists.{updateLast-snoc, last-points}
+use Rattle.laws.proofs.Positions.{follow-two}
 use Rattle.laws.proofs.Places.{length-tab}
 use Rattle.laws.proofs.Repetition.{turn, no-turn}
 use Rattle.lookup.specs.Names.{nameOf}
@@ -38,17 +37,18 @@ use Rattle.parse_state.specs.declared.ParseState.{ParseState}
 use Rattle.parse_state.specs.Reads.{view, Good, Reads}
 use Rattle.parse_state.proofs.Laws as reading
 use Rattle.parse_state.proofs.Laws.{at, kind-view, text-view, block-view}
+use Rattle.fuzzify_text.specs.declared.LastTwo.{LastTwo}
 use Rattle.fuzzify_text.specs.declared.PointRead.{PointRead}
 use Rattle.fuzzify_text.specs.declared.Shape.{Shape}
 use Rattle.fuzzify_text.specs.declared.TermName.{TermName}
-use Rattle.fuzzify_text.specs.Terms.{withTerm, rises, positionAfter, endAfter, Place, blockWith, viewWith, pointOf, pointsWith, Ends, ReadsPoint, pointAt, pointsRead, noPoints, viewAt, Room, Reads as ReadsShape, termFrom, Terms, Names}
+use Rattle.fuzzify_text.specs.Terms.{withTerm, mayStand, lastWith, positionAfter, endAfter, Place, blockWith, viewWith, pointOf, pointsWith, Ends, ReadsPoint, pointAt, pointsRead, noPoints, viewAt, Room, Reads as ReadsShape, termFrom, Terms, Names}
 
 -- A POSITION, THE END OF THE POINTS
 module _ (s : List ℕ) (c d : Cursor) where
   restep : {f g : Part} → Step f s c d → ((b : Block) (m : ℕ) → f (seen s c b m) ≡ g (seen s c b m)) → Step g s c d
   restep q e = record { reads = λ b m. q .reads b m ∙ e b m; fewer = q .fewer; fits = q .fits; sticky = q .sticky }
 
-  module _ (n : ℕ) (last : ℤ) where
+  module _ (n : ℕ) (last : LastTwo) where
     pub position-none : (w : ℕ) → ((b : Block) (m : ℕ) → w ≡ fault (aCrisp (seen s c b m) [])) → (w ≡ 0 → ⊥) → Step (refuse w) s c d
         → Step (positionAfter n last) s c d
     unfolding positionAfter
@@ -56,16 +56,16 @@ module _ (s : List ℕ) (c d : Cursor) where
 
     module _ (e : (b : Block) (m : ℕ) → 0 ≡ fault (aCrisp (seen s c b m) [])) where
       position-then : (b : Block) (m : ℕ) → positionAfter n last (seen s c b m)
-          ≡ (if rises n last (valueOf (textOf s c)) then advance (seen s c b m) else refuse 7 (seen s c b m))
+          ≡ (if mayStand n last (valueOf (textOf s c)) then advance (seen s c b m) else refuse 7 (seen s c b m))
       unfolding positionAfter judged numbered
       position-then b m =
-          judged-good (seen s c b m) (advance (seen s c b m)) (aCrisp (seen s c b m) []) ((rises n last (valueHere (seen s c b m)), 7) ∷ []) refl
+          judged-good (seen s c b m) (advance (seen s c b m)) (aCrisp (seen s c b m) []) ((mayStand n last (valueHere (seen s c b m)), 7) ∷ []) refl
           (sym (e b m)) ∙ simp (text-seen s c b m)
 
-      pub position-low : rises n last (valueOf (textOf s c)) ≡ false → Step (refuse 7) s c d → Step (positionAfter n last) s c d
+      pub position-low : mayStand n last (valueOf (textOf s c)) ≡ false → Step (refuse 7) s c d → Step (positionAfter n last) s c d
       position-low h q = restep q (λ b m. sym (position-then b m ∙ simp h))
 
-      pub position-good : rises n last (valueOf (textOf s c)) ≡ true → Step advance s c d → Step (positionAfter n last) s c d
+      pub position-good : mayStand n last (valueOf (textOf s c)) ≡ true → Step advance s c d → Step (positionAfter n last) s c d
       position-good h q = restep q (λ b m. sym (position-then b m ∙ simp h))
 
   module _ (n : ℕ) where
@@ -108,14 +108,9 @@ module _ (i : ℕ) (x : block.Term) (b : Block) where
       ap (λ (vs : List block.Input). withInputs (λ us. vs) b) e
 
 -- THE POINTS SO FAR
-may-tab : (f : ℕ → block.Point) (m p : ℕ) (x : ℤ) → mayFollow (map (λ q. q .at) (tab f (suc m) p)) x ≡ ltZ (f (p + m) .at) x
-unfolding mayFollow tab
-may-tab f zero p x = ap (λ (k : ℕ). ltZ (f k .at) x) (omega arith)
-may-tab f (suc m) p x = may-tab f m (suc p) x ∙ ap (λ (k : ℕ). ltZ (f k .at) x) (omega arith)
-
-pub ends-none : (last : ℤ) → Ends [] 0 last
-unfolding rises mayFollow
-ends-none last = record { count = refl; may = λ x. refl }
+pub ends-none : (last : LastTwo) → Ends [] 0 last
+unfolding mayStand mayFollow
+ends-none last = record { count = refl; may = λ x. refl; more = λ y x. refl }
 
 points-count : (p : Shape) → length (pointsRead p) ≡ p .count
 unfolding pointsRead
@@ -134,20 +129,18 @@ module _ (p : Shape) where
         tab-more (pointAt (p .points)) (pointAt (set (p .points) n q)) n (pointOf q)
         (λ k l. ap pointOf (getD-set-other (p .points) n k q no-point (λ z. omega arith))) (ap pointOf (getD-set-same (p .points) n q no-point h))
 
-    pub ends-more : Ends (pointsRead (longer d q)) (p .count + 1) (q .at .0)
-    unfolding rises pointsRead pointAt
-    ends-more = record {
-      count = points-count (longer d q);
-      may = λ x.
-          let n = p .count in
-          let f : ℕ → block.Point = pointAt (set (p .points) n q) in
-          let z : 0 + n ≡ n = omega arith in
-          ap (λ (k : ℕ). mayFollow (map (λ q. q .at) (tab f k 0)) x) (add-one n)
-          ∙ may-tab f n 0 x
-          ∙ ap (λ (k : ℕ). ltZ (f k .at) x) z
-          ∙ ap (λ (v : Point). ltZ (v .at .0) x) (getD-set-same (p .points) n q no-point h)
-          ∙ sym (simp (ne-eqb (n + 1) 0 (λ z. omega arith)));
-    }
+    pub ends-more : (last : LastTwo) → Ends (pointsRead p) (p .count) last → Ends (pointsRead (longer d q)) (p .count + 1) (lastWith last (q .at .0))
+    unfolding mayStand
+    ends-more last e =
+        let at : List block.Point → List ℤ = map (λ v. v .at) in
+        let m : at (pointsRead (longer d q)) ≡ at (pointsRead p) ++ (q .at .0 ∷ []) = ap at read-more ∙ map-append (λ v. v .at) (pointsRead p) (pointOf q ∷ []) in
+        record {
+          count = points-count (longer d q);
+          may = λ x. ap (λ (l : List ℤ). mayFollow l x) m ∙ e .more (q .at .0) x;
+          more = λ y x.
+              ap (λ (l : List ℤ). mayFollow (l ++ (y ∷ [])) x) m ∙ follow-two (at (pointsRead p)) (q .at .0) y x
+              ∙ sym (simp (ne-eqb (p .count + 1 + 1) 0 (λ z. omega arith), ne-eqb (p .count + 1 + 1) 1 (λ z. omega arith)));
+        }
 
 module _ (s : List ℕ) (x : Place) (ps : List block.Point) (c : Cursor) where
   kind-with : kind (viewWith s x ps c) ≡ c .kind
@@ -168,7 +161,7 @@ module _ (s : List ℕ) (x : Place) (ps : List block.Point) (c : Cursor) where
   step-with q = q .reads (blockWith x ps) 0
 
 -- A POINT
-module _ (s : List ℕ) (c d : Cursor) (n : ℕ) (last : ℤ) where
+module _ (s : List ℕ) (c d : Cursor) (n : ℕ) (last : LastTwo) where
   -- refused
   refused : {part : ℕ → Part} (w : ℕ) (q : Point) → Step (refuse w) s c d → (d .why ≡ 0 → ⊥)
       → ((x : Place) (ps : List block.Point) → Ends ps n last → part (x .input) (viewWith s x ps c) ≡ refuse w (viewWith s x ps c))
@@ -306,15 +299,15 @@ module _ (s : List ℕ) where
   abbrev Leads : Shape → Shape → Place → Type 0
   Leads p₀ r x = Again (repeats COMMA (again (x .input))) (left s (r .cursor)) (viewAt s x r) (listed (point (x .input)) (viewAt s x p₀))
 
-  abbrev pub Going : Shape → Shape → ℤ → Type 0
+  abbrev pub Going : Shape → Shape → LastTwo → Type 0
   Going p₀ p last = Room s p × Ends (pointsRead p) (p .count) last × (left s (p .cursor) ≤ left s (p₀ .cursor))
       × ((r : Shape) (x : Place) → viewAt s x r ≡ point (x .input) (viewAt s x p) → left s (r .cursor) ≤ left s (p .cursor) → Leads p₀ r x)
 
-  pub begins : (c : Cursor) → Fits s c → Going (noPoints c) (noPoints c) (pos 0)
+  pub begins : (c : Cursor) (last : LastTwo) → Fits s c → Going (noPoints c) (noPoints c) last
   unfolding repeated listed viewWith pointsRead tab
-  begins c f = (
+  begins c last f = (
     record { fits = f; few = omega arith; size = refl },
-    ends-none (pos 0),
+    ends-none last,
     omega arith,
     λ r x e m. (
       suc (length (viewAt s x r .rest)),
@@ -323,7 +316,7 @@ module _ (s : List ℕ) where
     ),
   )
 
-  module _ (p₀ p : Shape) (last : ℤ) (g : Going p₀ p last) (a : PointRead) (y : ReadsPoint point (p .count) last s (p .cursor) a) where
+  module _ (p₀ p : Shape) (last : LastTwo) (g : Going p₀ p last) (a : PointRead) (y : ReadsPoint point (p .count) last s (p .cursor) a) where
     read-with : (x : Place) → viewWith s x (pointsWith (pointsRead p) a) (a .cursor) ≡ point (x .input) (viewAt s x p)
     read-with x = y .reads x (pointsRead p) (g .1)
 
@@ -359,11 +352,11 @@ module _ (s : List ℕ) where
       leaves k = ends-with (longer p (a .cursor) (a .point)) more-room (y .fewer) more-read k
 
       pub goes : (d : Cursor) → a .cursor .kind ≡ COMMA → Step advance s (a .cursor) d → left s d < left s (a .cursor)
-          → Going p₀ (longer p d (a .point)) (a .point .at .0)
+          → Going p₀ (longer p d (a .point)) (lastWith last (a .point .at .0))
       unfolding expect pointsRead
       goes d k q m = (
         record { fits = q .fits; few = omega arith; size = simp length-set (g .0 .size) },
-        ends-more p d (a .point) (omega (arith, g .0 .size)),
+        ends-more p d (a .point) (omega (arith, g .0 .size)) last (g .1),
         omega (arith, y .fewer, g .2),
         λ r x e n.
             let u = longer p (a .cursor) (a .point) in

@@ -2,14 +2,14 @@
 -- block with these points in the last term of an input; `Reads` ties it to a `Part` of the model, and `position-is` and
 -- `points-end` of proofs/Laws tie the checks to the model's `pointPosition` and `endOfPoints`.
 use mathlib.Core.Path.{_≡_}
-use mathlib.Core.Bool.{Bool, true, false}
+use mathlib.Core.Bool.{Bool, true, false, _&&_}
 use mathlib.Core.List.{List, [], _∷_, _++_, map}
 use Prim.Native.Nat.{ℕ, _+_, _*_, _≤_, _<_}
 use lib.Dec.{eqb, leb}
 use lib.IntN.{ℤ}
 use lib.ListN.{length, getD, replicate}
 use lib.Seq.{slice}
-use lib.Signed.{ltZ}
+use lib.Signed.{ltZ, leZ}
 use Rattle.model.specs.Basic.{if_then_else_, indexOf, update}
 use Rattle.model.specs.Block as block
 use Rattle.model.specs.Block.{Block, termsOf, mayFollow, withInputs, withTerms}
@@ -24,6 +24,7 @@ use Rattle.cursor.specs.declared.Cursor.{Cursor}
 use Rattle.cursor.specs.View.{seen, Fits, left}
 use Rattle.block_tables.specs.declared.Point.{Point}
 use Rattle.block_tables.specs.View.{no-point}
+use Rattle.fuzzify_text.specs.declared.LastTwo.{LastTwo}
 use Rattle.fuzzify_text.specs.declared.PointRead.{PointRead}
 use Rattle.fuzzify_text.specs.declared.Shape.{Shape}
 use Rattle.fuzzify_text.specs.declared.TermName.{TermName}
@@ -32,13 +33,19 @@ use Rattle.fuzzify_text.specs.declared.TermName.{TermName}
 unfoldable pub withTerm : ℕ → block.Term → Block → Block
 withTerm i x = withInputs (update (withTerms (λ ts. ts ++ (x ∷ []))) i)
 
--- x may stand after n positions that end at this one
-unfoldable pub rises : ℕ → ℤ → ℤ → Bool
-rises n last x = if eqb n 0 then true else ltZ last x
+-- x may stand after n positions that end in these two
+unfoldable pub mayStand : ℕ → LastTwo → ℤ → Bool
+mayStand n t x =
+    if eqb n 0 then true else
+    if eqb n 1 then leZ (t .later .0) x else leZ (t .later .0) x && ltZ (t .earlier .0) x
+
+-- one position more
+abbrev pub lastWith : LastTwo → ℤ → LastTwo
+lastWith t y = record { earlier = t .later; later = record { 0 = y } }
 
 -- a position after n others, the end of n points
-unfoldable pub positionAfter : ℕ → ℤ → Part
-positionAfter n last r = judged (aCrisp r ((rises n last (valueHere r), 7) ∷ [])) r (advance r)
+unfoldable pub positionAfter : ℕ → LastTwo → Part
+positionAfter n last r = judged (aCrisp r ((mayStand n last (valueHere r), 7) ∷ [])) r (advance r)
 
 unfoldable pub endAfter : ℕ → Part
 endAfter n r = judged ((is SEMICOLON r, 2) ∷ (leb pointLeast n, 7) ∷ []) r (advance r)
@@ -65,12 +72,13 @@ pointOf q = record { at = q .at .0; degree = q .degree .0 }
 abbrev pub pointsWith : List block.Point → PointRead → List block.Point
 pointsWith ps r = if r .read then ps ++ (pointOf (r .point) ∷ []) else ps
 
--- there are n of them, and the last position is this one
-pub record Ends (ps : List block.Point) (n : ℕ) (last : ℤ) : Type 0 where
+-- there are n of them, and these are the last two positions: which may follow, and which with one more
+pub record Ends (ps : List block.Point) (n : ℕ) (last : LastTwo) : Type 0 where
   pub count : length ps ≡ n
-  pub may : (x : ℤ) → mayFollow (map (λ q. q .at) ps) x ≡ rises n last x
+  pub may : (x : ℤ) → mayFollow (map (λ q. q .at) ps) x ≡ mayStand n last x
+  pub more : (y x : ℤ) → mayFollow (map (λ q. q .at) ps ++ (y ∷ [])) x ≡ mayStand (n + 1) (lastWith last y) x
 
-pub record ReadsPoint (part : ℕ → Part) (n : ℕ) (last : ℤ) (s : List ℕ) (c : Cursor) (r : PointRead) : Type 0 where
+pub record ReadsPoint (part : ℕ → Part) (n : ℕ) (last : LastTwo) (s : List ℕ) (c : Cursor) (r : PointRead) : Type 0 where
   pub reads : (x : Place) (ps : List block.Point) → Ends ps n last
       → viewWith s x (pointsWith ps r) (r .cursor) ≡ part (x .input) (viewWith s x ps c)
   pub fewer : left s (r .cursor) ≤ left s c

@@ -1,8 +1,8 @@
-// FUZZIFY parts: the terms of an input, each a name and two to four points whose positions rise.
+// FUZZIFY parts: the terms of an input, each a name and two to four points whose positions do not fall, no three of them
+// the same.
 ghost use mathlib.Core.Path.{_≡_};
 ghost use mathlib.Core.Bool.{true};
 ghost use Prim.Native.Nat.{ℕ, _+_, _*_, _≤_, _<_};
-ghost use lib.IntN.{ℤ};
 ghost use Rattle.model.specs.Bounds.{inputLimit, termLimit, pointLimit, inputTermLimit};
 ghost use Rattle.model.specs.Tokens.{valueOf};
 ghost use Rattle.model.specs.Keywords.{TERM, FUZZIFY};
@@ -12,7 +12,7 @@ ghost use Rattle.model.specs.Declarations.{pointDegree as aDegree, pointBody, p
 ghost use Rattle.lookup.specs.Names.{Placed};
 ghost use Rattle.cursor.specs.View.{textOf, Fits, Step, Moves};
 ghost use Rattle.parse_state.specs.Reads.{Good, Reads};
-ghost use Rattle.fuzzify_text.specs.Terms.{rises, positionAfter, endAfter, ReadsPoint, noPoints, Reads as ReadsShape, termFrom, Terms, Names as Reached, Named};
+ghost use Rattle.fuzzify_text.specs.Terms.{mayStand, positionAfter, endAfter, ReadsPoint, noPoints, Reads as ReadsShape, termFrom, Terms, Names as Reached, Named};
 use block_tables::Point;
 use cursor::Cursor;
 use lookup::Names;
@@ -33,6 +33,12 @@ struct PointRead {
     point: Point,
 }
 
+// The last two positions so far; where there are fewer, those that are missing are not looked at.
+struct LastTwo {
+    earlier: Crisp,
+    later: Crisp,
+}
+
 // The points of a term so far.
 struct Shape {
     cursor: Cursor,
@@ -47,20 +53,26 @@ struct TermName {
     end: usize,
 }
 
-// Whether x may stand after n positions, the last one of them given.
-fn may_stand(n: usize, last: Crisp, x: Crisp) -> bool
-    ensures { λ r. ⌜ r ≡ rises n (last .0) (x .0) ⌝ }
+// Whether x may stand after n positions, the last two of them given.
+fn may_stand(n: usize, last: LastTwo, x: Crisp) -> bool
+    ensures { λ r. ⌜ r ≡ mayStand n last (x .0) ⌝ }
 {
     if n == 0 {
         return true;
     }
-    crisp::less(last, x)
+    if !crisp::not_above(last.later, x) {
+        return false;
+    }
+    if n == 1 {
+        return true;
+    }
+    crisp::less(last.earlier, x)
 }
 
-// A position after n others, the last one of them given.
-fn position(s: &[u8], c: Cursor, n: usize, last: Crisp) -> At
+// A position after n others, the last two of them given.
+fn position(s: &[u8], c: Cursor, n: usize, last: LastTwo) -> At
     requires { ⌜ Fits (now s) c ⌝ }
-    ensures { λ r. ⌜ Step (positionAfter n (last .0)) (now (s .entry)) c (r .cursor) ⌝ }
+    ensures { λ r. ⌜ Step (positionAfter n last) (now (s .entry)) c (r .cursor) ⌝ }
     ensures value { λ r. ⌜ (r .cursor .why ≡ 0 → r .value .0 ≡ valueOf (textOf (now (s .entry)) c)) ⌝ }
 {
     let w = number_tokens::crisp_here(s, c);
@@ -89,7 +101,7 @@ fn position(s: &[u8], c: Cursor, n: usize, last: Crisp) -> At
 // The degree at position x.
 fn degree(s: &[u8], c: Cursor, x: Crisp) -> PointRead
     requires { ⌜ Fits (now s) c ⌝ }
-    ensures { λ r. ⌜ ((n : ℕ) (last : ℤ) → ReadsPoint (λ i. aDegree i (x .0)) n last (now (s .entry)) c r) ⌝ }
+    ensures { λ r. ⌜ ((n : ℕ) (last : LastTwo) → ReadsPoint (λ i. aDegree i (x .0)) n last (now (s .entry)) c r) ⌝ }
 {
     let w = number_tokens::unit_here(s, c);
     let y = w.value;
@@ -110,10 +122,10 @@ fn degree(s: &[u8], c: Cursor, x: Crisp) -> PointRead
     }
 }
 
-// A point behind its parenthesis, after n others, the last position given.
-fn point_from(s: &[u8], c: Cursor, n: usize, last: Crisp) -> PointRead
+// A point behind its parenthesis, after n others, the last two positions given.
+fn point_from(s: &[u8], c: Cursor, n: usize, last: LastTwo) -> PointRead
     requires { ⌜ Fits (now s) c ⌝ }
-    ensures { λ r. ⌜ ReadsPoint pointBody n (last .0) (now (s .entry)) c r ⌝ }
+    ensures { λ r. ⌜ ReadsPoint pointBody n last (now (s .entry)) c r ⌝ }
 {
     let a = position(s, c, n, last);
     let d = a.cursor;
@@ -137,14 +149,14 @@ fn point_from(s: &[u8], c: Cursor, n: usize, last: Crisp) -> PointRead
     r
 }
 
-// A point after n others, the last position given.
-fn point(s: &[u8], c: Cursor, n: usize, last: Crisp) -> PointRead
+// A point after n others, the last two positions given.
+fn point(s: &[u8], c: Cursor, n: usize, last: LastTwo) -> PointRead
     requires { ⌜ Fits (now s) c ⌝ }
-    ensures { λ r. ⌜ ReadsPoint aPoint n (last .0) (now (s .entry)) c r ⌝ }
+    ensures { λ r. ⌜ ReadsPoint aPoint n last (now (s .entry)) c r ⌝ }
     ensures few { λ r. ⌜ (r .read ≡ true → n < pointLimit) ⌝ }
 {
     let z = Point {
-        at: last,
+        at: Crisp(0),
         degree: Degree(0),
     };
     if c.kind != token_kinds::OPEN {
@@ -172,9 +184,13 @@ fn points(s: &[u8], c: Cursor) -> Shape
     requires { ⌜ Fits (now s) c ⌝ }
     ensures { λ r. ⌜ ReadsShape (λ i. listed (aPoint i)) (now (s .entry)) (noPoints c) r ⌝ }
 {
-    let mut last = Crisp(0);
+    let none = Crisp(0);
+    let mut last = LastTwo {
+        earlier: none,
+        later: none,
+    };
     let z = Point {
-        at: last,
+        at: none,
         degree: Degree(0),
     };
     let mut ps = [z; bounds::POINTS];
@@ -200,7 +216,12 @@ fn points(s: &[u8], c: Cursor) -> Shape
                 points: ps,
             };
         }
-        last = q.at;
+        let earlier = last.later;
+        let at = q.at;
+        last = LastTwo {
+            earlier: earlier,
+            later: at,
+        };
         d = cursor::advance(s, e);
     }
 }

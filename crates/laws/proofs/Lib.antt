@@ -15,3 +15,5 @@ pub mod Again
 pub mod Signed
 pub mod Finding
 pub mod Buffers
+pub mod Comparison
+pub mod Positions

@@ -26,7 +26,7 @@ pub record TermFacts (t : Term) : Type 0 where
   pub name : leb (length (t .name)) nameLimit ≡ true
   pub count : (pointLeast ≤ length (t .points)) × (length (t .points) ≤ pointLimit)
   pub points : all WellFormed.pointOk (t .points) ≡ true
-  pub rises : WellFormed.rising [] (map (λ p. p .at) (t .points)) ≡ true
+  pub ordered : WellFormed.inOrder [] (map (λ p. p .at) (t .points)) ≡ true
 
 pub term-facts : (t : Term) → WellFormed.termOk t ≡ true → TermFacts t
 unfolding WellFormed.termOk
@@ -36,7 +36,7 @@ term-facts t h =
       name = name-fits (t .name) (c .0);
       count = counted pointLeast pointLimit (length (t .points)) (c .1 .0);
       points = c .1 .1 .0;
-      rises = c .1 .1 .1 .0;
+      ordered = c .1 .1 .1 .0;
     }
 
 pub record InputFacts (v : Input) : Type 0 where

@@ -17,7 +17,7 @@ use Rattle.model.specs.Block.{Point, Term, Input, Output, Block, termsOf, mayFo
 use Rattle.model.specs.Parse.{Parse, Part, kind, text, is, advance, change, expect, repeated, listed}
 use Rattle.model.specs.Declarations.{inputOf, isInput, termOf, isTerm, addTerm, addPoint, lastPoints, pointsOf, pointPosition, pointDegree, pointBody, point, endOfPoints, termName, inputTerm, fuzzifyOf, fuzzifyVariable, fuzzify}
 use Rattle.model.specs.Listing.{crispText, unitText}
-use Rattle.model.specs.WellFormed.{unitOk, pointOk, rising, termOk}
+use Rattle.model.specs.WellFormed.{unitOk, pointOk, inOrder, termOk}
 use Rattle.laws.proofs.Lists.{updateLast-snoc}
 use Rattle.laws.proofs.Tests.{both}
 use Rattle.laws.proofs.Lists.{last-points}
@@ -29,12 +29,12 @@ use Rattle.listing_laws.proofs.Reading.{at, headKind, judged-pass, expe
 use Rattle.listing_laws.proofs.Stages.{staged, focus, bareInput}
 
 -- each position may stand after those before it
-rising-at : (before xs : List ℤ) (y : ℤ) (ys : List ℤ) → rising before (xs ++ (y ∷ ys)) ≡ true → mayFollow (before ++ xs) y ≡ true
-unfolding rising
-rising-at before [] y ys h = ap (λ (l : List ℤ). mayFollow l y) (append-nil before) ∙ both (mayFollow before y) (rising (before ++ (y ∷ [])) ys) h .0
-rising-at before (x ∷ xs) y ys h =
+order-at : (before xs : List ℤ) (y : ℤ) (ys : List ℤ) → inOrder before (xs ++ (y ∷ ys)) ≡ true → mayFollow (before ++ xs) y ≡ true
+unfolding inOrder
+order-at before [] y ys h = ap (λ (l : List ℤ). mayFollow l y) (append-nil before) ∙ both (mayFollow before y) (inOrder (before ++ (y ∷ [])) ys) h .0
+order-at before (x ∷ xs) y ys h =
     ap (λ (l : List ℤ). mayFollow l y) (sym (append-snoc before x xs))
-    ∙ rising-at (before ++ (x ∷ [])) xs y ys (both (mayFollow before x) (rising (before ++ (x ∷ [])) (xs ++ (y ∷ ys))) h .1)
+    ∙ order-at (before ++ (x ∷ [])) xs y ys (both (mayFollow before x) (inOrder (before ++ (x ∷ [])) (xs ++ (y ∷ ys))) h .1)
 
 body-start : (f : ℕ → ℕ) (i : ℕ) (t : List ℕ) (xs : List Item) (c : Block) (w : ℕ) → pointBody i (at f (number t ∷ xs) c w)
     ≡ expect CLOSE (pointDegree i (valueOf t) (expect COMMA (pointPosition i (at f (number t ∷ xs) c w))))
@@ -93,8 +93,8 @@ module _ (f : ℕ → ℕ) (n : List ℕ) (os : List Output) (ds rest : List Inp
 
       follows : mayFollow (map (λ q. q .at) ps) (p .at) ≡ true
       follows =
-          rising-at [] (map (λ q. q .at) ps) (p .at) (map (λ q. q .at) qs)
-          (sym (ap (rising []) (ap (map (λ q. q .at)) z ∙ map-append (λ q. q .at) ps (p ∷ qs))) ∙ facts .rises)
+          order-at [] (map (λ q. q .at) ps) (p .at) (map (λ q. q .at) qs)
+          (sym (ap (inOrder []) (ap (map (λ q. q .at)) z ∙ map-append (λ q. q .at) ps (p ∷ qs))) ∙ facts .ordered)
 
       position-read : (xs : List Item) (w : ℕ) → pointPosition i (at f (number (crispText (p .at)) ∷ xs) (drawn ps) w) ≡ at f xs (drawn ps) w
       unfolding pointPosition at kind text advance

@@ -45,8 +45,8 @@ edits =
     ∷ to 24 0x5f ∷ to 24 0 ∷ to 26 0x72 ∷ to 24 0x4649 ∷ to 58 0x776f6c
     -- type, first term, term count, an unused field
     ∷ to 32 2 ∷ to 33 1 ∷ to 34 2 ∷ to 42 1 ∷ to 45 1
-    -- first point, points that do not rise, a degree of 500 millionths and one above 1, a singleton whose degree is not 1
-    ∷ to 50 1 ∷ to 66 20000 ∷ to 65 500 ∷ to 65 1001000 ∷ to 69 0
+    -- first point, points that fall, a degree of 500 millionths and one above 1, a singleton whose degree is not 1
+    ∷ to 50 1 ∷ to 66 19999 ∷ to 65 500 ∷ to 65 1001000 ∷ to 69 0
     -- rule number 0 and a repeated one, first condition word, no conclusion, a weight of 500 millionths
     ∷ to 72 0 ∷ to 78 1 ∷ to 79 0 ∷ to 76 0 ∷ to 77 500
     -- an output's term in a condition, a word that is none, an operator without operands, another output, an input's term

@@ -12,6 +12,7 @@ pub mod Images
 pub mod Buffers
 pub mod Listings
 pub mod Degrees
+pub mod Edges
 pub mod Calls
 pub mod Chunks
 pub mod Vectors

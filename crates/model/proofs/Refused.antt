@@ -196,6 +196,7 @@ wrong-number-texts =
     ∷ behind declared "FUZZIFY a TERM t := (" "0.1234,0)"
     ∷ behind declared "FUZZIFY a TERM t := (" "1000000.001,0)"
     ∷ behind declared "FUZZIFY a TERM t := (" "-1000000.001,0)"
+    ∷ behind declared "FUZZIFY a TERM t := (0,0),(0,1),(" "0.0000,0)"
     ∷ behind declared "FUZZIFY a TERM t := (0," "1.001)"
     ∷ behind declared "FUZZIFY a TERM t := (0," "-0.001)"
     ∷ behind fuzzified "DEFUZZIFY y RANGE(" "9999999..2)"
@@ -285,6 +286,7 @@ too-many-texts =
     ∷ cut (declared ++ (bytes "FUZZIFY a " ++ sevenTerms)) (bytes "TERM z := (0,0),(1,1);")
     ∷ behind fuzzified "DEFUZZIFY y TERM a := 0; TERM b := 0; TERM c := 0; TERM d := 0; TERM e := 0; TERM g := 0; TERM h := 0; " "TERM i := 0;"
     ∷ behind declared "FUZZIFY a TERM t := (0,0),(1,1),(2,0),(3,1)," "(4,0);"
+    ∷ behind declared "FUZZIFY a TERM t := (0,0),(0,1),(1,1),(1,0)," "(1,0);"
     ∷ behind ruled "RULE 1: IF a IS t OR ((((((((" "(a IS t)"
     ∷ []
 
@@ -292,11 +294,17 @@ too-many : answers too-many-texts ≡ refusedBy 6 too-many-texts
 unfolding opened
 too-many = refl
 
--- 7: a position that does not rise, a singleton or a default outside RANGE, an empty RANGE, one point only
+-- 7: a position that falls, a third at one position, a singleton or a default outside RANGE, an empty RANGE, one point only
 abbrev wrong-position-texts : List Cut
 wrong-position-texts =
-    behind declared "FUZZIFY a TERM t := (0,0),(" "0,1);"
+    behind declared "FUZZIFY a TERM t := (0,0),(" "-0.001,1);"
     ∷ behind declared "FUZZIFY a TERM t := (0,0),(1,1),(" "0.999,1);"
+    ∷ behind declared "FUZZIFY a TERM t := (0,0),(0,1),(" "0,0);"
+    ∷ behind declared "FUZZIFY a TERM t := (0,0),(0,0),(" "+0.0,0),(0,0);"
+    ∷ behind declared "FUZZIFY a TERM t := (0,0),(1,1),(1,0),(" "1,1);"
+    ∷ behind declared "FUZZIFY a TERM t := (0,0),(0,1),(" "-0.001,0);"
+    ∷ behind declared "FUZZIFY a TERM t := (0,0),(0,1),(1,1),(" "0,0);"
+    ∷ behind declared "FUZZIFY a TERM t := (0,0),(0,1),(" "0;0)"
     ∷ behind declared "FUZZIFY a TERM t := (0,0)" "; TERM"
     ∷ behind fuzzified "DEFUZZIFY y RANGE(0.." "0);"
     ∷ behind fuzzified "DEFUZZIFY y RANGE(0.." "-1);"

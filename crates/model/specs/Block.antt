@@ -114,11 +114,12 @@ abbrev pub inRange : Option Range → ℤ → Bool
 inRange none x = true
 inRange (some g) x = leZ (g .least) x && leZ x (g .most)
 
--- positions rise strictly: whether x may stand after the positions ps
+-- whether x may stand after the positions ps: not below the last, which it may share, and above the last but one
 unfoldable pub mayFollow : List ℤ → ℤ → Bool
 mayFollow [] x = true
-mayFollow (p ∷ []) x = ltZ p x
-mayFollow (p ∷ q ∷ ps) x = mayFollow (q ∷ ps) x
+mayFollow (p ∷ []) x = leZ p x
+mayFollow (p ∷ q ∷ []) x = leZ q x && ltZ p x
+mayFollow (p ∷ q ∷ r ∷ ps) x = mayFollow (q ∷ r ∷ ps) x
 
 -- A BLOCK, CHANGED
 abbrev pub blockOf : List ℕ → List Input → List Output → List ℕ → Pair → Activation → Accumulation → List Rule → Block

@@ -3,7 +3,7 @@ use mathlib.Core.List.{List, [], _∷_}
 use Prim.Native.Nat.{ℕ, _+_, _*_, _-_, _/_, min, max}
 use lib.IntN.{ℤ, pos, natAbs, _+ℤ_, _-ℤ_, _*ℤ_}
 use lib.ListN.{getD}
-use lib.Signed.{ltZ, leZ, shrZ}
+use lib.Signed.{ltZ, shrZ}
 use Rattle.model.specs.Basic.{if_then_else_}
 use Rattle.model.specs.Bounds.{M}
 use Rattle.model.specs.Block.{Point, Op, and, or, Condition, term, neg, two, Pair, min-max, prod-asum, bdif-bsum}
@@ -47,19 +47,20 @@ pairs bdif-bsum or a b = bsumOf a b
 abbrev pub distance : ℤ → ℤ → ℕ
 distance a b = natAbs (b -ℤ a)
 
--- between two points
+-- between two points, p at or below x and q above it
 abbrev pub onLine : ℤ → Point → Point → ℕ
 onLine x p q =
     nearest (p .degree * distance x (q .at) + q .degree * distance (p .at) x) (distance (p .at) (q .at))
 
--- at or above p, by the points after it
+-- at or above p, by the points after it: of two points at x the later one
 unfoldable pub degreeFrom : ℤ → Point → List Point → ℕ
 degreeFrom x p [] = p .degree
 degreeFrom x p (q ∷ qs) = if ltZ x (q .at) then onLine x p q else degreeFrom x q qs
 
+-- below the first point its degree
 unfoldable pub termDegree : List Point → ℤ → ℕ
 termDegree [] x = 0
-termDegree (p ∷ ps) x = if leZ x (p .at) then p .degree else degreeFrom x p ps
+termDegree (p ∷ ps) x = if ltZ x (p .at) then p .degree else degreeFrom x p ps
 
 -- THE DEGREE OF A CONDITION, by the degrees of the input terms
 unfoldable pub conditionDegree : Pair → List ℕ → Condition → ℕ

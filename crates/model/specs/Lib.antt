@@ -16,6 +16,7 @@ pub mod Listing
 pub mod Buffers
 pub mod Printed
 pub mod Degrees
+pub mod Edges
 pub mod Readings
 pub mod Evaluation
 pub mod Calls

@@ -21,16 +21,16 @@ unfoldable pub pointOk : Point → Bool
 pointOk p = inCrisp (p .at) && unitOk (p .degree)
 
 -- each position may stand after those before it
-unfoldable pub rising : List ℤ → List ℤ → Bool
-rising before [] = true
-rising before (x ∷ xs) = mayFollow before x && rising (before ++ (x ∷ [])) xs
+unfoldable pub inOrder : List ℤ → List ℤ → Bool
+inOrder before [] = true
+inOrder before (x ∷ xs) = mayFollow before x && inOrder (before ++ (x ∷ [])) xs
 
 unfoldable pub termOk : Term → Bool
 termOk t = every (
     isName (t .name)
     ∷ between pointLeast pointLimit (length (t .points))
     ∷ all pointOk (t .points)
-    ∷ rising [] (map (λ p. p .at) (t .points))
+    ∷ inOrder [] (map (λ p. p .at) (t .points))
     ∷ [])
 
 unfoldable pub inputOk : Input → Bool

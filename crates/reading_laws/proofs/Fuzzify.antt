@@ -13,7 +13,7 @@ use Rattle.model.specs.Bounds.{termLimit, pointLeast, pointLimit}
 use Rattle.model.specs.Keywords.{ASSIGN, COMMA, CLOSE, TERM, FUZZIFY, END-FUZZIFY}
 use Rattle.model.specs.Tokens.{isName, sameName, inCrisp, unitOf}
 use Rattle.model.specs.Block.{Point, Term, Input, Block, termsOf, mayFollow, withInputs, withTerms, withPoint}
-use Rattle.model.specs.WellFormed.{pointOk, rising, termOk}
+use Rattle.model.specs.WellFormed.{pointOk, inOrder, termOk}
 use Rattle.model.specs.Parse.{Parse, text, advance, valueHere}
 use Rattle.model.specs.Declarations.{termOf, addTerm, addPoint, lastPoints, pointsOf, pointPosition, pointDegree, pointBody, point, endOfPoints, termName, inputTerm, fuzzifyOf, fuzzifyVariable, fuzzify}
 use Rattle.laws.proofs.Tests.{pass, and-i}
@@ -22,7 +22,7 @@ use Rattle.laws.proofs.Lists.{updateLast-snoc}
 use Rattle.laws.proofs.Lists.{last-points}
 use Rattle.laws.proofs.Finding.{none-of, named}
 use Rattle.reading_laws.proofs.Steps.{Fact, Good, Leads, _▹_, good-so, good-advance, good-change, good-judged, name-here, good-expect, good-repeated, good-listed}
-use Rattle.reading_laws.proofs.Numbers.{crisp-value, unit-value, rising-last}
+use Rattle.reading_laws.proofs.Numbers.{crisp-value, unit-value, order-last}
 use Rattle.reading_laws.proofs.Focus.{Except, focus, unfocus, except-update, except-so, except-at, map-update, map-updateLast, all-last, absent, named-last}
 use Rattle.reading_laws.proofs.Declarations.{InputFine, OutputFine, Declared, Outputs, declared-so, renamed}
 
@@ -37,13 +37,13 @@ record Growing (v : Input) : Type 0 where
   terms : all termOk before ≡ true
   called : isName (last .name) ≡ true
   points : all pointOk (last .points) ≡ true
-  rises : rising [] (map (λ p. p .at) (last .points)) ≡ true
+  ordered : inOrder [] (map (λ p. p .at) (last .points)) ≡ true
   most : length (last .points) ≤ pointLimit
 
 module _ (v : Input) where
   term-begun : (n : List ℕ) → isName n ≡ true → InputFine v → ltb (length (v .terms)) termLimit ≡ true
       → none-of (named (λ (t : Term). t .name) n) (v .terms) ≡ true → Growing (withTerms (λ ts. ts ++ (record { name = n; points = [] } ∷ [])) v)
-  unfolding all rising
+  unfolding all inOrder
   term-begun n e f l a =
       let t : Term = record { name = n; points = [] } in
       let j = ltb-true (length (v .terms)) termLimit l in
@@ -58,7 +58,7 @@ module _ (v : Input) where
         terms = f .terms;
         called = e;
         points = refl;
-        rises = refl;
+        ordered = refl;
         most = omega arith;
       }
 
@@ -86,9 +86,9 @@ module _ (v : Input) where
           terms = g .terms;
           called = g .called;
           points = all-last pointOk (g .last .points) p (g .points) o;
-          rises =
-              ap (rising []) (map-append (λ p. p .at) (g .last .points) (p ∷ []))
-              ∙ rising-last [] (map (λ p. p .at) (g .last .points)) (p .at) (g .rises)
+          ordered =
+              ap (inOrder []) (map-append (λ p. p .at) (g .last .points) (p ∷ []))
+              ∙ order-last [] (map (λ p. p .at) (g .last .points)) (p .at) (g .ordered)
               (sym (ap (λ (ps : List Point). mayFollow (map (λ p. p .at) ps) (p .at)) so-far) ∙ f);
           most = omega arith;
         }
@@ -98,7 +98,7 @@ module _ (v : Input) where
     term-done l =
         let m : leb pointLeast (length (g .last .points)) ≡ true = sym (ap (λ (ps : List Point). leb pointLeast (length ps)) so-far) ∙ l in
         let o : termOk (g .last) ≡ true =
-        pass _ (g .called, (and-i _ _ m (le-leb (length (g .last .points)) pointLimit (g .most)), (g .points, (g .rises, tt)))) in
+        pass _ (g .called, (and-i _ _ m (le-leb (length (g .last .points)) pointLimit (g .most)), (g .points, (g .ordered, tt)))) in
         record { name = g .name; count = g .count; terms = ap (all termOk) (g .split) ∙ all-last termOk (g .before) (g .last) (g .terms) o; apart = g .apart }
 
 -- while input i has R

@@ -13,7 +13,7 @@ use Rattle.model.specs.Basic.{if_then_else_, between, all}
 use Rattle.model.specs.Bounds.{M, digitLimit, ruleNumberLeast, ruleNumberLimit}
 use Rattle.model.specs.Tokens.{isDigit, starts, decimal, magnitude, valueOf, digitsFit, inCrisp, isCrisp, isUnit, unitOf, isRuleNumber}
 use Rattle.model.specs.Block.{mayFollow}
-use Rattle.model.specs.WellFormed.{unitOk, rising}
+use Rattle.model.specs.WellFormed.{unitOk, inOrder}
 use Rattle.laws.proofs.Tests.{both, and-i, clash}
 
 pub crisp-value : (w : List ℕ) → isCrisp w ≡ true → inCrisp (valueOf w) ≡ true
@@ -38,9 +38,9 @@ unfolding isRuleNumber
 rule-number w h = both (leb (length w) digitLimit) _ (both (all isDigit w) _ h .1) .1
 
 -- a position more
-pub rising-last : (before xs : List ℤ) (x : ℤ) → rising before xs ≡ true → mayFollow (before ++ xs) x ≡ true → rising before (xs ++ (x ∷ [])) ≡ true
-unfolding rising
-rising-last before [] x h f = and-i _ _ (rw append-nil at f) refl
-rising-last before (y ∷ xs) x h f =
-    let b = both (mayFollow before y) (rising (before ++ (y ∷ [])) xs) h in
-    and-i _ _ (b .0) (rising-last (before ++ (y ∷ [])) xs x (b .1) (rw append-assoc f))
+pub order-last : (before xs : List ℤ) (x : ℤ) → inOrder before xs ≡ true → mayFollow (before ++ xs) x ≡ true → inOrder before (xs ++ (x ∷ [])) ≡ true
+unfolding inOrder
+order-last before [] x h f = and-i _ _ (rw append-nil at f) refl
+order-last before (y ∷ xs) x h f =
+    let b = both (mayFollow before y) (inOrder (before ++ (y ∷ [])) xs) h in
+    and-i _ _ (b .0) (order-last (before ++ (y ∷ [])) xs x (b .1) (rw append-assoc f))

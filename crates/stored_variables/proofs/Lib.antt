@@ -1,5 +1,5 @@
 pub mod Named
-pub mod Rising
+pub mod Order
 pub mod Exact
 pub mod Spelt
 pub mod Wellformed

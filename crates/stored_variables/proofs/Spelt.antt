@@ -12,7 +12,7 @@ use Rattle.model.specs.Basic.{if_then_else_, between, every, all, distinct, sam
 use Rattle.model.specs.Bounds.{termLimit, pointLeast, pointLimit}
 use Rattle.model.specs.Block.{Range, inRange}
 use Rattle.model.specs.Tokens.{isName, inCrisp}
-use Rattle.model.specs.WellFormed.{unitOk, pointOk, rising, termOk, rangeOk, figureOk, defaultOk, singletonOk}
+use Rattle.model.specs.WellFormed.{unitOk, pointOk, inOrder, termOk, rangeOk, figureOk, defaultOk, singletonOk}
 use Rattle.model.specs.Image.{crispOf, tab, inputPlace, outputPlace, termPlace, nameAt, pointAt, termAt, singletonAt}
 use Rattle.crisp.specs.Crisp.{rangeGiven}
 use Rattle.laws.proofs.Places.{length-tab}
@@ -34,7 +34,7 @@ module _ (w : ℕ → ℕ) where
       isName (nameAt w o)
       ∷ between pointLeast pointLimit k
       ∷ all pointOk (tab (pointAt w) k s)
-      ∷ rising [] (map (λ p. p .at) (tab (pointAt w) k s))
+      ∷ inOrder [] (map (λ p. p .at) (tab (pointAt w) k s))
       ∷ []
 
   -- a count is the length of what is read by it
@@ -48,7 +48,7 @@ module _ (w : ℕ → ℕ) where
       isName (nameAt w o)
       ∷ between pointLeast pointLimit (sym long j)
       ∷ all pointOk ps
-      ∷ rising [] (map (λ p. p .at) ps)
+      ∷ inOrder [] (map (λ p. p .at) ps)
       ∷ [])
 
   pub term-spelt : (t o k s : ℕ) → o ≡ termPlace w t → k ≡ w (o + 5) → s ≡ w (o + 4)

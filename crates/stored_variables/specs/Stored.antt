@@ -1,9 +1,9 @@
 -- A helper: what is tested of stored variables, as of a block's, but names compared by their words.
 -- `variables-spelt` ties the tests to those of model's `inputOk` and `outputOk`, by `variablesOk`.
 use mathlib.Core.Bool.{Bool, _&&_}
-use mathlib.Core.List.{[], _∷_}
+use mathlib.Core.List.{List, [], _∷_, map}
 use mathlib.Core.Option.{Option, none, some}
-use Prim.Native.Nat.{ℕ, _+_}
+use Prim.Native.Nat.{ℕ, _+_, _-_}
 use lib.Dec.{eqb}
 use lib.IntN.{ℤ}
 use Rattle.model.specs.Basic.{if_then_else_, between, every, all, distinct, same}
@@ -11,8 +11,12 @@ use Rattle.model.specs.Bounds.{termLimit}
 use Rattle.model.specs.Block.{Range}
 use Rattle.model.specs.Tokens.{isName}
 use Rattle.model.specs.WellFormed.{termOk, rangeOk, defaultOk, singletonOk}
-use Rattle.model.specs.Image.{inputWidth, outputWidth, termWidth, INPUTS, OUTPUTS, INPUT-TABLE, OUTPUT-TABLE, inputPlace, outputPlace, termPlace, crispOf, tab, nameAt, termAt, singletonAt}
+use Rattle.model.specs.Image.{inputWidth, outputWidth, termWidth, INPUTS, OUTPUTS, INPUT-TABLE, OUTPUT-TABLE, inputPlace, outputPlace, termPlace, crispOf, tab, nameAt, pointAt, termAt, singletonAt}
 use Rattle.stored_names.specs.Stored.{wordsIn, apart}
+
+-- the positions of the points from i on, those before e
+abbrev pub positionsFrom : (ℕ → ℕ) → ℕ → ℕ → List ℤ
+positionsFrom w e i = map (λ p. p .at) (tab (pointAt w) (e - i) i)
 
 -- the names of k terms from s on are distinct
 unfoldable pub termsApart : (ℕ → ℕ) → ℕ → ℕ → Bool

@@ -1,16 +1,16 @@
 // Names, counts, terms and points of the inputs and outputs in a stored image.
 ghost use mathlib.Core.Path.{_≡_};
-ghost use mathlib.Core.Bool.{true};
+ghost use mathlib.Core.Bool.{true, _&&_};
 ghost use mathlib.Core.List.{[], map};
 ghost use Prim.Native.Nat.{_+_, _*_, _≤_, _<_};
 ghost use lib.ListN.{length};
 ghost use Rattle.model.specs.Basic.{all};
-ghost use Rattle.model.specs.WellFormed.{pointOk, rising, termOk, rangeOk, figureOk, defaultOk, singletonOk};
+ghost use Rattle.model.specs.WellFormed.{pointOk, inOrder, termOk, rangeOk, figureOk, defaultOk, singletonOk};
 ghost use Rattle.model.specs.Image.{wordAt, tab, pointAt, termAt, singletonAt};
 ghost use Rattle.header.specs.Header.{Heads, Holds};
 ghost use Rattle.layout.specs.Tables.{inputTermsIn};
 ghost use Rattle.layout.specs.Groups.{tablesOk, variablesOk};
-ghost use Rattle.stored_variables.specs.Stored.{termsApart, inputStored, rangeAt, defaultAt, outputStored, variablesApart};
+ghost use Rattle.stored_variables.specs.Stored.{positionsFrom, termsApart, inputStored, rangeAt, defaultAt, outputStored, variablesApart};
 use bounds::within;
 use header::Header;
 use model::Crisp;
@@ -47,19 +47,37 @@ fn points_ok(img: &[u8], h: Header, s: usize, k: usize) -> bool
     true
 }
 
-// The positions of the k points from s on rise.
-fn rising_ok(img: &[u8], h: Header, s: usize, k: usize) -> bool
+// Point i of those before e does not stand above the next one, and stands below the one after that.
+fn edge_ok(img: &[u8], h: Header, i: usize, e: usize) -> bool
+    requires { ⌜ Heads (wordAt (now img)) h × Holds (now img) h × (i + 1 < e) × (e ≤ h .points) ⌝ }
+    ensures { λ r. ⌜ inOrder [] (positionsFrom (wordAt (now (img .entry))) e i)
+        ≡ r && inOrder [] (positionsFrom (wordAt (now (img .entry))) e (i + 1)) ⌝ }
+{
+    let x = place_at(img, h, i);
+    if !crisp::not_above(x, place_at(img, h, i + 1)) {
+        return false;
+    }
+    if e <= i + 2 {
+        return true;
+    }
+    crisp::less(x, place_at(img, h, i + 2))
+}
+
+// The positions of the k points from s on do not fall, and no three are the same. Most rise, so that is asked first.
+fn order_ok(img: &[u8], h: Header, s: usize, k: usize) -> bool
     requires { ⌜ Heads (wordAt (now img)) h × Holds (now img) h × (s + k ≤ h .points) ⌝ }
-    ensures { λ r. ⌜ r ≡ rising [] (map (λ p. p .at) (tab (pointAt (wordAt (now (img .entry)))) k s)) ⌝ }
+    ensures { λ r. ⌜ r ≡ inOrder [] (map (λ p. p .at) (tab (pointAt (wordAt (now (img .entry)))) k s)) ⌝ }
 {
     let e = s + k;
     let mut i = s;
     while i + 1 < e {
         let x = place_at(img, h, i);
-        i += 1;
-        if !crisp::less(x, place_at(img, h, i)) {
-            return false;
+        if !crisp::less(x, place_at(img, h, i + 1)) {
+            if !edge_ok(img, h, i, e) {
+                return false;
+            }
         }
+        i += 1;
     }
     true
 }
@@ -81,7 +99,7 @@ fn term_ok(img: &[u8], h: Header, t: usize) -> bool
     if !points_ok(img, h, s, k) {
         return false;
     }
-    rising_ok(img, h, s, k)
+    order_ok(img, h, s, k)
 }
 
 // The k terms from s on.

@@ -4,11 +4,12 @@ use Prim.Native.Nat.{ℕ, _+_, _*_, _-_, _≤_, _<_, min, max}
 use native.Mathlib.Nat.{mul-le-mul-right, mul-add}
 use native.Mathlib.Omega.{arith}
 use lib.Dec.{le→leb, lt→ltb}
-use lib.IntN.{ℤ, pos, _+ℤ_, _-ℤ_, _*ℤ_}
+use lib.IntN.{ℤ, pos, _-ℤ_}
 use lib.Signed.{_≤ℤ_, _<ℤ_}
 use Rattle.model.specs.Bounds.{M}
 use Rattle.model.specs.Block.{Point}
 use Rattle.model.specs.Degrees.{nearest, onLine}
+use Rattle.model.specs.Edges.{WithinHalf}
 use Rattle.nearest.proofs.Laws.{nearest-le, nearest-ge, nearest-upper, nearest-lower}
 use Rattle.nearest.proofs.Difference.{sub-pos}
 use Rattle.crisp.specs.Crisp.{InCrisp, above}
@@ -56,12 +57,7 @@ module _ (x : ℤ) (p q : Point) (ix : InCrisp x) (ip : InCrisp (p .at)) (iq : I
         mixed-le u v w (p .degree) (q .degree) e s (max (p .degree) (q .degree)) (omega arith) (omega arith),
       )
 
-  -- twice the exact numerator over the width, each side multiplied out
-  pub within-half :
-      let w = q .at -ℤ p .at in
-      let n = pos (p .degree) *ℤ (q .at -ℤ x) +ℤ pos (q .degree) *ℤ (x -ℤ p .at) in
-      let r = pos (onLine x p q) in
-      ((pos 2 *ℤ (r *ℤ w)) ≤ℤ (pos 2 *ℤ n +ℤ w)) × ((pos 2 *ℤ n) <ℤ (pos 2 *ℤ (r *ℤ w) +ℤ w))
+  pub within-half : WithinHalf (onLine x p q) x p q
   within-half =
       let a = after in
       let b = before in

@@ -1,15 +1,15 @@
 use borrow.Author.Needs.{needs}
 use mathlib.Core.Path.{_≡_, refl, sym, ap, _∙_, subst}
-use mathlib.Core.Bool.{Bool, true, not}
+use mathlib.Core.Bool.{true}
 use Prim.Native.Nat.{ℕ, _+_, _-_, _≤_, _<_}
 use native.Mathlib.Omega.{arith}
-use lib.Dec.{T}
 use lib.IntN.{ℤ}
-use lib.Signed.{_≤ℤ_, _<ℤ_, ltZ, ltZ-yes, ltZ-no}
+use lib.Signed.{_≤ℤ_, _<ℤ_, ltZ}
 use Rattle.model.specs.Block.{Point}
 use Rattle.model.specs.Degrees.{onLine, degreeFrom}
 use Rattle.model.specs.Image.{wordAt, tab, pointAt}
 use Rattle.model.specs.WellFormed.{pointOk}
+use Rattle.laws.proofs.Comparison.{below, not-below}
 use Rattle.laws.proofs.Lists.{all-at}
 use Rattle.fuzzification.proofs.Entries.{fine, low}
 use Rattle.fuzzification.proofs.Points.{below-next, after-next, at-last}
@@ -71,7 +71,7 @@ on-line-requires c κs =
     let p = c .before .point-at in
     let q = c .point-at2 in
     let less = sym (compared (c .before .before .before)) ∙ c .before .before .if1 .taken in
-    let next : x <ℤ pointAt (wordAt (s .args .img .now)) (l .i + 1) .at = ltZ-yes (subst T (sym less) tt) in (
+    let next = below x (pointAt (wordAt (s .args .img .now)) (l .i + 1) .at) less in (
       (
         s .pre .0 .3,
         fine (p .result) (ap pointOk (p .ensures) ∙ point-fine s (l .i) (l .inv .0) (omega (arith, l .inv .1))),
@@ -109,7 +109,7 @@ loop-again c =
     let less = sym (compared (c .before)) ∙ c .if1 .left in (
       search needs,
       search needs,
-      ltZ-no (subst (λ (b : Bool). T (not b)) (sym less) tt),
+      not-below (a .x .0) (pointAt (wordAt (a .img .now)) (l .i + 1) .at) less,
       sym (after-next (pointAt (wordAt (a .img .now))) (a .x .0) (l .i) (a .end) (c .before .before .before .loop-test .taken) less) ∙ l .inv .3,
     )
 

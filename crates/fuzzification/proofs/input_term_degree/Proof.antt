@@ -4,19 +4,19 @@ use mathlib.Core.Bool.{true}
 use mathlib.Core.List.{List}
 use Prim.Native.Nat.{ℕ, _+_, _-_, _≤_, _<_}
 use native.Mathlib.Omega.{arith}
-use lib.Signed.{leZ}
+use lib.Signed.{ltZ}
 use Rattle.model.specs.Basic.{all}
 use Rattle.model.specs.Block.{Point}
 use Rattle.model.specs.Degrees.{termDegree}
 use Rattle.model.specs.Image.{wordAt, tab, pointAt, termPlace, termAt}
 use Rattle.model.specs.WellFormed.{pointOk}
+use Rattle.laws.proofs.Comparison.{not-below}
 use Rattle.laws.proofs.Lists.{all-at}
-use Rattle.crisp.proofs.Laws.{not-at-most}
 use Rattle.layout.specs.Tables.{termCount}
 use Rattle.layout.proofs.Within.{inputs-first, points-within}
 use Rattle.layout.proofs.Inputs.{points-few, points-ok}
 use Rattle.fuzzification.proofs.Entries.{low}
-use Rattle.fuzzification.proofs.Points.{at-first, after-first}
+use Rattle.fuzzification.proofs.Points.{below-first, after-first}
 use Rattle.fuzzification.proofs.input_term_degree.Statement.{statement}
 use Rattle.fuzzification.proofs.input_term_degree.Tie as tie
 
@@ -63,11 +63,11 @@ points-fine c =
     ap (all pointOk) (points-are c .0) ∙ points-ok (wordAt (s .args .img .now)) (s .args .t) (s .pre .1 .1)
 
 -- what the test compares
-compared : (c : tie.After-not-above) →
+compared : (c : tie.After-less) →
     let q = c .before .before in
     let a = start q .args in
-    c .not-above .result ≡ leZ (a .x .0) (pointAt (wordAt (a .img .now)) (q .whole-word2 .result) .at)
-compared c = c .not-above .ensures ∙ ap (leZ (start (c .before .before) .args .x .0)) (c .before .place-at .ensures)
+    c .less .result ≡ ltZ (a .x .0) (pointAt (wordAt (a .img .now)) (q .whole-word2 .result) .at)
+compared c = c .less .ensures ∙ ap (ltZ (start (c .before .before) .args .x .0)) (c .before .place-at .ensures)
 
 term-row-requires : tie.Need-term-row-requires
 term-row-requires c κs =
@@ -96,8 +96,8 @@ whole-word-requires-2 c κs =
 place-at-requires : tie.Need-place-at-requires
 place-at-requires c κs = let p = start c .pre .0 in (p .0, p .1, omega (arith, points-are c .1, ends c))
 
-not-above-requires : tie.Need-not-above-requires
-not-above-requires c κs = search needs
+less-requires : tie.Need-less-requires
+less-requires c κs = search needs
 
 degree-at-requires : tie.Need-degree-at-requires
 degree-at-requires c κs =
@@ -117,7 +117,7 @@ returns c =
     let e = c .degree-at .ensures in
     let z : first + 0 ≡ first = omega arith in
     let ok = subst (λ (k : ℕ). pointOk (f k) ≡ true) z (all-at pointOk f n first 0 (p .1) (points-fine q)) in (
-      e ∙ sym (at-first f x n first (p .1) (sym (compared (c .before .before)) ∙ c .before .if1 .taken)) ∙ ap (λ (ps : List Point). termDegree ps x) (p .0),
+      e ∙ sym (below-first f x n first (p .1) (sym (compared (c .before .before)) ∙ c .before .if1 .taken)) ∙ ap (λ (ps : List Point). termDegree ps x) (p .0),
       rw e (low (f first) ok),
     )
 
@@ -133,7 +133,7 @@ degree-from-requires c κs =
     let first = q .whole-word2 .result in
     let e : n ≡ first + n - first = omega arith in (
       (s .pre .0 .0, omega (arith, points-are q .1), ends q, s .pre .1 .0, s .pre .0 .1),
-      (not-at-most (s .args .x .0) (f first .at) (sym (compared (c .before)) ∙ c .if1 .left), subst (λ (k : ℕ). all pointOk (tab f k first) ≡ true) e (points-fine q)),
+      (not-below (s .args .x .0) (f first .at) (sym (compared (c .before)) ∙ c .if1 .left), subst (λ (k : ℕ). all pointOk (tab f k first) ≡ true) e (points-fine q)),
     )
 
 returns-2 : tie.Need-returns-2
@@ -159,7 +159,7 @@ input-term-degree-spec =
     add-whole-word-2
     whole-word-requires-2
     place-at-requires
-    not-above-requires
+    less-requires
     degree-at-requires
     returns
     add-degree-from

@@ -12,7 +12,7 @@ returns : tie.Need-returns
 returns c =
     let a = c .before .before .before .before .args in
     let g = c .before .before .before .before .pre in (
-      laws.point-none (a .s .now) (a .c) (c .refuse .result) (a .n) (a .last .0) _ (c .before .if1 .taken) (c .refuse .ensures .0 _ g)
+      laws.point-none (a .s .now) (a .c) (c .refuse .result) (a .n) (a .last) _ (c .before .if1 .taken) (c .refuse .ensures .0 _ g)
           (c .refuse .ensures .1 .1),
       λ z. absurd (true≢false (sym z)),
     )
@@ -24,7 +24,7 @@ returns-2 : tie.Need-returns-2
 returns-2 c =
     let a = c .before .before .before .before .before .args in
     let g = c .before .before .before .before .before .pre in (
-      laws.point-full (a .s .now) (a .c) (c .refuse2 .result) (a .n) (a .last .0) (c .before .before .if1 .left) _ (c .before .if2 .taken)
+      laws.point-full (a .s .now) (a .c) (c .refuse2 .result) (a .n) (a .last) (c .before .before .if1 .left) _ (c .before .if2 .taken)
           (c .refuse2 .ensures .0 _ g) (c .refuse2 .ensures .1 .1),
       λ z. absurd (true≢false (sym z)),
     )
@@ -40,7 +40,7 @@ returns-3 c =
     let a = c .before .before .before .before .before .before .args in
     let l = c .before .before .if2 .left in
     let d = c .before .advance in (
-      laws.point-good (a .s .now) (a .c) (d .result) (a .n) (a .last .0) (c .before .before .before .if1 .left) (c .point-from .result) l (d .ensures .0)
+      laws.point-good (a .s .now) (a .c) (d .result) (a .n) (a .last) (c .before .before .before .if1 .left) (c .point-from .result) l (d .ensures .0)
           (c .point-from .ensures),
       λ z. l,
     )

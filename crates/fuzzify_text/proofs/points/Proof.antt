@@ -15,13 +15,13 @@ abbrev shape : Cursor → ℕ → List Point → Shape
 shape c n ps = record { cursor = c; count = n; points = ps }
 
 abbrev Inv-loop : tie.InvT-loop
-Inv-loop s last₀ ps₀ n₀ d₀ last ps n d = laws.Going s (shape d₀ n₀ ps₀) (shape d n ps) (last .0)
+Inv-loop s last₀ ps₀ n₀ d₀ last ps n d = laws.Going s (shape d₀ n₀ ps₀) (shape d n ps) last
 
 abbrev μ-loop : tie.MeasureT-loop
 μ-loop s last₀ ps₀ n₀ d₀ last ps n d = left s d
 
 loop-holds : tie.Need-loop-holds Inv-loop μ-loop
-loop-holds c = laws.begins (c .before .args .s .now) (c .before .args .c) (c .before .pre)
+loop-holds c = laws.begins (c .before .args .s .now) (c .before .args .c) _ (c .before .pre)
 
 point-requires : tie.Need-point-requires Inv-loop μ-loop
 point-requires c κs = c .loop .inv .0 .fits
@@ -31,7 +31,7 @@ returns c =
     let l = c .before .before .before .before .loop in
     let a = c .before .before .before .before .before .before .args in
     let r = c .before .before .before .point in
-    laws.stops (a .s .now) (noPoints (a .c)) (shape (l .d) (l .n) (l .ps)) (l .last .0) (l .inv) (r .result) (r .ensures .0) (not-true _ (c .if1 .taken))
+    laws.stops (a .s .now) (noPoints (a .c)) (shape (l .d) (l .n) (l .ps)) (l .last) (l .inv) (r .result) (r .ensures .0) (not-true _ (c .if1 .taken))
 
 mul-ps : tie.Need-mul-ps Inv-loop μ-loop
 mul-ps c = omega (arith, c .before .before .before .before .point .ensures .1 (not-false _ (c .before .if1 .left)))
@@ -48,23 +48,23 @@ returns-2 c =
     let a = c .before .before .before .before .before .before .before .before .before .args in
     let r = c .before .before .before .before .before .before .point in
     let h = not-false _ (c .before .before .before .if1 .left) in
-    laws.leaves (a .s .now) (noPoints (a .c)) (shape (l .d) (l .n) (l .ps)) (l .last .0) (l .inv) (r .result) (r .ensures .0) h (r .ensures .1 h)
+    laws.leaves (a .s .now) (noPoints (a .c)) (shape (l .d) (l .n) (l .ps)) (l .last) (l .inv) (r .result) (r .ensures .0) h (r .ensures .1 h)
     (c .if2 .taken)
 
 advance-requires : tie.Need-advance-requires Inv-loop μ-loop
-advance-requires c κs = (c .before .before .before .before .before .before .before .point .ensures .0 .fits, λ z. omega (arith, c .before .if2 .left))
+advance-requires c κs = (c .before .before .before .before .before .before .before .before .point .ensures .0 .fits, λ z. omega (arith, c .before .before .if2 .left))
 
 loop-less : tie.Need-loop-less Inv-loop μ-loop
-loop-less c = omega (arith, c .advance .ensures .1 .0, c .before .before .before .before .before .before .before .before .point .ensures .0 .fewer)
+loop-less c = omega (arith, c .advance .ensures .1 .0, c .before .before .before .before .before .before .before .before .before .point .ensures .0 .fewer)
 
 loop-again : tie.Need-loop-again Inv-loop μ-loop
 loop-again c =
-    let l = c .before .before .before .before .before .before .before .before .before .loop in
-    let a = c .before .before .before .before .before .before .before .before .before .before .before .args in
-    let r = c .before .before .before .before .before .before .before .before .point in
-    let h = not-false _ (c .before .before .before .before .before .if1 .left) in
-    laws.goes (a .s .now) (noPoints (a .c)) (shape (l .d) (l .n) (l .ps)) (l .last .0) (l .inv) (r .result) (r .ensures .0) h (r .ensures .1 h)
-    (c .advance .result) (c .before .before .if2 .left) (c .advance .ensures .0) (c .advance .ensures .1 .0)
+    let l = c .before .before .before .before .before .before .before .before .before .before .loop in
+    let a = c .before .before .before .before .before .before .before .before .before .before .before .before .args in
+    let r = c .before .before .before .before .before .before .before .before .before .point in
+    let h = not-false _ (c .before .before .before .before .before .before .if1 .left) in
+    laws.goes (a .s .now) (noPoints (a .c)) (shape (l .d) (l .n) (l .ps)) (l .last) (l .inv) (r .result) (r .ensures .0) h (r .ensures .1 h)
+    (c .advance .result) (c .before .before .before .if2 .left) (c .advance .ensures .0) (c .advance .ensures .1 .0)
 
 pub points-spec : {M : Type 1} → statement M
 points-spec =

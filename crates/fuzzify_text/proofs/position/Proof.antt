@@ -4,7 +4,7 @@ use borrow.Author.Needs.{needs}
 use lib.IntN.{ℤ, pos}
 use Rattle.model.specs.Tokens.{valueOf}
 use Rattle.cursor.specs.View.{textOf}
-use Rattle.fuzzify_text.specs.Terms.{rises}
+use Rattle.fuzzify_text.specs.Terms.{mayStand}
 use Rattle.number_tokens.proofs.Laws.{value-here}
 use Rattle.fuzzify_text.proofs.Laws as laws
 use Rattle.fuzzify_text.proofs.position.Statement.{statement}
@@ -22,7 +22,7 @@ returns c =
     let c6 = c4 .before .before in
     let a = c6 .args in
     let g = c6 .pre in (
-      laws.position-none (a .s .now) (a .c) (c .refuse .result) (a .n) (a .last .0) _ (c4 .crisp-here .ensures .0) (c .before .if1 .taken)
+      laws.position-none (a .s .now) (a .c) (c .refuse .result) (a .n) (a .last) _ (c4 .crisp-here .ensures .0) (c .before .if1 .taken)
           (c .refuse .ensures .0 _ g),
       λ z. absurd (c .refuse .ensures .1 .1 z),
     )
@@ -46,8 +46,8 @@ returns-2 c =
     let z = c3 .if1 .left in
     let v = value-here (c6 .crisp-here .result .fault) (c6 .crisp-here .result .value .0) (valueOf (textOf (a .s .now) (a .c))) (pos 0)
     (c6 .crisp-here .ensures .1 .0) z in (
-      laws.position-good (a .s .now) (a .c) (c .advance .result) (a .n) (a .last .0) (λ b m. sym z ∙ c6 .crisp-here .ensures .0 b m)
-          (ap (λ (x : ℤ). rises (a .n) (a .last .0) x) (sym v) ∙ sym (c .before .before .may-stand .ensures) ∙ c .before .if2 .taken)
+      laws.position-good (a .s .now) (a .c) (c .advance .result) (a .n) (a .last) (λ b m. sym z ∙ c6 .crisp-here .ensures .0 b m)
+          (ap (λ (x : ℤ). mayStand (a .n) (a .last) x) (sym v) ∙ sym (c .before .before .may-stand .ensures) ∙ c .before .if2 .taken)
           (c .advance .ensures .0),
       λ q. v,
     )
@@ -65,8 +65,8 @@ returns-3 c =
     let z = c3 .if1 .left in
     let v = value-here (c6 .crisp-here .result .fault) (c6 .crisp-here .result .value .0) (valueOf (textOf (a .s .now) (a .c))) (pos 0)
     (c6 .crisp-here .ensures .1 .0) z in (
-      laws.position-low (a .s .now) (a .c) (c .refuse2 .result) (a .n) (a .last .0) (λ b m. sym z ∙ c6 .crisp-here .ensures .0 b m)
-          (ap (λ (x : ℤ). rises (a .n) (a .last .0) x) (sym v) ∙ sym (c .before .before .may-stand .ensures) ∙ c .before .if2 .left)
+      laws.position-low (a .s .now) (a .c) (c .refuse2 .result) (a .n) (a .last) (λ b m. sym z ∙ c6 .crisp-here .ensures .0 b m)
+          (ap (λ (x : ℤ). mayStand (a .n) (a .last) x) (sym v) ∙ sym (c .before .before .may-stand .ensures) ∙ c .before .if2 .left)
           (c .refuse2 .ensures .0 _ g),
       λ q. v,
     )

@@ -86,8 +86,8 @@ returns-3 c =
     let s = term-spelt w (start .args .t) _ _ _ o (c .before .before .before .before .before .whole-word .ensures .0) (c .before .before .whole-word2 .ensures .0) in
     sym (sym s ∙ one-fails _ 2 (sym (c .before .points-ok .ensures) ∙ not-true _ (c .if3 .taken)))
 
-rising-ok-requires : tie.Need-rising-ok-requires
-rising-ok-requires c κs =
+order-ok-requires : tie.Need-order-ok-requires
+order-ok-requires c κs =
     let first = c .before .before in
     let few = first .before .before .before in
     let row = few .before .before .before in
@@ -111,7 +111,7 @@ returns-4 c =
     let named = sym (first .before .name-ok .ensures) ∙ not-false _ (first .if1 .left) in
     let few = sym (second .before .within .ensures) ∙ not-false _ (second .if2 .left) in
     let points = sym (third .before .points-ok .ensures) ∙ not-false _ (third .if3 .left) in
-    c .rising-ok .ensures ∙ sym (sym s ∙ last-decides (take 3 tests) (getD tests 3 true) (named, (few, (points, tt))))
+    c .order-ok .ensures ∙ sym (sym s ∙ last-decides (take 3 tests) (getD tests 3 true) (named, (few, (points, tt))))
 
 pub term-ok-spec : {M : Type 1} → statement M
 term-ok-spec =
@@ -128,5 +128,5 @@ term-ok-spec =
     whole-word-requires-2
     points-ok-requires
     returns-3
-    rising-ok-requires
+    order-ok-requires
     returns-4)

@@ -1,0 +1,80 @@
+-- Positions of points: only the last two before a position count, so none falls and no three are the same; and the other
+-- way round.
+use mathlib.Core.Path.{_≡_, refl, sym, ap, _∙_, subst}
+use mathlib.Core.Bool.{true, _&&_}
+use mathlib.Core.List.{List, [], _∷_, _++_, append-assoc}
+use mathlib.Core.Logic.{_↔_}
+use lib.IntN.{ℤ}
+use lib.Signed.{ltZ, leZ, _≤ℤ_, _<ℤ_}
+use Rattle.model.specs.Block.{mayFollow}
+use Rattle.model.specs.WellFormed.{inOrder}
+use Rattle.model.specs.Edges.{TwoShare}
+use Rattle.laws.proofs.Comparison.{at-most, below, le-passes, lt-passes}
+use Rattle.laws.proofs.Tests.{both, and-i}
+
+pub follow-two : (b : List ℤ) (p q x : ℤ) → mayFollow ((b ++ (p ∷ [])) ++ (q ∷ [])) x ≡ leZ q x && ltZ p x
+unfolding mayFollow
+follow-two [] p q x = refl
+follow-two (a ∷ []) p q x = refl
+follow-two (a ∷ c ∷ []) p q x = refl
+follow-two (a ∷ c ∷ d ∷ b) p q x = follow-two (c ∷ d ∷ b) p q x
+
+pub order-two : (b : List ℤ) (p q : ℤ) (xs : List ℤ) → inOrder ((b ++ (p ∷ [])) ++ (q ∷ [])) xs ≡ inOrder (p ∷ q ∷ []) xs
+unfolding inOrder
+order-two b p q [] = refl
+order-two b p q (x ∷ xs) =
+    (λ j. follow-two b p q x j && order-two (b ++ (p ∷ [])) q x xs j)
+    ∙ sym (λ j. follow-two [] p q x j && order-two (p ∷ []) q x xs j)
+
+follow-le : (b : List ℤ) (p x : ℤ) → mayFollow (b ++ (p ∷ [])) x ≡ true → p ≤ℤ x
+unfolding mayFollow
+follow-le [] p x h = at-most p x h
+follow-le (a ∷ []) p x h = at-most p x (both (leZ p x) (ltZ a x) h .0)
+follow-le (a ∷ c ∷ []) p x h = follow-le (c ∷ []) p x h
+follow-le (a ∷ c ∷ d ∷ b) p x h = follow-le (c ∷ d ∷ b) p x h
+
+pub later : (b : List ℤ) (x : ℤ) (xs : List ℤ) → inOrder b (x ∷ xs) ≡ true → (mayFollow b x ≡ true) × (inOrder (b ++ (x ∷ [])) xs ≡ true)
+unfolding inOrder
+later b x xs h = both (mayFollow b x) (inOrder (b ++ (x ∷ [])) xs) h
+
+-- after the positions b: none falls, and of three in a row the last is above the first
+pub no-fall : (b os : List ℤ) (x y : ℤ) (rs : List ℤ) → inOrder b (os ++ (x ∷ y ∷ rs)) ≡ true → x ≤ℤ y
+no-fall b [] x y rs h = follow-le b x y (later (b ++ (x ∷ [])) y rs (later b x (y ∷ rs) h .1) .0)
+no-fall b (o ∷ os) x y rs h = no-fall (b ++ (o ∷ [])) os x y rs (later b o (os ++ (x ∷ y ∷ rs)) h .1)
+
+pub no-third : (b os : List ℤ) (x y z : ℤ) (rs : List ℤ) → inOrder b (os ++ (x ∷ y ∷ z ∷ rs)) ≡ true → x <ℤ z
+no-third b [] x y z rs h =
+    let f = later ((b ++ (x ∷ [])) ++ (y ∷ [])) z rs (later (b ++ (x ∷ [])) y (z ∷ rs) (later b x (y ∷ z ∷ rs) h .1) .1) .0 in
+    below x z (both (leZ y z) (ltZ x z) (sym (follow-two b x y z) ∙ f) .1)
+no-third b (o ∷ os) x y z rs h = no-third (b ++ (o ∷ [])) os x y z rs (later b o (os ++ (x ∷ y ∷ z ∷ rs)) h .1)
+
+two-share : (xs : List ℤ) → inOrder [] xs ≡ true → TwoShare xs
+two-share xs h = record {
+  no-fall = λ os x y rs e. no-fall [] os x y rs (ap (inOrder []) (sym e) ∙ h);
+  no-third = λ os x y z rs e. no-third [] os x y z rs (ap (inOrder []) (sym e) ∙ h);
+}
+
+-- back
+without-first : (p : ℤ) (xs : List ℤ) → TwoShare (p ∷ xs) → TwoShare xs
+without-first p xs s = record {
+  no-fall = λ os x y rs e. s .no-fall (p ∷ os) x y rs (ap (λ (l : List ℤ). p ∷ l) e);
+  no-third = λ os x y z rs e. s .no-third (p ∷ os) x y z rs (ap (λ (l : List ℤ). p ∷ l) e);
+}
+
+may-follow : (b : List ℤ) (x : ℤ) (xs : List ℤ) → TwoShare (b ++ (x ∷ xs)) → mayFollow b x ≡ true
+unfolding mayFollow
+may-follow [] x xs s = refl
+may-follow (p ∷ []) x xs s = le-passes p x (s .no-fall [] p x xs refl)
+may-follow (p ∷ q ∷ []) x xs s =
+    and-i (leZ q x) (ltZ p x) (le-passes q x (s .no-fall (p ∷ []) q x xs refl)) (lt-passes p x (s .no-third [] p q x xs refl))
+may-follow (p ∷ q ∷ r ∷ b) x xs s = may-follow (q ∷ r ∷ b) x xs (without-first p (q ∷ r ∷ (b ++ (x ∷ xs))) s)
+
+in-order : (b xs : List ℤ) → TwoShare (b ++ xs) → inOrder b xs ≡ true
+unfolding inOrder
+in-order b [] s = refl
+in-order b (x ∷ xs) s =
+    and-i (mayFollow b x) (inOrder (b ++ (x ∷ [])) xs) (may-follow b x xs s)
+    (in-order (b ++ (x ∷ [])) xs (subst TwoShare (sym (append-assoc b (x ∷ []) xs)) s))
+
+pub places : (xs : List ℤ) → inOrder [] xs ≡ true ↔ TwoShare xs
+places xs = (two-share xs, in-order [] xs)
