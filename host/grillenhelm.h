@@ -42,7 +42,7 @@ extern "C" {
  *    4  a name that is too long, or something given twice
  *    5  a name that is not declared for this use
  *    6  more than a bound allows
- *    7  a position that does not rise or is outside of RANGE, or fewer than two points
+ *    7  a position that falls, is the third in one place or is outside of RANGE, or fewer than two points
  *    8  AND and OR that are no pair
  *    9  a declared variable lacks its part
  *   10  the buffer is too short; the place is the length that is needed

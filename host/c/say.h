@@ -11,7 +11,7 @@ static const char *words[] = {
     "a name that is too long, or something given twice",
     "a name that is not declared for this use",
     "more than a bound allows",
-    "a position that does not rise or is outside of RANGE, or fewer than two points",
+    "a position that falls, is the third in one place or is outside of RANGE, or fewer than two points",
     "AND and OR that are no pair",
     "a declared variable lacks its part",
     "the buffer is too short",

@@ -49,7 +49,7 @@ pub enum Refusal {
         /// Where the extra item begins.
         at: usize,
     },
-    /// 7: a position that does not rise or is outside of RANGE, or fewer than two points.
+    /// 7: a position that falls, is the third in one place or is outside of RANGE, or fewer than two points.
     WrongPosition {
         /// Where the number begins, or the semicolon that comes too early.
         at: usize,
@@ -161,7 +161,7 @@ impl Refusal {
             Refusal::Undeclared { .. } => (5, "a name that is not declared for this use"),
             Refusal::TooMany { .. } => (6, "more than a bound allows"),
             Refusal::WrongPosition { .. } => {
-                (7, "a position that does not rise or is outside of RANGE, or fewer than two points")
+                (7, "a position that falls, is the third in one place or is outside of RANGE, or fewer than two points")
             }
             Refusal::Unpaired { .. } => (8, "AND and OR that are no pair"),
             Refusal::PartMissing { .. } => (9, "a declared variable lacks its part"),

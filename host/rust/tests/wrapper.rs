@@ -1,5 +1,5 @@
-//! The safe wrapper: what the examples print, every refusal by name and in words, texts in chunks, and answers of each
-//! mark.
+//! The safe wrapper: what the examples print, every refusal by name and in words, texts in chunks, answers of each mark
+//! and at sharp edges.
 use grillenhelm::{Image, Mark, Reading, Refusal, TextChunks};
 
 #[allow(dead_code)]
@@ -28,13 +28,14 @@ fn refusal_of(text: &str) -> Refusal {
 #[test]
 fn refusals_of_the_reader_have_their_names_and_places() {
     type Named = fn(usize) -> Refusal;
-    let changes: [(&str, &str, &str, Named); 8] = [
+    let changes: [(&str, &str, &str, Named); 9] = [
         ("VAR_INPUT", "VAR", "VAR sharp", |at| Refusal::WrongToken { at }),
         ("60.0", "60.0000", "60.0000", |at| Refusal::WrongNumber { at }),
         ("high := 100", "low := 100", "low := 100", |at| Refusal::LongOrRepeated { at }),
         ("IS high", "IS lower", "lower", |at| Refusal::Undeclared { at }),
         ("(60.0,1)", "(60,1),(61,1),(62,1),(63,1)", "(63,1)", |at| Refusal::TooMany { at }),
-        ("60.0", "20", "20,1", |at| Refusal::WrongPosition { at }),
+        ("60.0", "19", "19,1", |at| Refusal::WrongPosition { at }),
+        ("(60.0,1)", "(20,1),(+20,0)", "+20,0", |at| Refusal::WrongPosition { at }),
         ("ACCU", "AND : MIN; OR : ASUM; ACCU", "ASUM", |at| Refusal::Unpaired { at }),
         ("sharp: REAL", "sharp, dull: REAL", "END_FUNCTION_BLOCK", |at| Refusal::PartMissing { at }),
     ];
@@ -123,6 +124,38 @@ fn marks() {
     let image = Image::read(text.replace(":= NC", ":= -2.5").as_bytes()).unwrap();
     let answers = image.fresh_record().evaluate(&[Reading::Real(20.0)]).unwrap();
     assert_eq!((answers.len(), answers[0].mark, answers[0].value), (1, Mark::Default, -2.5));
+}
+
+/// Thousandths and sums of heights at the edges of warmth (5 and 40) and of light (100, 200 and 900), and next to them.
+#[test]
+fn sharp_edges() {
+    let image = Image::read(include_bytes!("../../../examples/rectangle.fcl")).unwrap();
+    assert_eq!(image.listing(), include_str!("../../../examples/rectangle.listing"));
+    assert_eq!(Image::read(image.listing().as_bytes()), Ok(image.clone()));
+    let mut record = image.fresh_record();
+    let mut call = |warmth, light, thousandths, sum| {
+        let answer = record.evaluate(&[Reading::Real(warmth), Reading::Int(light)]).unwrap()[0];
+        let expected = (Mark::Fired, thousandths, sum);
+        assert_eq!((answer.mark, answer.thousandths, answer.sum), expected, "{warmth}, {light}");
+    };
+    // At a light of 400 only `lit` is 1: `full` where `rated` is 1, `none` where it is 0. 4.9996 becomes 5.
+    for (warmth, thousandths) in
+        [(4.999, 0), (4.9996, 100_000), (5.0, 100_000), (5.001, 100_000), (39.999, 100_000), (40.0, 0), (40.001, 0)]
+    {
+        call(warmth, 400, thousandths, 1_000_000);
+    }
+    // `dim` alone, 1 up to its edge and 0.5 falling from there; from 200 on `lit`.
+    call(20.0, 99, 0, 1_000_000);
+    call(20.0, 100, 0, 500_000);
+    call(20.0, 101, 0, 495_000);
+    call(20.0, 199, 0, 5_000);
+    call(20.0, 200, 100_000, 1_000_000);
+    call(20.0, 201, 100_000, 1_000_000);
+    // `glaring` takes from `full` what it gives to `none`: 0.25, then 498,333 millionths, then all.
+    call(20.0, 750, 75_000, 1_000_000);
+    call(20.0, 899, 50_167, 1_000_000);
+    call(20.0, 900, 0, 1_000_000);
+    call(20.0, 901, 0, 1_000_000);
 }
 
 /// The RANGE keeps 0 out, so the fresh record starts at its end nearest 0.

@@ -1,6 +1,7 @@
 //! Blocks of all sizes, and blocks that break one of document 01's rules.
 use crate::block::{Block, Condition, Input, Level, Output, Rule, Term};
 use crate::random::Random;
+use std::iter::repeat_n;
 
 const CRISP: i64 = 1_000_000_000;
 
@@ -149,17 +150,46 @@ fn degree(random: &mut Random) -> i64 {
     }
 }
 
-fn points(random: &mut Random, count: usize) -> Vec<(i64, i64)> {
+/// A crisp value that a reading of an INT can be.
+fn whole(random: &mut Random) -> i64 {
+    let whole = match random.below(4) {
+        0 => *random.pick(&[-32_768, 32_767]),
+        1 => random.between(-32_768, 32_767),
+        _ => random.between(-9, 9),
+    };
+    1000 * whole
+}
+
+/// How many points stand at each position of a term, front to back; two make an edge.
+fn shape(random: &mut Random, count: usize) -> Vec<usize> {
+    let mut shape = Vec::new();
+    let mut left = count;
+    while left > 0 {
+        let here = if left > 1 && random.once_in(3) { 2 } else { 1 };
+        shape.push(here);
+        left -= here;
+    }
+    shape
+}
+
+/// Points of a term of an INT stand mostly where a reading can be.
+fn points(random: &mut Random, count: usize, int: bool) -> Vec<(i64, i64)> {
+    let shape = shape(random, count);
+    let near = if int { whole(random) } else { crisp(random, -CRISP, CRISP - 10) };
     let mut positions = Vec::new();
-    let near = crisp(random, -CRISP, CRISP - 10);
-    while positions.len() < count {
-        let next = if random.once_in(4) { near + random.between(0, 9) } else { crisp(random, -CRISP, CRISP) };
+    while positions.len() < shape.len() {
+        let next = match random.below(4) {
+            0 => near + random.between(0, 9),
+            1 | 2 if int => whole(random),
+            _ => crisp(random, -CRISP, CRISP),
+        };
         if !positions.contains(&next) {
             positions.push(next);
         }
     }
     positions.sort_unstable();
-    positions.into_iter().map(|position| (position, degree(random))).collect()
+    let all = positions.into_iter().zip(shape).flat_map(|(position, points)| repeat_n(position, points));
+    all.map(|position| (position, degree(random))).collect()
 }
 
 /// How many of each thing a block has.
@@ -216,13 +246,14 @@ pub fn block(random: &mut Random) -> Block {
     let mut variables = names(random, sizes.inputs + sizes.outputs);
     let mut inputs = Vec::new();
     for _ in 0..sizes.inputs {
+        let int = random.once_in(3);
         let count = random.size(sizes.terms.0, sizes.terms.1);
         let mut terms = Vec::new();
         for name in names(random, count) {
             let count = random.size(sizes.points.0, sizes.points.1);
-            terms.push(Term { name, points: points(random, count) });
+            terms.push(Term { name, points: points(random, count, int) });
         }
-        inputs.push(Input { name: variables.pop().unwrap_or_default(), int: random.once_in(3), terms });
+        inputs.push(Input { name: variables.pop().unwrap_or_default(), int, terms });
     }
     let mut outputs = Vec::new();
     for _ in 0..sizes.outputs {
@@ -404,7 +435,7 @@ fn strain_counts(random: &mut Random, block: &mut Block) {
         }
         _ => {
             let count = *random.pick(&[0, 1, 4, 5, 6]);
-            any_term(random, block).points = points(random, count);
+            any_term(random, block).points = points(random, count, false);
         }
     }
 }
@@ -428,7 +459,7 @@ fn strain_names(random: &mut Random, block: &mut Block) {
 fn strain_numbers(random: &mut Random, block: &mut Block) {
     let output = random.below(block.outputs.len());
     let range = block.outputs[output].range.unwrap_or((-CRISP, CRISP));
-    match random.below(7) {
+    match random.below(10) {
         0 | 1 => {
             if let [first, .., last] = &mut any_term(random, block).points[..] {
                 match random.below(3) {
@@ -452,8 +483,30 @@ fn strain_numbers(random: &mut Random, block: &mut Block) {
             block.outputs[output].terms[term].points = vec![(near_ends(random, range), 1000)];
         }
         5 => block.outputs[output].default = Some(near_ends(random, range)),
-        _ => block.outputs[output].range = Some((outside(random), crisp(random, -CRISP, CRISP))),
+        6 => block.outputs[output].range = Some((outside(random), crisp(random, -CRISP, CRISP))),
+        _ => crowd(random, block),
     }
+}
+
+/// Gives a term three or four points at one position, a fall behind an edge, or edges that may stand.
+pub fn crowd(random: &mut Random, block: &mut Block) {
+    const STEPS: [&[i64]; 11] = [
+        &[0, 0, 0],
+        &[0, 0, 0, 1],
+        &[0, 1, 1, 1],
+        &[0, 0, 0, 0],
+        &[1, 1, 0],
+        &[1, 1, 0, 2],
+        &[0, 1, 1, 0],
+        &[0, 2, 2, 1],
+        &[0, 0],
+        &[0, 1, 1, 2],
+        &[0, 0, 1, 1],
+    ];
+    let first = crisp(random, -CRISP, CRISP - 2000);
+    let step = *random.pick(&[1, 1, 2, 1000]);
+    let points = random.pick(&STEPS).iter().map(|&steps| (first + steps * step, degree(random))).collect();
+    any_term(random, block).points = points;
 }
 
 fn strain_rules(random: &mut Random, block: &mut Block) {

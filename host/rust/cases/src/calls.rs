@@ -72,7 +72,7 @@ fn near_points(random: &mut Random, block: &Block, input: usize) -> i64 {
     let next = points.get(point + 1).unwrap_or(&points[point]).0;
     match random.below(3) {
         0 => points[point].0,
-        1 => points[point].0 + random.between(-2, 2),
+        1 => points[point].0 + random.between(-1, 1),
         _ => random.between(points[point].0, next),
     }
 }

@@ -1,25 +1,27 @@
 //! Stored images: of blocks that keep or break a rule, and damaged ones.
 use crate::block::{Block, WIDTHS};
-use crate::blocks::{block, strain, KEYWORDS};
+use crate::blocks::{block, crowd, strain, KEYWORDS};
 use crate::random::Random;
 
 pub fn image(random: &mut Random) -> Vec<u8> {
     let mut subject = block(random);
-    let kind = random.below(12);
+    let kind = random.below(13);
     if (4..=6).contains(&kind) {
         for _ in 0..random.size(1, 2) {
             strain(random, &mut subject);
         }
     }
+    if kind == 12 {
+        crowd(random, &mut subject);
+    }
     let mut image = subject.image();
     match kind {
-        0 => {}
+        0 | 4 | 5 | 12 => {}
         1..=3 | 6 => {
             for _ in 0..random.size(1, 2) {
                 damage_word(random, &mut image);
             }
         }
-        4 | 5 => {}
         7 => damage_rows(random, &mut image),
         8 => resize(random, &mut image),
         9 => damage_condition(random, &mut image, &subject),
@@ -28,17 +30,33 @@ pub fn image(random: &mut Random) -> Vec<u8> {
     image
 }
 
-fn word(image: &[u8], at: usize) -> i32 {
+pub fn word(image: &[u8], at: usize) -> i32 {
     i32::from_le_bytes([image[4 * at], image[4 * at + 1], image[4 * at + 2], image[4 * at + 3]])
 }
 
-fn set_word(image: &mut [u8], at: usize, word: i32) {
+pub fn set_word(image: &mut [u8], at: usize, word: i32) {
     image[4 * at..4 * at + 4].copy_from_slice(&word.to_le_bytes());
 }
 
 /// The first word and the words of a row of a table, and how many rows it has, by its header.
 fn table(image: &[u8], table: usize) -> (usize, usize, usize) {
     (word(image, 9 + table) as usize, WIDTHS[table], word(image, 2 + table) as usize)
+}
+
+/// For each input term its input and the words of its positions, each with the degree behind it. The image may be
+/// damaged; words past its end are left out.
+pub fn positions(image: &[u8]) -> Vec<(usize, Vec<usize>)> {
+    let index = |at: usize| if at < image.len() / 4 { word(image, at) as u32 as usize } else { 0 };
+    let row = |table: usize, row: usize| index(9 + table) + row * WIDTHS[table];
+    let rows = |at: usize, most: usize| index(at)..index(at) + index(at + 1).min(most);
+    let mut positions = Vec::new();
+    for input in 0..index(2).min(8) {
+        for term in rows(row(0, input) + 5, 7) {
+            let points = rows(row(2, term) + 4, 4).map(|point| row(3, point));
+            positions.push((input, points.filter(|at| at + 1 < image.len() / 4).collect()));
+        }
+    }
+    positions
 }
 
 pub fn damage_word(random: &mut Random, image: &mut [u8]) {

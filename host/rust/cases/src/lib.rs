@@ -41,6 +41,15 @@ impl Reading {
     pub fn int(int: i16) -> Reading {
         Reading { kind: 2, real: 0, int }
     }
+
+    /// The crisp value that it becomes, if any.
+    pub fn crisp(&self) -> Option<i32> {
+        match self.kind {
+            1 => reference::thousandths(f32::from_bits(self.real)),
+            2 => Some(1000 * i32::from(self.int)),
+            _ => None,
+        }
+    }
 }
 
 /// The public functions of documents 01 and 02. A place of refusal 10 is the needed length.

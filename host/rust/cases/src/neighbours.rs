@@ -8,7 +8,7 @@ use crate::{Case, Room};
 const TEXT: &str =
     "FUNCTION_BLOCK f VAR_INPUT a , b : REAL ; c : INT ; END_VAR VAR_OUTPUT x : REAL ; y : REAL ; END_VAR \
 FUZZIFY a TERM t := ( -1.5 , 0 ) , ( 20 , 1 ) ; TERM u := ( 0 , 1 ) , ( 1 , 0.25 ) , ( 2 , 0 ) ; END_FUZZIFY \
-FUZZIFY c TERM t := ( 0 , 0 ) , ( 1 , 1 ) , ( 2 , 1 ) , ( 3 , 0 ) ; END_FUZZIFY \
+FUZZIFY c TERM t := ( 0 , 0 ) , ( 0 , 1 ) , ( 1 , 1 ) , ( 1 , 0 ) ; END_FUZZIFY \
 FUZZIFY b TERM v := ( +0.001 , 1 ) , ( 0.002 , 0 ) ; END_FUZZIFY \
 DEFUZZIFY x RANGE ( -5 .. 100 ) ; TERM t := -5 ; TERM w := 100 ; METHOD : CoGS ; DEFAULT := 7 ; END_DEFUZZIFY \
 DEFUZZIFY y TERM t := 0 ; METHOD : CoGS ; DEFAULT := NC ; END_DEFUZZIFY \
@@ -84,6 +84,7 @@ fn by_cuts() -> impl Iterator<Item = Case> {
         include_str!("../../../../examples/trust.fcl").to_string(),
         include_str!("../../../../examples/crane.fcl").to_string(),
         include_str!("../../../../examples/everything.fcl").to_string(),
+        include_str!("../../../../examples/rectangle.fcl").to_string(),
         TEXT.to_string(),
         TEXT.replacen("FUZZIFY c", "FUZZIFY d", 1),
         TEXT.replacen("( +0.001", "(* +0.001", 1),

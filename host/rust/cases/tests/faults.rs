@@ -1,4 +1,5 @@
 //! The comparison finds an implementation that differs from the reference in one thing.
+use cases::images::{positions, set_word, word};
 use cases::{compare, Answer, Case, Evaluated, Held, Implementation, Mark, Reading, Reference, Refusal, Tally};
 
 #[derive(Clone, Copy, PartialEq, Debug)]
@@ -29,6 +30,15 @@ enum Fault {
     TenIsNoEnd,
     TenAfterTheEnd,
     ImageAfterTheEnd,
+    EarlierDegreeAtEdge,
+    EarlierDegreeAtFirstEdge,
+    EarlierDegreeAtMiddleEdge,
+    LaterPointOfLastEdgeLeftOut,
+    EarlierPointOfEdgeLeftOut,
+    EdgeRefusedByReader,
+    EdgeRefusedByCheck,
+    ThirdAtOnePositionPasses,
+    FallBehindEdgePasses,
 }
 
 struct Faulty(Fault);
@@ -50,7 +60,77 @@ fn kept(text: &[u8]) -> Option<Refusal> {
     refusal.filter(|refusal| refusal.number != 10 && refusal.place < Some(text.len()))
 }
 
+/// Two points of an input term at one position.
+struct Edge {
+    input: usize,
+    position: i32,
+    /// The words of their degrees.
+    earlier: usize,
+    later: usize,
+    is_first: bool,
+    is_last: bool,
+}
+
+fn edges(image: &[u8]) -> Vec<Edge> {
+    let mut edges = Vec::new();
+    for (input, words) in positions(image) {
+        for (nth, pair) in words.windows(2).enumerate() {
+            let position = word(image, pair[0]);
+            if position == word(image, pair[1]) {
+                let (is_first, is_last) = (nth == 0, nth + 2 == words.len());
+                edges.push(Edge { input, position, earlier: pair[0] + 1, later: pair[1] + 1, is_first, is_last });
+            }
+        }
+    }
+    edges
+}
+
 impl Faulty {
+    /// An image that gives at these readings what the fault makes of this one.
+    fn wrong_edges(&self, image: &[u8], readings: &[Reading; 8]) -> Vec<u8> {
+        let mut wrong = image.to_vec();
+        if Reference.check(image).is_err() {
+            return wrong;
+        }
+        for edge in edges(image) {
+            let is_here = readings[edge.input].crisp() == Some(edge.position);
+            let is_lost = match self.0 {
+                Fault::EarlierDegreeAtEdge => is_here,
+                Fault::EarlierDegreeAtFirstEdge => is_here && edge.is_first,
+                Fault::EarlierDegreeAtMiddleEdge => is_here && !edge.is_first && !edge.is_last,
+                Fault::LaterPointOfLastEdgeLeftOut => edge.is_last,
+                _ => false,
+            };
+            if is_lost {
+                set_word(&mut wrong, edge.later, word(image, edge.earlier));
+            }
+            if self.0 == Fault::EarlierPointOfEdgeLeftOut {
+                set_word(&mut wrong, edge.earlier, word(image, edge.later));
+            }
+        }
+        wrong
+    }
+
+    /// The image without what the load check overlooks.
+    fn righted(&self, image: &[u8]) -> Vec<u8> {
+        let mut righted = image.to_vec();
+        for (_, words) in positions(image) {
+            for three in words.windows(3) {
+                let [a, b, c] = [0, 1, 2].map(|nth| word(image, three[nth]));
+                match self.0 {
+                    Fault::ThirdAtOnePositionPasses if a == b && b == c => {
+                        set_word(&mut righted, three[0], a.wrapping_sub(1))
+                    }
+                    Fault::FallBehindEdgePasses if a == b && c < b => {
+                        set_word(&mut righted, three[2], b.wrapping_add(1))
+                    }
+                    _ => {}
+                }
+            }
+        }
+        righted
+    }
+
     fn answers(&self, answers: [Answer; 6]) -> [Answer; 6] {
         answers.map(|mut answer| {
             match self.0 {
@@ -67,6 +147,10 @@ impl Implementation for Faulty {
     type Chunks = Chunks;
 
     fn read_into(&self, text: &[u8], image: &mut [u8]) -> Result<usize, Refusal> {
+        let has_edge = || reference::read(text).is_ok_and(|image| !edges(&image).is_empty());
+        if self.0 == Fault::EdgeRefusedByReader && has_edge() {
+            return Err(Refusal { number: 7, place: Some(0) });
+        }
         let mut answer = Reference.read_into(text, image);
         match (self.0, &mut answer) {
             (Fault::BytePastImage, Ok(length)) if *length < image.len() => image[*length] ^= 1,
@@ -78,7 +162,12 @@ impl Implementation for Faulty {
     }
 
     fn check(&self, image: &[u8]) -> Result<(), Refusal> {
-        Reference.check(image).or_else(|refusal| if self.0 == Fault::ChecksNothing { Ok(()) } else { Err(refusal) })
+        match (self.0, Reference.check(image)) {
+            (Fault::ChecksNothing, _) => Ok(()),
+            (Fault::EdgeRefusedByCheck, Ok(())) if !edges(image).is_empty() => Err(Refusal { number: 11, place: None }),
+            (_, Err(_)) => Reference.check(&self.righted(image)),
+            (_, accepted) => accepted,
+        }
     }
 
     fn list_into(&self, image: &[u8], listing: &mut [u8]) -> Result<usize, Refusal> {
@@ -104,7 +193,8 @@ impl Implementation for Faulty {
         if self.0 == Fault::UnknownKindTakenAsReal {
             readings.iter_mut().filter(|reading| reading.kind > 2).for_each(|reading| reading.kind = 1);
         }
-        let call = Reference.evaluate(image, &readings, count, held);
+        let image = self.wrong_edges(image, &readings);
+        let call = Reference.evaluate(&image, &readings, count, held);
         Evaluated { answers: self.answers(call.answers), ..call }
     }
 
@@ -210,6 +300,15 @@ fn every_fault_is_found() {
         Fault::TenIsNoEnd,
         Fault::TenAfterTheEnd,
         Fault::ImageAfterTheEnd,
+        Fault::EarlierDegreeAtEdge,
+        Fault::EarlierDegreeAtFirstEdge,
+        Fault::EarlierDegreeAtMiddleEdge,
+        Fault::LaterPointOfLastEdgeLeftOut,
+        Fault::EarlierPointOfEdgeLeftOut,
+        Fault::EdgeRefusedByReader,
+        Fault::EdgeRefusedByCheck,
+        Fault::ThirdAtOnePositionPasses,
+        Fault::FallBehindEdgePasses,
     ] {
         assert!(is_found(fault), "{fault:?}");
     }

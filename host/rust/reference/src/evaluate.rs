@@ -148,17 +148,13 @@ impl Stored<'_> {
         degrees
     }
 
-    fn point(&self, point: usize) -> (i64, i64) {
-        let row = self.row(Table::Points, point);
-        (self.word(row).into(), self.word(row + 1).into())
-    }
-
     fn term_degree(&self, term: usize, x: i64) -> i64 {
-        let points = self.range_at(self.row(Table::Terms, term) + 4);
+        let points = self.points_of(term);
         let (mut x1, mut d1) = self.point(points.start);
-        if x <= x1 {
+        if x < x1 {
             return d1;
         }
+        // (x1, d1) is the last point so far that is not above x: of two at x the later one.
         for point in points.skip(1) {
             let (x2, d2) = self.point(point);
             if x < x2 {
@@ -212,7 +208,7 @@ impl Stored<'_> {
     fn answer(&self, output: usize, heights: &[i64], held: i32) -> Answer {
         let (mut sum, mut moment) = (0, 0);
         for term in self.output_terms_of(output) {
-            let (position, _) = self.point(self.index(self.row(Table::Terms, term) + 4));
+            let (position, _) = self.point(self.points_of(term).start);
             sum += heights[term];
             moment += position * heights[term];
         }

@@ -108,7 +108,7 @@ impl Lister<'_> {
         self.put("\n");
         for term in self.image.input_terms_of(input) {
             self.term_head(term);
-            for (nth, point) in self.points(term).enumerate() {
+            for (nth, point) in self.image.points_of(term).enumerate() {
                 let row = self.image.row(Table::Points, point);
                 self.put(if nth == 0 { "(" } else { ", (" });
                 self.crisp(row);
@@ -127,10 +127,6 @@ impl Lister<'_> {
         self.put(" := ");
     }
 
-    fn points(&self, term: usize) -> Range<usize> {
-        self.image.range_at(self.image.row(Table::Terms, term) + 4)
-    }
-
     fn defuzzify(&mut self, output: usize) {
         self.put("DEFUZZIFY ");
         self.name(Table::Outputs, output);
@@ -144,7 +140,7 @@ impl Lister<'_> {
         }
         for term in self.image.output_terms_of(output) {
             self.term_head(term);
-            self.crisp(self.image.row(Table::Points, self.points(term).start));
+            self.crisp(self.image.row(Table::Points, self.image.points_of(term).start));
             self.put(";\n");
         }
         self.put("  METHOD : CoGS;\n  DEFAULT := ");

@@ -215,7 +215,10 @@ impl Reader<'_> {
             self.refuse_if(count == bounds::POINTS, 6)?;
             self.advance();
             let crisp = self.crisp()?;
-            self.refuse_if(count > 0 && crisp <= points[count - 1].0, 7)?;
+            let falls = count > 0 && crisp < points[count - 1].0;
+            // Positions do not fall, so the one in between is the same too.
+            let third = count > 1 && crisp == points[count - 2].0;
+            self.refuse_if(falls || third, 7)?;
             self.advance();
             self.want(Kind::Comma)?;
             points[count] = (crisp, self.degree()?);

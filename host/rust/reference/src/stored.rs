@@ -115,6 +115,17 @@ impl<'a> Stored<'a> {
         self.range_at(row + 4)
     }
 
+    pub(crate) fn points_of(&self, term: usize) -> Range<usize> {
+        let row = self.row(Table::Terms, term);
+        self.range_at(row + 4)
+    }
+
+    /// Crisp and degree.
+    pub(crate) fn point(&self, point: usize) -> (i64, i64) {
+        let row = self.row(Table::Points, point);
+        (self.word(row).into(), self.word(row + 1).into())
+    }
+
     /// The rows that a first and a count name.
     pub(crate) fn range_at(&self, at: usize) -> Range<usize> {
         let first = self.index(at);
@@ -263,13 +274,12 @@ impl<'a> Stored<'a> {
 
     /// The points of an input term.
     fn is_membership(&self, term: usize) -> bool {
-        let mut last = None;
-        self.range_at(self.row(Table::Terms, term) + 4).all(|point| {
-            let row = self.row(Table::Points, point);
-            let crisp = self.word(row);
-            let rises = last.is_none_or(|last| last < crisp);
-            last = Some(crisp);
-            rises && is_crisp(crisp.into()) && is_written_degree(self.word(row + 1).into())
+        let points = self.points_of(term);
+        points.clone().all(|point| {
+            let (crisp, degree) = self.point(point);
+            let falls = point > points.start && crisp < self.point(point - 1).0;
+            let third = point > points.start + 1 && crisp == self.point(point - 2).0;
+            !falls && !third && is_crisp(crisp) && is_written_degree(degree)
         })
     }
 

@@ -1,5 +1,5 @@
 //! Document 01's worked example, its values to check and the errors the trade has made; of document 02, what each
-//! sentence of W-201 says.
+//! sentence of W-201 and of W-203 says.
 use reference::*;
 
 const TEXT: &str = "FUNCTION_BLOCK trust VAR_INPUT sharp: REAL; END_VAR VAR_OUTPUT grade: REAL; END_VAR \
@@ -232,7 +232,7 @@ fn numbers_in_text() {
     refuses("RULE 1:", "RULE 65536:", 3, 5);
     refuses("RULE 2:", "RULE 0001:", 4, 5);
     refuses("(60.0,1)", "(60.0,1.001)", 3, 6);
-    refuses("(60.0,1)", "(20.0,1)", 7, 1);
+    refuses("(60.0,1)", "(19.0,1)", 7, 1);
     refuses(",(60.0,1)", "", 7, 0);
     refuses("(20,0),(60.0,1)", "", 2, 0);
 }
@@ -442,4 +442,155 @@ fn chunks_that_pass_the_limit() {
     let mut text = Chunks::default();
     assert_eq!(text.append(&[b' '; 200_000]), too_long);
     is_over(text);
+}
+
+/// The degrees of a term with these points at some readings.
+fn has_degrees(points: &str, degrees: &[(f32, u32)]) {
+    for &(x, expected) in degrees {
+        assert_eq!(degree("a IS t", "", points, &[x]), expected, "{points} at {x}");
+    }
+}
+
+/// The rectangle of annex A is 1 from its first edge on and 0 from its second.
+#[test]
+fn rectangle() {
+    let points = "(2,0),(2,1),(5,1),(5,0)";
+    has_degrees(points, &[(-1e6, 0), (1.999, 0), (2.0, 1_000_000), (2.001, 1_000_000), (3.5, 1_000_000)]);
+    has_degrees(points, &[(4.999, 1_000_000), (5.0, 0), (5.001, 0), (1e6, 0)]);
+    let text = block("a", points, "TERM x := 1;", "", "RULE 1 : IF a IS t THEN o IS x;");
+    let image = read(text.replace("a : REAL", "a : INT").as_bytes()).unwrap();
+    for (whole, expected) in [(1, 0), (2, 1_000_000), (4, 1_000_000), (5, 0), (6, 0)] {
+        let call = evaluate(&image, &[Reading::Int(whole); 8], 1, [0; 6]);
+        assert_eq!((call.refusal, call.answers[0].sum), (None, expected), "{whole}");
+    }
+    // Turned over, it is 0 between them.
+    let points = "(2,1),(2,0),(5,0),(5,1)";
+    has_degrees(points, &[(1.999, 1_000_000), (2.0, 0), (4.999, 0), (5.0, 1_000_000), (5.001, 1_000_000)]);
+}
+
+/// At the position of a pair the later point's degree holds, wherever the pair stands.
+#[test]
+fn degrees_at_edges() {
+    // First: below it the first point's degree, above it 1 falls to 0 over 4,000 thousandths.
+    let first = "(0,0.25),(0,1),(4,0)";
+    has_degrees(first, &[(-7.0, 250_000), (-0.001, 250_000), (0.0, 1_000_000), (0.001, 999_750)]);
+    has_degrees(first, &[(1.0, 750_000), (4.0, 0), (4.001, 0)]);
+    // Behind an edge, the starred values of (0,0),(3,1).
+    has_degrees("(0,1),(0,0),(3,1)", &[(-0.001, 1_000_000), (0.0, 0), (1.0, 333_333), (2.0, 666_667)]);
+    // Last: up to it 0 rises to 0.5.
+    let last = "(0,0),(4,0.5),(4,1)";
+    has_degrees(last, &[(-1.0, 0), (0.0, 0), (3.0, 375_000), (3.999, 499_875)]);
+    has_degrees(last, &[(4.0, 1_000_000), (4.001, 1_000_000), (9.0, 1_000_000)]);
+    // In the middle: 0 rises to 1, then 0.2 to 0.6.
+    let middle = "(0,0),(1,1),(1,0.2),(2,0.6)";
+    has_degrees(middle, &[(-1.0, 0), (0.0, 0), (0.5, 500_000), (0.999, 999_000), (1.0, 200_000)]);
+    has_degrees(middle, &[(1.001, 200_400), (1.5, 400_000), (2.0, 600_000), (3.0, 600_000)]);
+    // Both: (0.3 + 1999 times 0.7) / 2000 just before the second pair.
+    let both = "(-1,0.1),(-1,0.3),(1,0.7),(1,0.2)";
+    has_degrees(both, &[(-2.0, 100_000), (-1.001, 100_000), (-1.0, 300_000), (-0.999, 300_200), (0.0, 500_000)]);
+    has_degrees(both, &[(0.999, 699_800), (1.0, 200_000), (1.001, 200_000)]);
+    // Alone, rising, falling and level.
+    has_degrees("(3,0.2),(3,0.7)", &[(-3.0, 200_000), (2.999, 200_000), (3.0, 700_000), (3.001, 700_000)]);
+    has_degrees("(3,1),(3,0)", &[(2.999, 1_000_000), (3.0, 0), (3.001, 0)]);
+    has_degrees("(3,0.4),(3,0.4)", &[(2.999, 400_000), (3.0, 400_000), (3.001, 400_000)]);
+    // A level pair is no jump.
+    has_degrees("(0,0),(1,0.5),(1,0.5),(2,1)", &[(0.999, 499_500), (1.0, 500_000), (1.001, 500_500)]);
+    // The readings of document 01 that become 63 and -62, and the ends of all crisp values.
+    has_degrees("(0.063,0),(0.063,1)", &[(0.062, 0), (0.0625, 1_000_000)]);
+    has_degrees("(-0.062,0),(-0.062,1)", &[(-0.063, 0), (-0.0625, 1_000_000)]);
+    has_degrees("(-1000000,0.5),(-1000000,1)", &[(-3e38, 1_000_000), (0.0, 1_000_000)]);
+    has_degrees("(1000000,0.5),(1000000,1)", &[(999_999.94, 500_000), (1e6, 1_000_000), (3e38, 1_000_000)]);
+}
+
+/// 7 for a falling position or a third equal one, at the number. The first point stands at 20.
+#[test]
+fn positions_refused() {
+    let last = "(60.0,1)";
+    for pairs in
+        ["(20,1)", "(20.0,0)", "(20,1),(60,0)", "(60,1),(60,0)", "(20,1),(60,1),(60,0)", "(60,1),(60,0),(61,0)"]
+    {
+        assert!(read(&with(last, pairs).0).is_ok(), "{pairs}");
+    }
+    refuses(last, "(19.999,1)", 7, 1);
+    refuses(last, "(-20,1)", 7, 1);
+    refuses(last, "(20,1),(20,0)", 7, 8);
+    refuses(last, "(20,1),(+20.000,0),(60,1)", 7, 8);
+    refuses(last, "(20,1),(20,0),(20,1)", 7, 8);
+    refuses(last, "(60,1),(60,0),(60,1)", 7, 15);
+    refuses(last, "(60,1),(60,0),(+0060,1)", 7, 15);
+    refuses(last, "(20,1),(19.999,0)", 7, 8);
+    refuses(last, "(20,1),(-20,0)", 7, 8);
+    refuses(last, "(60,1),(60,0),(59.999,1)", 7, 15);
+    refuses(last, "(60,1),(60,0),(20,1)", 7, 15);
+    refuses(last, "(20,1),(60,0),(20,1)", 7, 15);
+    // -0, 0 and +0 are one position.
+    refuses("(20,0),(60.0,1)", "(0,0),(+0,1),(-0.0,0)", 7, 14);
+    // 2 and 3 of the number come first; what stands behind it comes later.
+    refuses(last, "(20,1),(20.0000,0)", 3, 8);
+    refuses(last, "(20,1),(-1000000.001,0)", 3, 8);
+    refuses(last, "(20,1),(- 20,0)", 2, 8);
+    refuses(last, "(20,1),(20;0)", 7, 8);
+    // A pair counts two: 6 at the fifth parenthesis, whatever stands in it.
+    refuses(last, "(20,1),(60,1),(60,0),(61,0)", 6, 21);
+    refuses(last, "(20,1),(60,1),(60,0),(60,0)", 6, 21);
+    refuses(last, "(20,1),(60,1),(60,0),(;", 6, 21);
+}
+
+/// Four points at these positions, with the degrees of a rectangle, in place of the worked example's two.
+fn with_positions(positions: [i32; 4]) -> Vec<u8> {
+    let mut image = read(&with("(60.0,1)", "(60,1),(61,1),(62,0)").0).unwrap();
+    for (nth, position) in positions.into_iter().enumerate() {
+        let at = 4 * (64 + 2 * nth);
+        image[at..at + 4].copy_from_slice(&position.to_le_bytes());
+    }
+    image
+}
+
+/// Equal positions are stored and listed twice, and read back.
+#[test]
+fn edges_stored_and_listed() {
+    let image = read(&with("(20,0),(60.0,1)", "(+20,0),(20.0,1),(60,1.000),(060,0)").0).unwrap();
+    let words = words(&image);
+    // Two points more than in the worked example, so four words.
+    assert_eq!((words.len(), words[1], words[5]), (95, 95, 6));
+    assert_eq!(words[9..16], [28, 35, 46, 64, 76, 88, 91]);
+    assert_eq!(words[64..72], [20_000, 0, 20_000, 1_000_000, 60_000, 1_000_000, 60_000, 0]);
+    assert_eq!(check(&image), Ok(()));
+    let listing = LISTING.replace("(20, 0), (60, 1)", "(20, 0), (20, 1), (60, 1), (60, 0)");
+    assert_eq!(list(&image).unwrap(), listing.as_bytes());
+    assert_eq!(read(listing.as_bytes()), Ok(image.clone()));
+    assert_eq!(with_positions([20_000, 20_000, 60_000, 60_000]), image);
+}
+
+/// The load check takes pairs, and neither a third equal position nor a falling one.
+#[test]
+fn edges_in_images() {
+    const MOST: i32 = 1_000_000_000;
+    for positions in [[1, 2, 3, 4], [1, 1, 2, 3], [1, 2, 2, 3], [1, 2, 3, 3], [1, 1, 2, 2], [-MOST, -MOST, MOST, MOST]]
+    {
+        let image = with_positions(positions);
+        assert_eq!(check(&image), Ok(()), "{positions:?}");
+        assert_eq!(read(&list(&image).unwrap()), Ok(image), "{positions:?}");
+    }
+    for positions in [
+        [1, 1, 1, 2],
+        [1, 2, 2, 2],
+        [1, 1, 1, 1],
+        [2, 2, 1, 3],
+        [1, 2, 2, 1],
+        [1, 3, 3, 2],
+        [1, 2, 1, 2],
+        [2, 1, 1, 3],
+        [2, 1, 3, 3],
+        [1, 1, MOST + 1, MOST + 1],
+        [-MOST - 1, -MOST - 1, 1, 1],
+    ] {
+        let image = with_positions(positions);
+        let refusal = Refusal { number: 11, place: None };
+        assert_eq!(check(&image), Err(refusal), "{positions:?}");
+        assert_eq!(list(&image), Err(refusal), "{positions:?}");
+        assert_eq!(fresh(&image), Err(refusal), "{positions:?}");
+        let call = evaluate(&image, &[Reading::Real(0.0); 8], 1, [0; 6]);
+        assert_eq!(call.refusal, Some(refusal), "{positions:?}");
+    }
 }
