@@ -1,5 +1,6 @@
 -- Sharp edges: terms with a pair that stands first, last, in the middle, alone or twice, as they are read, listed and laid
--- out, with their degrees about the edges; the worked example of document 01 with a rectangle.
+-- out, with their degrees about the edges; the bound of half a millionth; the worked example of document 01 with a
+-- rectangle.
 use mathlib.Core.Bool.{false}
 use mathlib.Core.List.{List, [], _∷_, _++_, map}
 use mathlib.Core.Path.{_≡_, refl}
@@ -17,6 +18,7 @@ use Rattle.model.specs.Reader.{reads}
 use Rattle.model.specs.Image.{words, image, loads}
 use Rattle.model.specs.Listing.{termLine, listing}
 use Rattle.model.specs.Degrees.{termDegree}
+use Rattle.model.specs.Edges.{WithinHalf}
 use Rattle.model.specs.Evaluation.{answersAfter, evaluate, freshOf, noAnswer}
 use Rattle.model.proofs.Opened.{opened}
 use Rattle.model.proofs.Texts.{declared, ruleEnded}
@@ -92,6 +94,22 @@ shapes-load = refl
 shape-degrees : map (λ h. map (termDegree (h .points)) values) shapes ≡ map (λ h. h .degrees) shapes
 unfolding opened
 shape-degrees = refl
+
+-- THE BOUND on the line from (0, 0) to (3, 1), a third of a millionth over 333,333 at 1; a half on that to (2, 0.001)
+third : WithinHalf 333333 (pos 1000) (at (pos 0) 0) (at (pos 3000) 1000000)
+third = (record { le = tt }, record { lt = tt })
+
+third-below : WithinHalf 333332 (pos 1000) (at (pos 0) 0) (at (pos 3000) 1000000) → ⊥
+third-below h = h .1 .lt
+
+third-above : WithinHalf 333334 (pos 1000) (at (pos 0) 0) (at (pos 3000) 1000000) → ⊥
+third-above h = h .0 .le
+
+half-up : WithinHalf 1 (pos 1) (at (pos 0) 0) (at (pos 2000) 1000)
+half-up = (record { le = tt }, record { lt = tt })
+
+half-not-down : WithinHalf 0 (pos 1) (at (pos 0) 0) (at (pos 2000) 1000) → ⊥
+half-not-down h = h .1 .lt
 
 -- THE WORKED EXAMPLE, sharp from 20 on and below 60
 abbrev rectangleText : List ℕ
