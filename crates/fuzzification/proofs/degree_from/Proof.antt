@@ -75,7 +75,7 @@ on-line-requires c κs =
       (
         s .pre .0 .3,
         fine (p .result) (ap pointOk (p .ensures) ∙ point-fine s (l .i) (l .inv .0) (omega (arith, l .inv .1))),
-        fine (q .result) (ap pointOk (q .ensures) ∙ point-fine s (l .i + 1) (omega (arith, l .inv .0)) (c .before .before .before .before .before .loop-test .taken)),
+        fine (q .result) (ap pointOk (q .ensures) ∙ point-fine s (l .i + 1) (omega (arith, l .inv .0)) (omega (arith, c .before .before .before .before .before .loop-test .taken))),
       ),
       (
         subst (λ (z : ℤ). z ≤ℤ x) (ap (λ (y : Point). y .at) (sym (p .ensures))) (l .inv .2),
@@ -92,7 +92,7 @@ returns c =
     let q = c .before .point-at2 .ensures in
     let less = sym (compared (c .before .before .before .before)) ∙ c .before .before .before .if1 .taken in (
       c .on-line .ensures .0 ∙ (λ j. onLine x (p j) (q j))
-          ∙ sym (below-next (pointAt (wordAt (a .img .now))) x (l .i) (a .end) (c .before .before .before .before .before .before .loop-test .taken) less) ∙ l .inv .3,
+          ∙ sym (below-next (pointAt (wordAt (a .img .now))) x (l .i) (a .end) (omega arith) less) ∙ l .inv .3,
       c .on-line .ensures .1,
     )
 
@@ -110,7 +110,7 @@ loop-again c =
       search needs,
       search needs,
       not-below (a .x .0) (pointAt (wordAt (a .img .now)) (l .i + 1) .at) less,
-      sym (after-next (pointAt (wordAt (a .img .now))) (a .x .0) (l .i) (a .end) (c .before .before .before .loop-test .taken) less) ∙ l .inv .3,
+      sym (after-next (pointAt (wordAt (a .img .now))) (a .x .0) (l .i) (a .end) (omega arith) less) ∙ l .inv .3,
     )
 
 degree-at-requires : tie.Need-degree-at-requires Inv-loop μ-loop
