@@ -2,15 +2,18 @@
 -- way round.
 use mathlib.Core.Path.{_≡_, refl, sym, ap, _∙_, subst}
 use mathlib.Core.Bool.{true, _&&_}
-use mathlib.Core.List.{List, [], _∷_, _++_, append-assoc}
+use mathlib.Core.List.{List, [], _∷_, _++_, map, append-assoc, append-nil}
 use mathlib.Core.Logic.{_↔_}
 use lib.IntN.{ℤ}
 use lib.Signed.{ltZ, leZ, _≤ℤ_, _<ℤ_}
-use Rattle.model.specs.Block.{mayFollow}
+use Rattle.model.specs.Block.{Point, mayFollow}
 use Rattle.model.specs.WellFormed.{inOrder}
 use Rattle.model.specs.Edges.{TwoShare}
 use Rattle.laws.proofs.Comparison.{at-most, below, le-passes, lt-passes}
 use Rattle.laws.proofs.Tests.{both, and-i}
+
+abbrev pub positions : List Point → List ℤ
+positions ps = map (λ p. p .at) ps
 
 pub follow-two : (b : List ℤ) (p q x : ℤ) → mayFollow ((b ++ (p ∷ [])) ++ (q ∷ [])) x ≡ leZ q x && ltZ p x
 unfolding mayFollow
@@ -37,16 +40,26 @@ pub later : (b : List ℤ) (x : ℤ) (xs : List ℤ) → inOrder b (x ∷ xs) �
 unfolding inOrder
 later b x xs h = both (mayFollow b x) (inOrder (b ++ (x ∷ [])) xs) h
 
--- after the positions b: none falls, and of three in a row the last is above the first
+-- what stands behind os, after the positions b
+behind : (b os xs : List ℤ) → inOrder b (os ++ xs) ≡ true → inOrder (b ++ os) xs ≡ true
+behind b [] xs h = subst (λ (l : List ℤ). inOrder l xs ≡ true) (sym (append-nil b)) h
+behind b (o ∷ os) xs h =
+    subst (λ (l : List ℤ). inOrder l xs ≡ true) (append-assoc b (o ∷ []) os) (behind (b ++ (o ∷ [])) os xs (later b o (os ++ xs) h .1))
+
+pub order-at : (b os : List ℤ) (x : ℤ) (rs : List ℤ) → inOrder b (os ++ (x ∷ rs)) ≡ true → mayFollow (b ++ os) x ≡ true
+order-at b os x rs h = later (b ++ os) x rs (behind b os (x ∷ rs) h) .0
+
+-- none falls, and of three in a row the last is above the first
 pub no-fall : (b os : List ℤ) (x y : ℤ) (rs : List ℤ) → inOrder b (os ++ (x ∷ y ∷ rs)) ≡ true → x ≤ℤ y
-no-fall b [] x y rs h = follow-le b x y (later (b ++ (x ∷ [])) y rs (later b x (y ∷ rs) h .1) .0)
-no-fall b (o ∷ os) x y rs h = no-fall (b ++ (o ∷ [])) os x y rs (later b o (os ++ (x ∷ y ∷ rs)) h .1)
+no-fall b os x y rs h =
+    let c = b ++ os in
+    follow-le c x y (later (c ++ (x ∷ [])) y rs (later c x (y ∷ rs) (behind b os (x ∷ y ∷ rs) h) .1) .0)
 
 pub no-third : (b os : List ℤ) (x y z : ℤ) (rs : List ℤ) → inOrder b (os ++ (x ∷ y ∷ z ∷ rs)) ≡ true → x <ℤ z
-no-third b [] x y z rs h =
-    let f = later ((b ++ (x ∷ [])) ++ (y ∷ [])) z rs (later (b ++ (x ∷ [])) y (z ∷ rs) (later b x (y ∷ z ∷ rs) h .1) .1) .0 in
-    below x z (both (leZ y z) (ltZ x z) (sym (follow-two b x y z) ∙ f) .1)
-no-third b (o ∷ os) x y z rs h = no-third (b ++ (o ∷ [])) os x y z rs (later b o (os ++ (x ∷ y ∷ z ∷ rs)) h .1)
+no-third b os x y z rs h =
+    let c = b ++ os in
+    let f = later ((c ++ (x ∷ [])) ++ (y ∷ [])) z rs (later (c ++ (x ∷ [])) y (z ∷ rs) (later c x (y ∷ z ∷ rs) (behind b os (x ∷ y ∷ z ∷ rs) h) .1) .1) .0 in
+    below x z (both (leZ y z) (ltZ x z) (sym (follow-two c x y z) ∙ f) .1)
 
 two-share : (xs : List ℤ) → inOrder [] xs ≡ true → TwoShare xs
 two-share xs h = record {

@@ -1,14 +1,13 @@
 -- The items of FUZZIFY read back to an input.
 use mathlib.Core.Path.{_≡_, refl, sym, ap, _∙_}
 use mathlib.Core.Bool.{true, false, not}
-use mathlib.Core.List.{List, [], _∷_, _++_, map, append-nil, append-assoc, map-append}
+use mathlib.Core.List.{List, [], _∷_, _++_, map, append-assoc, map-append}
 use Prim.Native.Nat.{ℕ}
 use native.Mathlib.Omega.{arith}
 use borrow.Author.Tests.{lt-ltb, le-leb}
 use lib.Dec.{leb, ltb, eqb}
 use lib.IntN.{ℤ}
 use lib.ListN.{length, length-append}
-use lib.Seq.{append-snoc}
 use Rattle.model.specs.Basic.{isEmpty, gather, indexOf, updateLast}
 use Rattle.model.specs.Bounds.{termLimit, pointLeast, pointLimit}
 use Rattle.model.specs.Keywords.{CLOSE, COMMA, ASSIGN, FUZZIFY, END-FUZZIFY, TERM}
@@ -19,6 +18,7 @@ use Rattle.model.specs.Declarations.{inputOf, isInput, termOf, isTerm, addTerm,
 use Rattle.model.specs.Listing.{crispText, unitText}
 use Rattle.model.specs.WellFormed.{unitOk, pointOk, inOrder, termOk}
 use Rattle.laws.proofs.Lists.{updateLast-snoc}
+use Rattle.laws.proofs.Positions.{order-at}
 use Rattle.laws.proofs.Tests.{both}
 use Rattle.laws.proofs.Lists.{last-points}
 use Rattle.laws.proofs.Finding.{getD-cut, update-at, all-split, distinct-split, named, none-of, index-at, found, not-found, name-self, filled}
@@ -27,14 +27,6 @@ use Rattle.listing_laws.proofs.Numbers.{value-crisp, is-crisp, is-unit,
 use Rattle.listing_laws.proofs.Facts.{InputFacts, TermFacts, term-facts}
 use Rattle.listing_laws.proofs.Reading.{at, headKind, judged-pass, expects, listed-reads, some-read}
 use Rattle.listing_laws.proofs.Stages.{staged, focus, bareInput}
-
--- each position may stand after those before it
-order-at : (before xs : List ℤ) (y : ℤ) (ys : List ℤ) → inOrder before (xs ++ (y ∷ ys)) ≡ true → mayFollow (before ++ xs) y ≡ true
-unfolding inOrder
-order-at before [] y ys h = ap (λ (l : List ℤ). mayFollow l y) (append-nil before) ∙ both (mayFollow before y) (inOrder (before ++ (y ∷ [])) ys) h .0
-order-at before (x ∷ xs) y ys h =
-    ap (λ (l : List ℤ). mayFollow l y) (sym (append-snoc before x xs))
-    ∙ order-at (before ++ (x ∷ [])) xs y ys (both (mayFollow before x) (inOrder (before ++ (x ∷ [])) (xs ++ (y ∷ ys))) h .1)
 
 body-start : (f : ℕ → ℕ) (i : ℕ) (t : List ℕ) (xs : List Item) (c : Block) (w : ℕ) → pointBody i (at f (number t ∷ xs) c w)
     ≡ expect CLOSE (pointDegree i (valueOf t) (expect COMMA (pointPosition i (at f (number t ∷ xs) c w))))

@@ -1,6 +1,6 @@
--- Positions rise as they should where each stands below the next one, or at its position and below the one after that.
+-- Positions are in order where each stands below the next one, or at its position and below the one after that.
 use mathlib.Core.Path.{_≡_, refl, sym, ap, _∙_}
-use mathlib.Core.List.{List, [], _∷_, map}
+use mathlib.Core.List.{List, [], _∷_}
 use mathlib.Core.Bool.{Bool, true, false, _&&_, and-true, and-false}
 use Prim.Native.Nat.{ℕ, zero, suc, _+_, _-_, _≤_, _<_}
 use native.Mathlib.Omega.{arith}
@@ -11,7 +11,7 @@ use Rattle.model.specs.WellFormed.{inOrder}
 use Rattle.model.specs.Image.{tab}
 use Rattle.laws.proofs.Comparison.{at-most, below, lt-passes, less-le}
 use Rattle.laws.proofs.Places.{step, gone}
-use Rattle.laws.proofs.Positions.{order-two}
+use Rattle.laws.proofs.Positions.{positions, order-two}
 
 -- THREE POSITIONS
 three : (x y z : ℤ) (r : List ℤ) → inOrder [] (x ∷ y ∷ z ∷ r) ≡ leZ x y && ((leZ y z && ltZ x z) && inOrder (y ∷ z ∷ []) r)
@@ -48,9 +48,6 @@ falls : (x y : ℤ) (r : List ℤ) → leZ x y ≡ false → inOrder [] (x ∷ y
 unfolding inOrder mayFollow
 falls x y r h = simp h
 
-abbrev positions : List Point → List ℤ
-positions ps = map (λ p. p .at) ps
-
 module _ (f : ℕ → Point) (e i : ℕ) where
   cut : (j : ℕ) → j < e → positions (tab f (e - j) j) ≡ f j .at ∷ positions (tab f (e - (j + 1)) (j + 1))
   unfolding tab
@@ -59,24 +56,24 @@ module _ (f : ℕ → Point) (e i : ℕ) where
       ap (λ (k : ℕ). positions (tab f k j)) (step e j h) ∙ ap (λ (k : ℕ). f j .at ∷ positions (tab f (e - (j + 1)) k)) q
 
   module _ (h : i + 1 < e) where
-    first : (r : List ℤ → Bool) → r (positions (tab f (e - i) i)) ≡ r (f i .at ∷ f (i + 1) .at ∷ positions (tab f (e - (i + 1 + 1)) (i + 1 + 1)))
-    first r = ap r (cut i (omega arith) ∙ ap (λ (l : List ℤ). f i .at ∷ l) (cut (i + 1) h))
+    first : inOrder [] (positions (tab f (e - i) i)) ≡ inOrder [] (f i .at ∷ f (i + 1) .at ∷ positions (tab f (e - (i + 1 + 1)) (i + 1 + 1)))
+    first = ap (inOrder []) (cut i (omega arith) ∙ ap (λ (l : List ℤ). f i .at ∷ l) (cut (i + 1) h))
 
     second : inOrder [] (positions (tab f (e - (i + 1)) (i + 1))) ≡ inOrder [] (f (i + 1) .at ∷ positions (tab f (e - (i + 1 + 1)) (i + 1 + 1)))
     second = ap (inOrder []) (cut (i + 1) h)
 
     pub next-above : ltZ (f i .at) (f (i + 1) .at) ≡ true → inOrder [] (positions (tab f (e - i) i)) ≡ inOrder [] (positions (tab f (e - (i + 1)) (i + 1)))
-    next-above q = first (inOrder []) ∙ rises (f i .at) (f (i + 1) .at) _ q ∙ sym second
+    next-above q = first ∙ rises (f i .at) (f (i + 1) .at) _ q ∙ sym second
 
     pub next-below : leZ (f i .at) (f (i + 1) .at) ≡ false → inOrder [] (positions (tab f (e - i) i)) ≡ false
-    next-below q = first (inOrder []) ∙ falls (f i .at) (f (i + 1) .at) _ q
+    next-below q = first ∙ falls (f i .at) (f (i + 1) .at) _ q
 
     pub next-last : leZ (f i .at) (f (i + 1) .at) ≡ true → e ≤ i + 2
         → inOrder [] (positions (tab f (e - i) i)) ≡ inOrder [] (positions (tab f (e - (i + 1)) (i + 1)))
     unfolding tab
     next-last q l =
         let z : positions (tab f (e - (i + 1 + 1)) (i + 1 + 1)) ≡ [] = ap (λ (k : ℕ). positions (tab f k (i + 1 + 1))) (gone e (i + 1 + 1) (omega arith)) in
-        first (inOrder []) ∙ ap (λ (r : List ℤ). inOrder [] (f i .at ∷ f (i + 1) .at ∷ r)) z ∙ ends (f i .at) (f (i + 1) .at) q
+        first ∙ ap (λ (r : List ℤ). inOrder [] (f i .at ∷ f (i + 1) .at ∷ r)) z ∙ ends (f i .at) (f (i + 1) .at) q
         ∙ sym (second ∙ ap (λ (r : List ℤ). inOrder [] (f (i + 1) .at ∷ r)) z)
 
     pub next-shared : leZ (f i .at) (f (i + 1) .at) ≡ true → i + 2 < e
@@ -85,7 +82,7 @@ module _ (f : ℕ → Point) (e i : ℕ) where
         let n : i + 1 + 1 ≡ i + 2 = omega arith in
         let c = cut (i + 1 + 1) (omega arith) in
         let r = positions (tab f (e - (i + 1 + 1 + 1)) (i + 1 + 1 + 1)) in
-        first (inOrder []) ∙ ap (λ (r : List ℤ). inOrder [] (f i .at ∷ f (i + 1) .at ∷ r)) c
+        first ∙ ap (λ (r : List ℤ). inOrder [] (f i .at ∷ f (i + 1) .at ∷ r)) c
         ∙ shares (f i .at) (f (i + 1) .at) (f (i + 1 + 1) .at) r q
         ∙ (λ j. ltZ (f i .at) (f (n j) .at) && sym (second ∙ ap (λ (r : List ℤ). inOrder [] (f (i + 1) .at ∷ r)) c) j)
 

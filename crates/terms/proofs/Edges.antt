@@ -2,11 +2,11 @@
 -- point there, exactly; so the claim of W-203.
 use mathlib.Core.Path.{_≡_, refl, sym, ap, _∙_, subst}
 use mathlib.Core.Bool.{Bool, true, false}
-use mathlib.Core.List.{List, [], _∷_, _++_, map, map-append}
+use mathlib.Core.List.{List, [], _∷_, _++_, map-append}
 use Prim.Native.Nat.{ℕ, _+_, _*_, _-_, _≤_, _<_}
 use native.Mathlib.Nat.{mul-zero}
 use native.Mathlib.Omega.{arith}
-use lib.Dec.{T, leb→le}
+use borrow.Author.Tests.{leb-true}
 use lib.IntN.{ℤ}
 use lib.Signed.{ltZ, _≤ℤ_, _<ℤ_, ≤ℤ-refl, <ℤ-≤ℤ-trans, clashℤ}
 use Rattle.model.specs.Basic.{Each, all}
@@ -17,16 +17,13 @@ use Rattle.model.specs.WellFormed.{unitOk, pointOk, inOrder, termOk}
 use Rattle.model.specs.Edges.{WithinHalf, EdgesHold, SharpEdges}
 use Rattle.laws.proofs.Comparison.{below, lt-passes, lt-fails}
 use Rattle.laws.proofs.Lists.{all-append}
-use Rattle.laws.proofs.Positions.{later, no-fall, no-third, places}
+use Rattle.laws.proofs.Positions.{positions, later, no-fall, no-third, places}
 use Rattle.laws.proofs.Tests.{both, passed}
 use Rattle.nearest.proofs.Laws.{nearest-le, nearest-ge}
 use Rattle.crisp.specs.Crisp.{InCrisp, above}
 use Rattle.crisp.proofs.Laws.{above-lt}
 use Rattle.terms.proofs.Degree.{amid}
 use Rattle.terms.proofs.Line as line
-
-abbrev positions : List Point → List ℤ
-positions ps = map (λ p. p .at) ps
 
 abbrev InOrder : List Point → Type 0
 InOrder ps = inOrder [] (positions ps) ≡ true
@@ -109,7 +106,7 @@ unfolding all pointOk
 points-crisp [] h = tt
 points-crisp (p ∷ ps) h =
     let c = both (pointOk p) (all pointOk ps) h in
-    (leb→le _ _ (subst T (sym (both (inCrisp (p .at)) (unitOk (p .degree)) (c .0) .0)) tt), points-crisp ps (c .1))
+    (leb-true _ _ (both (inCrisp (p .at)) (unitOk (p .degree)) (c .0) .0), points-crisp ps (c .1))
 
 after : (os rs : List Point) → all pointOk (os ++ rs) ≡ true → Each (λ r. InCrisp (r .at)) rs
 after os rs h = points-crisp rs (both (all pointOk os) (all pointOk rs) (sym (all-append pointOk os rs) ∙ h) .1)
