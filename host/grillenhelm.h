@@ -39,7 +39,7 @@ extern "C" {
  *    1  the text is too long; the place is 0
  *    2  a wrong byte or token, or the text ends early
  *    3  the form or the bound of a number
- *    4  a name that is too long, or something given twice
+ *    4  a name that is too long, or something given twice, in whatever case
  *    5  a name that is not declared for this use
  *    6  more than a bound allows
  *    7  a position that falls, is the third in one place or is outside of RANGE, or fewer than two points

@@ -8,7 +8,7 @@ static const char *words[] = {
     "the text is too long",
     "a wrong byte or token, or the text ends early",
     "the form or the bound of a number",
-    "a name that is too long, or something given twice",
+    "a name that is too long, or something given twice, in whatever case",
     "a name that is not declared for this use",
     "more than a bound allows",
     "a position that falls, is the third in one place or is outside of RANGE, or fewer than two points",

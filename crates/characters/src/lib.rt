@@ -3,7 +3,8 @@ ghost use mathlib.Core.Path.{_≡_};
 ghost use mathlib.Core.Bool.{_&&_, not};
 ghost use Prim.Native.Nat.{_+_, _≤_};
 ghost use lib.ListN.{length, drop};
-ghost use Rattle.model.specs.Basic.{between, run};
+ghost use lib.Dec.{eqb};
+ghost use Rattle.model.specs.Basic.{between, run, capital};
 ghost use Rattle.model.specs.Tokens.{isBlank, isDigit, isUnderscore, startsName, isNameByte, isSign, isMark, starts};
 
 pub fn is_blank(b: u8) -> bool
@@ -53,6 +54,22 @@ pub fn is_mark(b: u8) -> bool
     ensures { λ r. ⌜ r ≡ isMark b ⌝ }
 {
     b == 40 || (b == 41 || (b == 44 || (b == 58 || b == 59)))
+}
+
+// The same byte but for case: one is the other, or its small letter. Such letters share their five low bits.
+pub fn is_alike(a: u8, b: u8) -> bool
+    ensures { λ r. ⌜ r ≡ eqb (capital a) (capital b) ⌝ }
+{
+    if a == b {
+        return true;
+    }
+    if a % 32 != b % 32 {
+        return false;
+    }
+    if is_between(65, 90, b) {
+        return a as usize == b as usize + 32;
+    }
+    is_between(65, 90, a) && b as usize == a as usize + 32
 }
 
 // Where the name bytes from a place on end.

@@ -1,14 +1,35 @@
--- Helpers: the numbers by which keywords are told apart.
+-- Helpers: the numbers by which keywords are told apart. Case does not count in them.
 use mathlib.Core.Path.{_≡_}
+use mathlib.Core.Bool.{Bool}
 use mathlib.Core.List.{List, [], _∷_}
-use Prim.Native.Nat.{ℕ, _+_, _-_, _*_, _%_}
+use Prim.Native.Nat.{ℕ, _+_, _-_, _*_, _/_, _%_, _^_}
+use lib.Dec.{eqb}
 use lib.ListN.{length, getD}
+use Rattle.model.specs.Basic.{if_then_else_}
 
 -- by the length, the first byte and the last
 abbrev pub slotOf : List ℕ → ℕ
-slotOf w = (13 * length w + 6 * getD w 0 0 + 2 * getD w (length w - 1) 0) % 128
+slotOf w = (length w + 8 * getD w 0 0 + 152 * getD w (length w - 1) 0) % 256
 
--- besides T, h is the slot of no word of the list: what a match on h leaves
-abbrev pub Others : Type 0 → ℕ → List (List ℕ) → Type 0
+-- the first letter, A being 1
+abbrev pub firstOf : List ℕ → ℕ
+firstOf w = getD w 0 0 % 32
+
+-- the lengths of the keywords that begin with a letter, a bit for each
+abbrev pub rows : List (ℕ × ℕ)
+rows =
+    (1, 24) ∷ (2, 16) ∷ (3, 24) ∷ (4, 640) ∷ (5, 272512) ∷ (6, 16512) ∷ (9, 12) ∷ (12, 4) ∷ (13, 72) ∷ (14, 28) ∷ (15, 132) ∷ (16, 16) ∷ (18, 564)
+    ∷ (20, 16) ∷ (22, 1544) ∷ (23, 16) ∷ []
+
+abbrev pub rowIn : List (ℕ × ℕ) → ℕ → ℕ
+rowIn [] i = 0
+rowIn (r ∷ rs) i = if eqb i (r .0) then r .1 else rowIn rs i
+
+-- whether a word of n bytes that begins with letter i may be a keyword
+abbrev pub mayBe : ℕ → ℕ → Bool
+mayBe n i = eqb (rowIn rows i / 2 ^ n % 2) 1
+
+-- besides T, h is none of these numbers: what a match on h leaves
+abbrev pub Others : Type 0 → ℕ → List ℕ → Type 0
 Others T h [] = T
-Others T h (k ∷ ks) = Others (T × (h ≡ slotOf k → ⊥)) h ks
+Others T h (n ∷ ns) = Others (T × (h ≡ n → ⊥)) h ns

@@ -8,7 +8,7 @@ use borrow.Author.Tests.{not-true, le-ltb, lt-ltb}
 use lib.Dec.{ltb}
 use lib.ListN.{length, length-append, length-map, getD, take}
 use lib.Seq.{getD-at, take-at}
-use Rattle.model.specs.Basic.{isEmpty, all, gather, distinct, indexOf, update}
+use Rattle.model.specs.Basic.{isEmpty, all, gather, distinct, indexOf, update, capitals, same, alike}
 use Rattle.model.specs.Tokens.{sameName}
 use Rattle.laws.proofs.Tests.{both, and-i, clash}
 use Rattle.laws.proofs.Lists.{all-append, gather-append}
@@ -69,21 +69,18 @@ module _ {A : Type 0} (p : A → Bool) where
       lt-ltb (indexOf p (xs ++ (y ∷ ys))) (length (xs ++ (y ∷ ys))) (omega (arith, index-at xs y ys h e, length-append xs (y ∷ ys)))
 
 -- NAMES
-same-name : (v w : List ℕ) → sameName v w ≡ true → v ≡ w
-unfolding sameName
-same-name v w h = same-eq v w h
-
 pub name-self : (w : List ℕ) → sameName w w ≡ true
 unfolding sameName
-name-self w = same-refl w
+name-self w = same-refl (capitals w)
 
 -- of two names neither is the other
 pub differ : (v w : List ℕ) → not (sameName v w) ≡ true → not (sameName w v) ≡ true
-differ v w h = go (sameName w v) refl
+unfolding sameName
+differ v w h = go (alike w v) refl
   where
-    go : (b : Bool) → sameName w v ≡ b → not (sameName w v) ≡ true
+    go : (b : Bool) → alike w v ≡ b → not (alike w v) ≡ true
     go false e = ap not e
-    go true e = clash (sym (not-true (sameName v w) h) ∙ ap (sameName v) (same-name w v e) ∙ name-self v)
+    go true e = clash (sym (not-true (alike v w) h) ∙ ap (same (capitals v)) (same-eq (capitals w) (capitals v) e) ∙ same-refl (capitals v))
 
 -- w is none of the names ns
 abbrev pub fresh : List ℕ → List (List ℕ) → Bool

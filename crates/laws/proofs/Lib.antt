@@ -17,3 +17,4 @@ pub mod Finding
 pub mod Buffers
 pub mod Comparison
 pub mod Positions
+pub mod Words

@@ -11,3 +11,4 @@ pub mod Sound
 pub mod Rules
 pub mod Within
 pub mod Inputs
+pub mod Padded

@@ -1,11 +1,11 @@
 -- A helper: the rows of each table, and what the words of an image must satisfy to be those of the block that they
 -- stand for. `layout/proofs/Bytes.same-image` ties all of it to model's `image` and `decode`.
-use mathlib.Core.Bool.{Bool}
+use mathlib.Core.Bool.{Bool, not}
 use mathlib.Core.List.{List, [], _∷_, _++_}
 use Prim.Native.Nat.{ℕ, zero, suc, _+_, _*_}
 use lib.Dec.{leb, eqb}
-use lib.ListN.{length}
-use Rattle.model.specs.Basic.{every, all, same}
+use lib.ListN.{length, take}
+use Rattle.model.specs.Basic.{every, all, run, same}
 use Rattle.model.specs.Bounds.{M}
 use Rattle.model.specs.Block.{Point, Term, Input, Output, Rule, size}
 use Rattle.model.specs.Image.{nameWords, nameAt, typeWord, rangeWords, defaultWords, pointWords, postfix, singletonTerm, tab, pointAt, termAt, singletonAt, inputAt, outputAt, ruleAt, headerSize, inputWidth, outputWidth, termWidth, pointWidth, ruleWidth, conclusionWidth, INPUTS, OUTPUTS, TERMS, POINTS, RULES, WORDS, CONCLUSIONS, INPUT-TABLE, OUTPUT-TABLE, TERM-TABLE, POINT-TABLE, RULE-TABLE, WORD-TABLE, CONCLUSION-TABLE, PAIR-WORD, ACCU-WORD, ACT-WORD, BLOCK-NAME, RULE-BLOCK-NAME, inputPlace, outputPlace, termPlace, rulePlace, wordPlace}
@@ -122,6 +122,10 @@ unfoldable pub conditionRows : (ℕ → ℕ) → Bool
 conditionRows w = all (conditionExact w) (tab (λ i. i) (w RULES) 0)
 
 -- THE HEADER
+-- the bytes before the first zero
+abbrev pub front : List ℕ → List ℕ
+front s = take (run (λ c. not (eqb c 0)) s) s
+
 -- a name's four words, zero padded
 unfoldable pub nameExact : (ℕ → ℕ) → ℕ → Bool
 nameExact w o = same (tab w 4 o) (nameWords (nameAt w o))

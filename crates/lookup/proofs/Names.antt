@@ -1,54 +1,59 @@
 -- Laws of names as places in a text: when two are the same, rows by their names, and a table with one more.
-use mathlib.Core.Path.{_≡_, refl, sym, ap, _∙_}
+use mathlib.Core.Path.{_≡_, refl, sym, _∙_}
 use mathlib.Core.List.{List}
 use mathlib.Core.Bool.{Bool, true, false, and-false}
 use Prim.Native.Nat.{ℕ, zero, suc, _+_, _-_, _≤_, _<_}
 use native.Mathlib.Omega.{arith}
-use borrow.Author.Tests.{eq-eqb, ne-eqb, eqb-true, eqb-false}
+use borrow.Author.Tests.{eqb-true, eqb-false}
 use lib.Arith.{lt-of-le-ne}
 use lib.Dec.{eqb}
 use lib.ListN.{length, getD, set, length-set}
 use lib.Seq.{slice, slice-cons, slice-empty, length-slice, getD-set-same, getD-set-other}
-use Rattle.model.specs.Basic.{indexOf}
+use Rattle.model.specs.Basic.{indexOf, capital}
 use Rattle.model.specs.Tokens.{sameName}
 use Rattle.model.specs.Image.{tab}
-use Rattle.laws.proofs.Search.{other-length}
+use Rattle.laws.proofs.Words.{other-word}
 use Rattle.lookup.specs.Names.{nameOf, Placed}
 
 -- NAMES OF DIFFERENT LENGTHS, AND BYTE BY BYTE
 module _ (s : List ℕ) (a e b f : ℕ) (he : e ≤ length s) (hf : f ≤ length s) where
   pub differ-long : (e - a ≡ f - b → ⊥) → sameName (slice a e s) (slice b f s) ≡ false
   unfolding sameName
-  differ-long h = other-length (slice a e s) (slice b f s) (λ q. h (sym (length-slice a e s he) ∙ q ∙ length-slice b f s hf))
+  differ-long h = other-word (slice a e s) (slice b f s) (λ q. h (sym (length-slice a e s he) ∙ q ∙ length-slice b f s hf))
 
-pub differ-at : (s : List ℕ) (j a e b f : ℕ) → e ≤ length s → f ≤ length s → a + j < e → b + j < f → (getD s (a + j) 0 ≡ getD s (b + j) 0 → ⊥)
+pub differ-at : (s : List ℕ) (j a e b f : ℕ) → e ≤ length s → f ≤ length s → a + j < e → b + j < f → eqb (capital (getD s (a + j) 0)) (capital (getD s (b + j) 0)) ≡ false
     → sameName (slice a e s) (slice b f s) ≡ false
 unfolding sameName
 differ-at s zero a e b f he hf ha hb q =
     let p : a + 0 ≡ a = omega arith in
     let r : b + 0 ≡ b = omega arith in
-    rw (slice-cons a e s 0 (omega arith) he, slice-cons b f s 0 (omega arith) hf) (simp (ne-eqb _ _ (λ z. q (simp (p, r) z))))
+    rw (slice-cons a e s 0 (omega arith) he, slice-cons b f s 0 (omega arith) hf) (simp (rw (p, r) at q))
 differ-at s (suc j) a e b f he hf ha hb q =
     let p : a + suc j ≡ suc a + j = omega arith in
     let r : b + suc j ≡ suc b + j = omega arith in
     rw (
       slice-cons a e s 0 (omega arith) he,
       slice-cons b f s 0 (omega arith) hf,
-      differ-at s j (suc a) e (suc b) f he hf (omega arith) (omega arith) (λ z. q (rw (p, r) z)),
-    ) (and-false (eqb (getD s a 0) (getD s b 0)))
+      differ-at s j (suc a) e (suc b) f he hf (omega arith) (omega arith) (rw (p, r) at q),
+    ) (and-false (eqb (capital (getD s a 0)) (capital (getD s b 0))))
 
-pub alike : (s : List ℕ) (n a e b f : ℕ) → a + n ≡ e → b + n ≡ f → e ≤ length s → f ≤ length s
-    → ((k : ℕ) → k < n → getD s (a + k) 0 ≡ getD s (b + k) 0) → sameName (slice a e s) (slice b f s) ≡ true
+pub agree : (s : List ℕ) (n a e b f : ℕ) → a + n ≡ e → b + n ≡ f → e ≤ length s → f ≤ length s
+    → ((k : ℕ) → k < n → eqb (capital (getD s (a + k) 0)) (capital (getD s (b + k) 0)) ≡ true) → sameName (slice a e s) (slice b f s) ≡ true
 unfolding sameName
-alike s zero a e b f ha hb he hf q =
+agree s zero a e b f ha hb he hf q =
     let p : a ≡ e = omega arith in
     let r : b ≡ f = omega arith in
     rw (p, r, slice-empty e s, slice-empty f s)
-alike s (suc n) a e b f ha hb he hf q =
-    let z : getD s a 0 ≡ getD s b 0 = ap (λ (k : ℕ). getD s k 0) (omega arith) ∙ q 0 (omega arith) ∙ ap (λ (k : ℕ). getD s k 0) (omega arith) in
+agree s (suc n) a e b f ha hb he hf q =
+    let p : a + 0 ≡ a = omega arith in
+    let r : b + 0 ≡ b = omega arith in
+    let z : eqb (capital (getD s a 0)) (capital (getD s b 0)) ≡ true = rw (p, r) at (q 0 (omega arith)) in
     rw (slice-cons a e s 0 (omega arith) he, slice-cons b f s 0 (omega arith) hf)
-    (simp (eq-eqb _ _ z) (alike s n (suc a) e (suc b) f (omega arith) (omega arith) he hf
-    (λ k h. ap (λ (i : ℕ). getD s i 0) (omega arith) ∙ q (suc k) (omega arith) ∙ ap (λ (i : ℕ). getD s i 0) (omega arith))))
+    (simp z (agree s n (suc a) e (suc b) f (omega arith) (omega arith) he hf
+    (λ k h.
+    let u : a + suc k ≡ suc a + k = omega arith in
+    let t : b + suc k ≡ suc b + k = omega arith in
+    rw (u, t) at (q (suc k) (omega arith)))))
 
 -- one place more, downwards
 pub one-back : (P : ℕ → Type 0) (j n : ℕ) → 0 < j → P (j - 1) → ((m : ℕ) → j ≤ m → m < n → P m) → (m : ℕ) → j - 1 ≤ m → m < n → P m

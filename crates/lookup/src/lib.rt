@@ -39,7 +39,7 @@ pub fn find(s: &[u8], names: &Names, from: usize, count: usize, start: usize, en
             let mut j = n;
             while 0 < j {
                 j -= 1;
-                if s[start + j] != s[a + j] {
+                if !characters::is_alike(s[start + j], s[a + j]) {
                     i += 1;
                     continue 'search;
                 }

@@ -50,7 +50,7 @@ readable =
     ∷ oneRule (bytes "(((a IS t))) AND ((((((((a IS t))))) OR (((a IS u))))))")
     ∷ figures "RANGE(-1000000..1000000); TERM k := -1000000; TERM abcdefghijklmnop := 1000000.000;" "1000000"
     ∷ figures "RANGE(-1..2); TERM k := -1; TERM m := 2; TERM y := 0; TERM a := 0; TERM f := 0; TERM r := 0; TERM t := 0;" "-1"
-    ∷ figures "TERM k := -0; TERM REAl := 0001.5; TERM _a := +2;" "NC"
+    ∷ figures "TERM k := -0; TERM REALM := 0001.5; TERM _a := +2;" "NC"
     ∷ ruleEnded allVariables
     ∷ ruleEnded (opening ++ (bytes "f: REAL; a: REAL; END_VAR VAR_OUTPUT r, y: REAL; END_VAR " ++ (bytes "FUZZIFY f "
     ++ (sevenTerms ++ (bytes "END_FUZZIFY FUZZIFY a " ++ (sevenTerms ++ (bytes "END_FUZZIFY "

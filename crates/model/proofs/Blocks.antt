@@ -109,7 +109,7 @@ good =
     ∷ ofPoints (at (pos 0) 0 ∷ at (pos 5) 1000000 ∷ at (pos 5) 0 ∷ at (pos 9) 0 ∷ [])
     ∷ ofOutputs (letters (λ w. record { name = 95 ∷ w; terms = single "k" (pos 0) ∷ []; range = none; default = some (pos 1000000000) }) 6)
     ∷ ofOutput (record { name = bytes "y"; terms = letters (λ w. record { name = w; at = negsuc 0 }) 7; range = none; default = none })
-    ∷ ofOutput (output "y" (single "k" (pos 1000000000) ∷ single "K" (negsuc 999999999) ∷ []) (span (negsuc 999999999) (pos 1000000000)) (some (pos 0)))
+    ∷ ofOutput (output "y" (single "k" (pos 1000000000) ∷ single "m" (negsuc 999999999) ∷ []) (span (negsuc 999999999) (pos 1000000000)) (some (pos 0)))
     ∷ ofOutput (output "y" (single "k" (negsuc 4) ∷ []) (span (negsuc 4) (pos 5)) (some (negsuc 4)))
     ∷ ofOutput (output "y" (single "k" (pos 5) ∷ []) (span (negsuc 4) (pos 5)) (some (pos 5)))
     ∷ ofOutput (output "y" (single "k" (pos 0) ∷ []) (span (negsuc 0) (pos 0)) (some (pos 0)))

@@ -13,6 +13,7 @@ pub mod Buffers
 pub mod Listings
 pub mod Degrees
 pub mod Edges
+pub mod Case
 pub mod Calls
 pub mod Chunks
 pub mod Vectors

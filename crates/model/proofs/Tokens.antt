@@ -71,7 +71,7 @@ keyword-kinds-apart = refl
 
 -- WORDS that are names, and words with misplaced underscores
 abbrev nameWords : List String
-nameWords = "a" ∷ "_a" ∷ "a_1" ∷ "if" ∷ "If" ∷ "IFF" ∷ "I" ∷ "real" ∷ "BOOL" ∷ "_IF" ∷ "COGS" ∷ "END" ∷ "abcdefghijklmnopq" ∷ []
+nameWords = "a" ∷ "_a" ∷ "a_1" ∷ "IFF" ∷ "I" ∷ "BOOL" ∷ "_IF" ∷ "END" ∷ "abcdefghijklmnopq" ∷ []
 
 words-names : map (λ w. wordKind (bytes w)) nameWords ≡ map (λ w. NAME) nameWords
 unfolding opened
@@ -86,7 +86,7 @@ words-wrong = refl
 
 -- NAMES, as a stored block has them too
 abbrev names : List (List ℕ)
-names = map bytes ("a" ∷ "Z" ∷ "_a" ∷ "a1_b" ∷ "REAl" ∷ "abcdefghijklmnop" ∷ [])
+names = map bytes ("a" ∷ "Z" ∷ "_a" ∷ "a1_b" ∷ "REALM" ∷ "abcdefghijklmnop" ∷ [])
 
 names-good : map isName names ≡ trueAll names
 unfolding opened
@@ -102,9 +102,9 @@ names-bad : map isName noNames ≡ falseAll noNames
 unfolding opened
 names-bad = refl
 
--- byte by byte: other case, one longer, one shorter, another last byte
+-- one shorter, one longer, another last byte
 abbrev others : List String
-others = "abcdefghijklmnoP" ∷ "Abcdefghijklmnop" ∷ "abcdefghijklmno" ∷ "abcdefghijklmnopq" ∷ "abcdefghijklmnoq" ∷ "" ∷ []
+others = "abcdefghijklmno" ∷ "abcdefghijklmnopq" ∷ "abcdefghijklmnoq" ∷ "" ∷ []
 
 names-apart : map (λ w. sameName (bytes "abcdefghijklmnop") (bytes w)) ("abcdefghijklmnop" ∷ others) ≡ true ∷ falseAll others
 unfolding opened

@@ -1,7 +1,7 @@
 -- The vocabulary of the other files: choice, bytes of a quoted text, and a few functions on lists.
 use mathlib.Core.Bool.{Bool, true, false, _&&_, not}
-use mathlib.Core.List.{List, [], _∷_, _++_}
-use Prim.Native.Nat.{ℕ, zero, suc, _+_}
+use mathlib.Core.List.{List, [], _∷_, _++_, map}
+use Prim.Native.Nat.{ℕ, zero, suc, _+_, _-_}
 use Prim.Native.String.{String, [] as nil, _∷_ as _::_}
 use Prim.Native.Char.{code}
 use lib.Dec.{leb, eqb}
@@ -85,3 +85,14 @@ same [] [] = true
 same [] (y ∷ ys) = false
 same (x ∷ xs) [] = false
 same (x ∷ xs) (y ∷ ys) = eqb x y && same xs ys
+
+-- a small letter as its capital, any other byte as it is
+abbrev pub capital : ℕ → ℕ
+capital c = if between 97 122 c then c - 32 else c
+
+abbrev pub capitals : List ℕ → List ℕ
+capitals w = map capital w
+
+-- two words are the same but for case
+abbrev pub alike : List ℕ → List ℕ → Bool
+alike v w = same (capitals v) (capitals w)

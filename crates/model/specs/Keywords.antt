@@ -1,11 +1,11 @@
--- Keywords: the words of Table 7 of source 001 in its order, then REAL and INT. They are compared byte by byte.
+-- Keywords: the words of Table 7 of source 001 in its order, then REAL and INT. They are compared without case.
 use mathlib.Core.Bool.{Bool}
 use mathlib.Core.List.{List, [], _∷_}
 use Prim.Native.Nat.{ℕ, _+_}
 use Prim.Native.String.{String}
 use lib.Dec.{ltb}
 use lib.ListN.{length}
-use Rattle.model.specs.Basic.{bytes, same, indexOf}
+use Rattle.model.specs.Basic.{bytes, alike, indexOf}
 
 abbrev pub keywords : List (List ℕ)
 keywords =
@@ -20,7 +20,7 @@ keywords =
 
 -- the keyword's place in the list; its length for any other word
 abbrev pub keywordAt : List ℕ → ℕ
-keywordAt w = indexOf (same w) keywords
+keywordAt w = indexOf (alike w) keywords
 
 unfoldable pub isKeyword : List ℕ → Bool
 isKeyword w = ltb (keywordAt w) (length keywords)

@@ -21,3 +21,4 @@ pub mod Readings
 pub mod Evaluation
 pub mod Calls
 pub mod Chunks
+pub mod Case

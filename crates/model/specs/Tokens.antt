@@ -7,7 +7,7 @@ use lib.Dec.{leb, eqb}
 use lib.IntN.{ℤ, pos, negℤ, natAbs}
 use lib.ListN.{length, take, drop}
 use lib.Signed.{leZ}
-use Rattle.model.specs.Basic.{if_then_else_, bytes, between, all, run, same}
+use Rattle.model.specs.Basic.{if_then_else_, bytes, between, all, run, alike}
 use Rattle.model.specs.Bounds.{crispLimit, nameLimit, digitLimit, fractionLimit, ruleNumberLeast, ruleNumberLimit}
 use Rattle.model.specs.Keywords.{keywordAt, isKeyword, END, WRONG, NAME, NUMBER, ASSIGN, DOTS, BLANK, OPEN, CLOSE, COMMA, COLON, SEMICOLON}
 
@@ -47,9 +47,9 @@ tidy [] = true
 tidy (c ∷ []) = not (isUnderscore c)
 tidy (c ∷ d ∷ s) = not (isUnderscore c && isUnderscore d) && tidy (d ∷ s)
 
--- how names are compared
+-- names are compared without case
 unfoldable pub sameName : List ℕ → List ℕ → Bool
-sameName v w = same v w
+sameName v w = alike v w
 
 -- what may stand as a name
 unfoldable pub isName : List ℕ → Bool

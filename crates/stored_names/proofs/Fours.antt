@@ -1,9 +1,8 @@
 -- Two names of four words each, compared one word after the other.
 use mathlib.Core.Path.{_≡_, sym, _∙_}
-use mathlib.Core.Bool.{true, false, _&&_, and-true}
+use mathlib.Core.Bool.{Bool, true, false, _&&_, and-true}
 use Prim.Native.Nat.{ℕ, suc, _+_}
 use native.Mathlib.Omega.{arith}
-use borrow.Author.Tests.{eq-eqb, ne-eqb}
 use lib.Dec.{eqb}
 use Rattle.model.specs.Basic.{same}
 use Rattle.model.specs.Image.{tab}
@@ -26,20 +25,17 @@ module _ (w : ℕ → ℕ) (o q : ℕ) where
       three : (k : ℕ) → suc (suc (suc k)) ≡ k + 3
       three k = omega arith
 
-  module _ {x y : ℕ} where
-    pub differs-1 : x ≡ w o → y ≡ w q → (x ≡ y → ⊥) → false ≡ same (tab w 4 o) (tab w 4 q)
-    differs-1 a b h = sym (spread ∙ simp (ne-eqb (w o) (w q) (λ e. h (a ∙ e ∙ sym b))))
+  module _ (a : Bool) (e₀ : a ≡ eqb (w o) (w q)) where
+    pub first-differs : a ≡ false → false ≡ same (tab w 4 o) (tab w 4 q)
+    first-differs h = sym (spread ∙ simp (sym e₀ ∙ h))
 
-    pub differs-2 : w o ≡ w q → x ≡ w (o + 1) → y ≡ w (q + 1) → (x ≡ y → ⊥) → false ≡ same (tab w 4 o) (tab w 4 q)
-    differs-2 e₁ a b h = sym (spread ∙ simp (eq-eqb _ _ e₁, ne-eqb (w (o + 1)) (w (q + 1)) (λ e. h (a ∙ e ∙ sym b))))
+    module _ (b : Bool) (e₁ : b ≡ eqb (w (o + 1)) (w (q + 1))) where
+      pub second-differs : a ≡ true → b ≡ false → false ≡ same (tab w 4 o) (tab w 4 q)
+      second-differs h k = sym (spread ∙ simp (sym e₀ ∙ h, sym e₁ ∙ k))
 
-    pub differs-3 : w o ≡ w q → w (o + 1) ≡ w (q + 1) → x ≡ w (o + 2) → y ≡ w (q + 2) → (x ≡ y → ⊥)
-        → false ≡ same (tab w 4 o) (tab w 4 q)
-    differs-3 e₁ e₂ a b h =
-        sym (spread ∙ simp (eq-eqb _ _ e₁, eq-eqb _ _ e₂, ne-eqb (w (o + 2)) (w (q + 2)) (λ e. h (a ∙ e ∙ sym b))))
+      module _ (c : Bool) (e₂ : c ≡ eqb (w (o + 2)) (w (q + 2))) where
+        pub third-differs : a ≡ true → b ≡ true → c ≡ false → false ≡ same (tab w 4 o) (tab w 4 q)
+        third-differs h k l = sym (spread ∙ simp (sym e₀ ∙ h, sym e₁ ∙ k, sym e₂ ∙ l))
 
-    pub only-last : w o ≡ w q → w (o + 1) ≡ w (q + 1) → w (o + 2) ≡ w (q + 2) → x ≡ w (o + 3) → y ≡ w (q + 3)
-        → eqb x y ≡ same (tab w 4 o) (tab w 4 q)
-    only-last e₁ e₂ e₃ a b =
-        (λ j. eqb (a j) (b j))
-        ∙ sym (spread ∙ simp (eq-eqb _ _ e₁, eq-eqb _ _ e₂, eq-eqb _ _ e₃) (and-true (eqb (w (o + 3)) (w (q + 3)))))
+        pub fourth-decides : (d : Bool) → d ≡ eqb (w (o + 3)) (w (q + 3)) → a ≡ true → b ≡ true → c ≡ true → d ≡ same (tab w 4 o) (tab w 4 q)
+        fourth-decides d e₃ h k l = e₃ ∙ sym (spread ∙ simp (sym e₀ ∙ h, sym e₁ ∙ k, sym e₂ ∙ l) (and-true (eqb (w (o + 3)) (w (q + 3)))))

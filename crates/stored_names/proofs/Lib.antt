@@ -1,4 +1,5 @@
 pub mod Fours
+pub mod Alike
 pub mod Names
 pub mod Spelling
 pub mod Tables

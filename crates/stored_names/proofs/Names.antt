@@ -1,22 +1,21 @@
--- What makes bytes a name, and when two exact names are the same.
-use mathlib.Core.Path.{_≡_, refl, sym, ap, _∙_, subst}
+-- What makes bytes a name.
+use mathlib.Core.Path.{_≡_, refl, sym, ap, _∙_}
 use mathlib.Core.List.{List, [], _∷_}
-use mathlib.Core.Bool.{Bool, true, false, _&&_, not, and-true}
-use Prim.Native.Nat.{ℕ, zero, suc, _≤_, _<_}
+use mathlib.Core.Bool.{Bool, true, false, _&&_, _||_, not, and-true, or-false}
+use Prim.Native.Nat.{ℕ, zero, suc, _-_, _≤_, _<_}
 use native.Mathlib.Omega.{arith}
-use borrow.Author.Tests.{eqb-true, eqb-false, le-leb, lt-ltb, le-ltb, ltb-true, ltb-false}
+use borrow.Author.Tests.{ne-eqb, eqb-true, eqb-false, leb-true, le-leb, lt-leb, lt-ltb, le-ltb, ltb-true, ltb-false}
 use lib.Dec.{leb, ltb, eqb}
 use lib.ListN.{length, take, getD}
 use lib.Seq.{length-take-le}
-use Rattle.model.specs.Basic.{every, all, run, same}
+use Rattle.model.specs.Basic.{every, all, run}
 use Rattle.model.specs.Bounds.{nameLimit}
 use Rattle.model.specs.Keywords.{keywordAt, isKeyword}
-use Rattle.model.specs.Tokens.{startsName, isNameByte, starts, tidy, isName, sameName}
-use Rattle.model.specs.Image.{bytesOf, nameWords, tab, nameAt}
-use Rattle.laws.proofs.Tests.{Every, one-fails, iff}
-use Rattle.laws.proofs.Places.{same-eq, same-refl}
-use Rattle.layout.specs.Tables.{nameExact}
-use Rattle.stored_names.specs.Stored.{tidyEnd, front}
+use Rattle.model.specs.Tokens.{isDigit, startsName, isNameByte, starts, tidy, isName}
+use Rattle.laws.proofs.Tests.{Every, one-fails, both}
+use Rattle.layout.specs.Tables.{front}
+use Rattle.characters.proofs.Laws.{run-out}
+use Rattle.stored_names.specs.Stored.{tidyEnd}
 use Rattle.stored_names.proofs.Spelling.{letters, tidy-ends, untidy-none, all-run, all-past, zero-ends, zero-after, name-within}
 
 -- NAMES
@@ -48,6 +47,21 @@ no-name s h = go (tidy (take (run isNameByte s) s)) refl
     go true q = ap (λ (k : ℕ). isName (take k s)) (untidy-none s h q) ∙ unfold isName in refl
     go false q = sym (name-spelt _) ∙ one-fails (nameTests (take (run isNameByte s) s)) 2 q
 
+pub digit-first : (c : ℕ) → isDigit c ≡ true → startsName c ≡ false
+digit-first c h =
+    let t = both (leb 48 c) (leb c 57) h in
+    let m = leb-true c 57 (t .1) in
+    simp (lt-leb 65 c (omega arith), lt-leb 97 c (omega arith), ne-eqb c 95 (λ z. omega arith))
+
+run-first : (f : ℕ → Bool) (s : List ℕ) → 0 < run f s → f (getD s 0 0) ≡ true
+unfolding run
+run-first f [] h = absurd (omega arith)
+run-first f (c ∷ s) h = go (f c) refl
+  where
+    go : (b : Bool) → f c ≡ b → f c ≡ true
+    go true e = e
+    go false e = absurd (omega (arith, run-out f c s e))
+
 -- n name bytes, tidy, from the start of s on; 0 where they are not
 module _ (s : List ℕ) (n : ℕ) (e : n ≡ tidyEnd false 0 s) where
   longer : run isNameByte s < letters s → isName (front s) ≡ false
@@ -76,6 +90,12 @@ module _ (s : List ℕ) (n : ℕ) (e : n ≡ tidyEnd false 0 s) where
       let z : letters s ≡ n = omega (arith, name-within s, zero-ends s n f, tidy-ends n s e h .0) in
       ap (λ (k : ℕ). take k s) z
 
+  -- the first of them begins a name where it is no digit
+  pub first-starts : 0 < n → isDigit (getD s 0 0) ≡ false → startsName (getD s 0 0) ≡ true
+  first-starts h d =
+      let c = getD s 0 0 in
+      sym (or-false (startsName c)) ∙ ap (λ (b : Bool). startsName c || b) (sym d) ∙ run-first isNameByte s (omega (arith, tidy-ends n s e h .0))
+
   pub spelt : 0 < n → n ≤ length s → length s ≤ 16 → startsName (getD s 0 0) ≡ true → Every (take 4 (nameTests (take n s)))
   spelt h l g first =
       let few : length (take n s) ≤ 16 = omega (arith, length-take-le n s l) in (
@@ -85,18 +105,3 @@ module _ (s : List ℕ) (n : ℕ) (e : n ≡ tidyEnd false 0 s) where
           (tidy-ends n s e h .1, (le-leb _ _ few, tt)),
         ),
       )
-
--- TWO NAMES
-pub same-names : (w : ℕ → ℕ) (o q : ℕ) → nameExact w o ≡ true → nameExact w q ≡ true
-    → same (tab w 4 o) (tab w 4 q) ≡ sameName (nameAt w o) (nameAt w q)
-unfolding nameExact nameAt sameName
-same-names w o q g h =
-    iff (same (tab w 4 o) (tab w 4 q)) (same (nameAt w o) (nameAt w q))
-    (λ e. subst (λ (v : List ℕ). same (nameAt w o) (front (bytesOf v)) ≡ true) (same-eq (tab w 4 o) (tab w 4 q) e) (same-refl (nameAt w o)))
-    (λ e. subst (λ (v : List ℕ). same (tab w 4 o) v ≡ true) (words e) (same-refl (tab w 4 o)))
-  where
-    words : same (nameAt w o) (nameAt w q) ≡ true → tab w 4 o ≡ tab w 4 q
-    words e =
-        same-eq (tab w 4 o) (nameWords (nameAt w o)) g
-        ∙ ap nameWords (same-eq (nameAt w o) (nameAt w q) e)
-        ∙ sym (same-eq (tab w 4 q) (nameWords (nameAt w q)) h)

@@ -56,20 +56,28 @@ or-last true b e h = clash (sym h)
 or-last false true e h = clash (sym h)
 or-last false false e h = refl
 
+letter-plain : (c : ℕ) → letter c ≡ true → isUnderscore c ≡ false
+letter-plain c h = go (isUnderscore c) refl
+  where
+    go : (b : Bool) → isUnderscore c ≡ b → isUnderscore c ≡ false
+    go true e = clash (sym (ap letter (eqb-true c 95 e)) ∙ h)
+    go false e = e
+
 module _ (u : Bool) (c : ℕ) where
   pub letter-stays : letter c ≡ true → endsName u c ≡ false
-  letter-stays h = go (isUnderscore c) refl
-    where
-      go : (b : Bool) → isUnderscore c ≡ b → endsName u c ≡ false
-      go true e = clash (sym (ap letter (eqb-true c 95 e)) ∙ h)
-      go false e =
-          (λ j. if e j then u else not (isNameByte c))
-          ∙ ap not (or-first (between 65 90 c) (between 97 122 c) (isUnderscore c) (isDigit c) h)
+  letter-stays h =
+      (λ j. if letter-plain c h j then u else not (isNameByte c))
+      ∙ ap not (or-first (between 65 90 c) (between 97 122 c) (isUnderscore c) (isDigit c) h)
 
   pub other-ends : (d : Bool) → letter c ≡ false → isUnderscore c ≡ false → d ≡ isDigit c → endsName u c ≡ not d
   other-ends d h e q =
       (λ j. if e j then u else not ((between 65 90 c || (between 97 122 c || e j)) || isDigit c))
       ∙ ap not (or-last (between 65 90 c) (between 97 122 c) (isDigit c) h ∙ sym q)
+
+pub at-letter : (s : List ℕ) (u : Bool) (i : ℕ) → i < length s → letter (getD s i 0) ≡ true → tidyEnd u i (drop i s) ≡ tidyEnd false (i + 1) (drop (i + 1) s)
+at-letter s u i h e =
+    let c = getD s i 0 in
+    at-more s u i h (letter-stays u c e) ∙ ap (λ (b : Bool). tidyEnd b (i + 1) (drop (i + 1) s)) (letter-plain c e)
 
 -- UNDERSCORES
 -- what follows is tidy; u: an underscore stands before it

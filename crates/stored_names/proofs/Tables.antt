@@ -6,12 +6,12 @@ use Prim.Native.Nat.{ℕ, zero, suc, _+_, _*_, _≤_, _<_}
 use native.Mathlib.Omega.{arith}
 use native.Mathlib.Nat.{mul-le-mul-right, suc-mul}
 use Rattle.model.specs.Basic.{all, distinct, same}
-use Rattle.model.specs.Tokens.{sameName}
+use Rattle.model.specs.Tokens.{isName, sameName}
 use Rattle.model.specs.Image.{tab, nameAt}
 use Rattle.laws.proofs.Lists.{all-append}
 use Rattle.layout.specs.Tables.{nameExact}
-use Rattle.stored_names.specs.Stored.{wordsIn, absent, apart}
-use Rattle.stored_names.proofs.Names.{same-names}
+use Rattle.stored_names.specs.Stored.{lettersAt, wordsIn, absent, apart}
+use Rattle.stored_names.proofs.Alike.{same-names}
 
 -- entry i of n ends within them
 pub entry : (i n s : ℕ) → i < n → i * s + s ≤ n * s
@@ -36,32 +36,36 @@ distinct-append eq (x ∷ xs) ys =
 abbrev pub nameIn : (ℕ → ℕ) → ℕ → ℕ → ℕ → List ℕ
 nameIn w o s i = nameAt w (o + i * s)
 
+-- an exact name stands at o
+abbrev pub Named : (ℕ → ℕ) → ℕ → Type 0
+Named w o = (nameExact w o ≡ true) × (isName (nameAt w o) ≡ true)
+
 -- n entries from i on begin with an exact name
 abbrev pub Exact : (ℕ → ℕ) → ℕ → ℕ → ℕ → ℕ → Type 0
-Exact w o s n i = (k : ℕ) → i ≤ k → k < i + n → nameExact w (o + k * s) ≡ true
+Exact w o s n i = (k : ℕ) → i ≤ k → k < i + n → Named w (o + k * s)
 
 module _ (w : ℕ → ℕ) where
-  first : (o s n i : ℕ) → Exact w o s (suc n) i → nameExact w (o + i * s) ≡ true
+  first : (o s n i : ℕ) → Exact w o s (suc n) i → Named w (o + i * s)
   first o s n i h = h i (omega arith) (omega arith)
 
   later : (o s n i : ℕ) → Exact w o s (suc n) i → Exact w o s n (suc i)
   later o s n i h k a b = h k (omega arith) (omega arith)
 
-  pub absent-names : (p o s n i : ℕ) → nameExact w p ≡ true → Exact w o s n i
-      → absent same (tab w 4 p) (tab (wordsIn w o s) n i) ≡ absent sameName (nameAt w p) (tab (nameIn w o s) n i)
+  pub absent-names : (p o s n i : ℕ) → Named w p → Exact w o s n i
+      → absent same (tab (lettersAt w) 4 p) (tab (wordsIn (lettersAt w) o s) n i) ≡ absent sameName (nameAt w p) (tab (nameIn w o s) n i)
   unfolding all tab
   absent-names p o s zero i g h = refl
   absent-names p o s (suc n) i g h =
       λ j. not (same-names w p (o + i * s) g (first o s n i h) j) && absent-names p o s n (suc i) g (later o s n i h) j
 
-  pub distinct-names : (o s n i : ℕ) → Exact w o s n i → distinct same (tab (wordsIn w o s) n i) ≡ distinct sameName (tab (nameIn w o s) n i)
+  pub distinct-names : (o s n i : ℕ) → Exact w o s n i → distinct same (tab (wordsIn (lettersAt w) o s) n i) ≡ distinct sameName (tab (nameIn w o s) n i)
   unfolding distinct tab
   distinct-names o s zero i h = refl
   distinct-names o s (suc n) i h =
       λ j. absent-names (o + i * s) o s n (suc i) (first o s n i h) (later o s n i h) j && distinct-names o s n (suc i) (later o s n i h) j
 
   pub apart-names : (o s n i q t m l : ℕ) → Exact w o s n i → Exact w q t m l
-      → apart same (tab (wordsIn w o s) n i) (tab (wordsIn w q t) m l) ≡ apart sameName (tab (nameIn w o s) n i) (tab (nameIn w q t) m l)
+      → apart same (tab (wordsIn (lettersAt w) o s) n i) (tab (wordsIn (lettersAt w) q t) m l) ≡ apart sameName (tab (nameIn w o s) n i) (tab (nameIn w q t) m l)
   unfolding all tab
   apart-names o s zero i q t m l h g = refl
   apart-names o s (suc n) i q t m l h g =
@@ -69,7 +73,7 @@ module _ (w : ℕ → ℕ) where
 
   pub joined-names : (o s n q t m : ℕ) → Exact w o s n 0 → Exact w q t m 0
       → distinct sameName (tab (nameIn w o s) n 0 ++ tab (nameIn w q t) m 0)
-      ≡ distinct same (tab (wordsIn w o s) n 0) && (apart same (tab (wordsIn w o s) n 0) (tab (wordsIn w q t) m 0) && distinct same (tab (wordsIn w q t) m 0))
+      ≡ distinct same (tab (wordsIn (lettersAt w) o s) n 0) && (apart same (tab (wordsIn (lettersAt w) o s) n 0) (tab (wordsIn (lettersAt w) q t) m 0) && distinct same (tab (wordsIn (lettersAt w) q t) m 0))
   joined-names o s n q t m h g =
       distinct-append sameName (tab (nameIn w o s) n 0) (tab (nameIn w q t) m 0)
       ∙ (λ j. sym (distinct-names o s n 0 h) j && (sym (apart-names o s n 0 q t m 0 h g) j && sym (distinct-names q t m 0 g) j))

@@ -1,12 +1,10 @@
 -- A helper: the bytes of one name, and tables of entries that begin with a name of four words, and names that differ, by
--- their words. `tidy-ends` ties them to model's `run` and `tidy`, `distinct-names` and `joined-names` to its `sameName`
--- and `distinct`.
+-- their words without case. `tidy-ends` ties them to model's `run` and `tidy`, `distinct-names` and `joined-names` to its
+-- `sameName` and `distinct`.
 use mathlib.Core.Bool.{Bool, not}
 use mathlib.Core.List.{List, [], _∷_}
-use Prim.Native.Nat.{ℕ, suc, _+_, _*_}
-use lib.Dec.{eqb}
-use lib.ListN.{take}
-use Rattle.model.specs.Basic.{if_then_else_, all, run}
+use Prim.Native.Nat.{ℕ, suc, _+_, _*_, _/_, _%_}
+use Rattle.model.specs.Basic.{if_then_else_, all}
 use Rattle.model.specs.Tokens.{isUnderscore, isNameByte}
 use Rattle.model.specs.Image.{tab}
 
@@ -23,13 +21,23 @@ unfoldable pub tidyEnd : Bool → ℕ → List ℕ → ℕ
 tidyEnd u n [] = tidyAt u n
 tidyEnd u n (c ∷ s) = if endsName u c then tidyAt u n else tidyEnd (isUnderscore c) (suc n) s
 
--- the bytes before the first zero
-abbrev pub front : List ℕ → List ℕ
-front s = take (run (λ c. not (eqb c 0)) s) s
-
 -- the four words of entry i of a table from place o on, s words an entry
 abbrev pub wordsIn : (ℕ → ℕ) → ℕ → ℕ → ℕ → List ℕ
 wordsIn w o s i = tab w 4 (o + i * s)
+
+-- a byte without the bit that tells a small letter from its capital
+abbrev pub caseless : ℕ → ℕ
+caseless c = c % 32 + c / 64 * 64
+
+-- a word of such bytes
+abbrev pub lettersOf : ℕ → ℕ
+lettersOf x =
+    caseless (x % 256) + caseless (x / 256 % 256) * 256 + caseless (x / 65536 % 256) * 65536
+    + caseless (x / 16777216 % 256) * 16777216
+
+-- all words so: two names are the same but for case where these words of theirs are equal
+abbrev pub lettersAt : (ℕ → ℕ) → ℕ → ℕ
+lettersAt w k = lettersOf (w k)
 
 -- x is the same as no element
 abbrev pub absent : {A : Type 0} → (A → A → Bool) → A → List A → Bool

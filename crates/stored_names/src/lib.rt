@@ -1,12 +1,14 @@
 // Names in a stored image: whether one stands at a place, whether two are the same, whether those of tables differ.
 ghost use mathlib.Core.Path.{_≡_};
 ghost use mathlib.Core.Bool.{false, _||_};
-ghost use Prim.Native.Nat.{_+_, _*_, _-_, _≤_};
+ghost use Prim.Native.Nat.{_+_, _*_, _-_, _≤_, _<_};
+ghost use lib.Dec.{eqb};
 ghost use lib.ListN.{length};
 ghost use Rattle.model.specs.Basic.{between, distinct, same};
 ghost use Rattle.model.specs.Tokens.{isName};
 ghost use Rattle.model.specs.Image.{wordAt, tab, nameAt};
-ghost use Rattle.stored_names.specs.Stored.{endsName, tidyAt, tidyEnd, front, wordsIn, absent, apart};
+ghost use Rattle.layout.specs.Tables.{front};
+ghost use Rattle.stored_names.specs.Stored.{endsName, tidyAt, tidyEnd, caseless, lettersOf, lettersAt, wordsIn, absent, apart};
 use bounds::within;
 use words::whole_word;
 
@@ -40,7 +42,7 @@ fn tidy_at(under: bool, i: usize) -> usize
     i
 }
 
-// Where the name bytes end that s starts with; 0 where they are not tidy.
+// Where the name bytes end that s starts with; 0 where they are not tidy. Most are letters.
 fn tidy_end(s: &[u8]) -> usize
     ensures { λ r. ⌜ r ≡ tidyEnd false 0 (now (s .entry)) ⌝ }
     ensures within { λ r. ⌜ r ≤ length (now (s .entry)) ⌝ }
@@ -49,10 +51,14 @@ fn tidy_end(s: &[u8]) -> usize
     let mut i: usize = 0;
     while i < s.len() {
         let c = s[i];
-        if ends_name(under, c) {
-            return tidy_at(under, i);
+        if is_letter(c) {
+            under = false;
+        } else {
+            if ends_name(under, c) {
+                return tidy_at(under, i);
+            }
+            under = c == 95;
         }
-        under = c == 95;
         i += 1;
     }
     tidy_at(under, i)
@@ -70,10 +76,10 @@ fn is_name(s: &[u8]) -> bool
     if words::byte(s, n) != 0 {
         return false;
     }
-    if !characters::starts_name(s[0]) {
+    if characters::is_digit(s[0]) {
         return false;
     }
-    if !keywords::begins(s[0]) {
+    if !keywords::may_be(n, s[0]) {
         return true;
     }
     keywords::keyword_at(&s[..n]) == keywords::COUNT
@@ -89,27 +95,55 @@ pub fn name_ok(img: &[u8], o: usize) -> bool
     is_name(&img[k..e])
 }
 
+// A byte without the bit that tells a small letter from its capital.
+fn without_case(c: usize) -> usize
+    requires { ⌜ c < 256 ⌝ }
+    ensures { λ r. ⌜ (r ≡ caseless c) × (r < 256) ⌝ }
+{
+    c % 32 + c / 64 * 64
+}
+
+// Each byte of a word so: to the compiler one mask.
+fn letters(x: usize) -> usize
+    ensures { λ r. ⌜ r ≡ lettersOf x ⌝ }
+{
+    without_case(x % 256)
+        + without_case(x / 256 % 256) * 256
+        + without_case(x / 65536 % 256) * 65536
+        + without_case(x / 16777216 % 256) * 16777216
+}
+
+// The words at o and q are the same but for case.
+fn same_letters(img: &[u8], o: usize, q: usize) -> bool
+    requires { ⌜ ((o + 1) * 4 ≤ length (now img)) × ((q + 1) * 4 ≤ length (now img)) ⌝ }
+    ensures { λ r. ⌜ r ≡ eqb (lettersAt (wordAt (now (img .entry))) o) (lettersAt (wordAt (now (img .entry))) q) ⌝ }
+{
+    letters(whole_word(img, o)) == letters(whole_word(img, q))
+}
+
+// Names, if they are names, are the same but for case.
 fn same_name(img: &[u8], o: usize, q: usize) -> bool
     requires { ⌜ ((o + 4) * 4 ≤ length (now img)) × ((q + 4) * 4 ≤ length (now img)) ⌝ }
-    ensures { λ r. ⌜ r ≡ same (tab (wordAt (now (img .entry))) 4 o) (tab (wordAt (now (img .entry))) 4 q) ⌝ }
+    ensures { λ r. ⌜ r ≡ same (tab (lettersAt (wordAt (now (img .entry)))) 4 o)
+        (tab (lettersAt (wordAt (now (img .entry)))) 4 q) ⌝ }
 {
-    if whole_word(img, o) != whole_word(img, q) {
+    if !same_letters(img, o, q) {
         return false;
     }
-    if whole_word(img, o + 1) != whole_word(img, q + 1) {
+    if !same_letters(img, o + 1, q + 1) {
         return false;
     }
-    if whole_word(img, o + 2) != whole_word(img, q + 2) {
+    if !same_letters(img, o + 2, q + 2) {
         return false;
     }
-    whole_word(img, o + 3) == whole_word(img, q + 3)
+    same_letters(img, o + 3, q + 3)
 }
 
 // The name at o is none of those of the entries from i on, below n, of the table at q.
 fn absent_ok(img: &[u8], o: usize, q: usize, s: usize, i: usize, n: usize) -> bool
     requires { ⌜ ((o + 4) * 4 ≤ length (now img)) × (4 ≤ s) × ((q + n * s) * 4 ≤ length (now img)) ⌝ }
-    ensures { λ r. ⌜ r ≡ absent same (tab (wordAt (now (img .entry))) 4 o)
-        (tab (wordsIn (wordAt (now (img .entry))) q s) (n - i) i) ⌝ }
+    ensures { λ r. ⌜ r ≡ absent same (tab (lettersAt (wordAt (now (img .entry)))) 4 o)
+        (tab (wordsIn (lettersAt (wordAt (now (img .entry)))) q s) (n - i) i) ⌝ }
 {
     let mut j = i;
     while j < n {
@@ -124,7 +158,7 @@ fn absent_ok(img: &[u8], o: usize, q: usize, s: usize, i: usize, n: usize) -> bo
 // The names of a table of n entries of s words are distinct.
 pub fn distinct_ok(img: &[u8], o: usize, s: usize, n: usize) -> bool
     requires { ⌜ (4 ≤ s) × ((o + n * s) * 4 ≤ length (now img)) ⌝ }
-    ensures { λ r. ⌜ r ≡ distinct same (tab (wordsIn (wordAt (now (img .entry))) o s) n 0) ⌝ }
+    ensures { λ r. ⌜ r ≡ distinct same (tab (wordsIn (lettersAt (wordAt (now (img .entry)))) o s) n 0) ⌝ }
 {
     let mut i: usize = 0;
     while i < n {
@@ -140,8 +174,8 @@ pub fn distinct_ok(img: &[u8], o: usize, s: usize, n: usize) -> bool
 pub fn apart_ok(img: &[u8], o: usize, s: usize, n: usize, q: usize, t: usize, m: usize) -> bool
     requires { ⌜ (4 ≤ s) × ((o + n * s) * 4 ≤ length (now img))
         × (4 ≤ t) × ((q + m * t) * 4 ≤ length (now img)) ⌝ }
-    ensures { λ r. ⌜ r ≡ apart same (tab (wordsIn (wordAt (now (img .entry))) o s) n 0)
-        (tab (wordsIn (wordAt (now (img .entry))) q t) m 0) ⌝ }
+    ensures { λ r. ⌜ r ≡ apart same (tab (wordsIn (lettersAt (wordAt (now (img .entry)))) o s) n 0)
+        (tab (wordsIn (lettersAt (wordAt (now (img .entry)))) q t) m 0) ⌝ }
 {
     let mut i: usize = 0;
     while i < n {

@@ -1,30 +1,20 @@
 -- A name's words are those of its bytes before the first zero exactly when no other byte follows it.
 use mathlib.Core.Path.{_≡_, refl, sym, ap, _∙_}
 use mathlib.Core.List.{List, [], _∷_}
-use mathlib.Core.Bool.{Bool, true, false, not}
-use Prim.Native.Nat.{ℕ, zero, suc, _+_, _*_, _/_, _%_, _≤_, _<_}
+use mathlib.Core.Bool.{Bool, true, false}
+use Prim.Native.Nat.{ℕ, zero, suc, _+_, _*_, _/_, _%_, _<_}
 use native.Mathlib.Omega.{arith}
 use lib.Dec.{leb, ltb, eqb}
-use lib.ListN.{length, take, getD}
+use lib.ListN.{length, getD}
 use borrow.Author.Tests.{eq-eqb, ne-eqb, eqb-true, ltb-true, ltb-false}
 use Rattle.model.specs.Basic.{if_then_else_, run, gather}
 use Rattle.model.specs.Image.{wordAt, wordBytes, bytesOf, nameWords, nameAt, tab}
 use Rattle.laws.proofs.Tests.{iff, clash}
 use Rattle.words.proofs.Bytes.{words-at}
-use Rattle.layout.specs.Tables.{nameExact}
-use Rattle.layout.proofs.RowLaws.{stands, stood}
+use Rattle.layout.specs.Tables.{nameExact, front}
+use Rattle.layout.proofs.RowLaws.{stood}
+use Rattle.layout.proofs.Padded.{front-zero, front-more, agrees}
 use Rattle.stored_tables.specs.Tests.{padStep, padRun}
-
-abbrev trim : List ℕ → List ℕ
-trim l = take (run (λ c. not (eqb c 0)) l) l
-
-trim-zero : (c : ℕ) (l : List ℕ) → eqb c 0 ≡ true → trim (c ∷ l) ≡ []
-unfolding run
-trim-zero c l e = ap (λ (b : Bool). take (elim (not b) [ true ↦ suc (run (λ x. not (eqb x 0)) l) | false ↦ 0 ]) (c ∷ l)) e
-
-trim-more : (c : ℕ) (l : List ℕ) → eqb c 0 ≡ false → trim (c ∷ l) ≡ c ∷ trim l
-unfolding run
-trim-more c l e = ap (λ (b : Bool). take (elim (not b) [ true ↦ suc (run (λ x. not (eqb x 0)) l) | false ↦ 0 ]) (c ∷ l)) e
 
 dead : (l : List ℕ) → padRun 2 l ≡ 2
 unfolding padRun padStep
@@ -136,88 +126,45 @@ no-zeros (c ∷ l) h =
     let e : c ≡ 0 = sym (h 0 (omega arith)) in
     simp (eq-eqb c 0 e) (no-zeros l (λ k g. h (suc k) (omega arith)))
 
-padded : (l : List ℕ) → leb (padRun 0 l) 1 ≡ true → (k : ℕ) → getD (trim l) k 0 ≡ getD l k 0
+padded : (l : List ℕ) → leb (padRun 0 l) 1 ≡ true → (k : ℕ) → getD (front l) k 0 ≡ getD l k 0
 unfolding padRun padStep run
 padded [] h k = refl
 padded (c ∷ l) h k = go (λ g. padded l g) (eqb c 0) refl k
   where
-    go : (leb (padRun 0 l) 1 ≡ true → (j : ℕ) → getD (trim l) j 0 ≡ getD l j 0) → (b : Bool) → eqb c 0 ≡ b
-        → (k : ℕ) → getD (trim (c ∷ l)) k 0 ≡ getD (c ∷ l) k 0
-    go ih true e zero = ap (λ (t : List ℕ). getD t 0 0) (trim-zero c l e) ∙ sym (eqb-true c 0 e)
-    go ih true e (suc k) = ap (λ (t : List ℕ). getD t (suc k) 0) (trim-zero c l e) ∙ zeros l (simp e at h) k
-    go ih false e zero = ap (λ (t : List ℕ). getD t 0 0) (trim-more c l e)
-    go ih false e (suc k) = ap (λ (t : List ℕ). getD t (suc k) 0) (trim-more c l e) ∙ ih (simp e at h) k
+    go : (leb (padRun 0 l) 1 ≡ true → (j : ℕ) → getD (front l) j 0 ≡ getD l j 0) → (b : Bool) → eqb c 0 ≡ b
+        → (k : ℕ) → getD (front (c ∷ l)) k 0 ≡ getD (c ∷ l) k 0
+    go ih true e zero = ap (λ (t : List ℕ). getD t 0 0) (front-zero c l e) ∙ sym (eqb-true c 0 e)
+    go ih true e (suc k) = ap (λ (t : List ℕ). getD t (suc k) 0) (front-zero c l e) ∙ zeros l (simp e at h) k
+    go ih false e zero = ap (λ (t : List ℕ). getD t 0 0) (front-more c l e)
+    go ih false e (suc k) = ap (λ (t : List ℕ). getD t (suc k) 0) (front-more c l e) ∙ ih (simp e at h) k
 
-pads : (l : List ℕ) → ((k : ℕ) → k < length l → getD (trim l) k 0 ≡ getD l k 0) → leb (padRun 0 l) 1 ≡ true
+pads : (l : List ℕ) → ((k : ℕ) → k < length l → getD (front l) k 0 ≡ getD l k 0) → leb (padRun 0 l) 1 ≡ true
 unfolding padRun padStep
 pads [] h = refl
 pads (c ∷ l) h = go (λ g. pads l g) (eqb c 0) refl
   where
-    go : (((k : ℕ) → k < length l → getD (trim l) k 0 ≡ getD l k 0) → leb (padRun 0 l) 1 ≡ true) → (b : Bool) → eqb c 0 ≡ b → leb (padRun 0 (c ∷ l)) 1 ≡ true
-    go ih true e = simp (e, no-zeros l (λ k g. sym (ap (λ (t : List ℕ). getD t (suc k) 0) (trim-zero c l e)) ∙ h (suc k) (omega arith)))
-    go ih false e = simp e (ih (λ k g. sym (ap (λ (t : List ℕ). getD t (suc k) 0) (trim-more c l e)) ∙ h (suc k) (omega arith)))
-
-below : (l : List ℕ) (k : ℕ) → getD (trim l) k 0 ≤ getD l k 0
-unfolding run
-below [] k = omega arith
-below (c ∷ l) k = go (λ j. below l j) (eqb c 0) refl k
-  where
-    go : ((j : ℕ) → getD (trim l) j 0 ≤ getD l j 0) → (b : Bool) → eqb c 0 ≡ b → (k : ℕ) → getD (trim (c ∷ l)) k 0 ≤ getD (c ∷ l) k 0
-    go ih true e k = rw (trim-zero c l e) (omega arith)
-    go ih false e zero = rw (trim-more c l e) (omega arith)
-    go ih false e (suc k) = rw (trim-more c l e) (ih k)
+    go : (((k : ℕ) → k < length l → getD (front l) k 0 ≡ getD l k 0) → leb (padRun 0 l) 1 ≡ true) → (b : Bool) → eqb c 0 ≡ b → leb (padRun 0 (c ∷ l)) 1 ≡ true
+    go ih true e = simp (e, no-zeros l (λ k g. sym (ap (λ (t : List ℕ). getD t (suc k) 0) (front-zero c l e)) ∙ h (suc k) (omega arith)))
+    go ih false e = simp e (ih (λ k g. sym (ap (λ (t : List ℕ). getD t (suc k) 0) (front-more c l e)) ∙ h (suc k) (omega arith)))
 
 word-agree : (s l : List ℕ) → ((k : ℕ) → getD s k 0 ≡ getD l k 0) → (i : ℕ) → wordAt s i ≡ wordAt l i
 unfolding wordAt
 word-agree s l h i = λ j. h (i * 4) j + h (i * 4 + 1) j * 256 + h (i * 4 + 2) j * 65536 + h (i * 4 + 3) j * 16777216
-
--- bytes that are at most others, of words that are equal
-byte-agree : (s l : List ℕ) → ((k : ℕ) → getD s k 0 ≤ getD l k 0) → (i j : ℕ) → j < 4 → wordAt s i ≡ wordAt l i → getD s (i * 4 + j) 0 ≡ getD l (i * 4 + j) 0
-unfolding wordAt
-byte-agree s l h i zero g e =
-    let z : i * 4 + 0 ≡ i * 4 = omega arith in
-    rw z (omega (arith, h (i * 4), h (i * 4 + 1), h (i * 4 + 2), h (i * 4 + 3)))
-byte-agree s l h i (suc zero) g e = omega (arith, h (i * 4), h (i * 4 + 1), h (i * 4 + 2), h (i * 4 + 3))
-byte-agree s l h i (suc (suc zero)) g e = omega (arith, h (i * 4), h (i * 4 + 1), h (i * 4 + 2), h (i * 4 + 3))
-byte-agree s l h i (suc (suc (suc zero))) g e = omega (arith, h (i * 4), h (i * 4 + 1), h (i * 4 + 2), h (i * 4 + 3))
-byte-agree s l h i (suc (suc (suc (suc j)))) g e = absurd (omega arith)
 
 module _ (w : ℕ → ℕ) (o : ℕ) where
   abbrev bytes : List ℕ
   bytes = bytesOf (tab w 4 o)
 
   to : nameExact w o ≡ true → leb (padRun 0 bytes) 1 ≡ true
-  unfolding nameExact nameWords nameAt bytesOf gather tab
-  to h = pads bytes agrees
-    where
-      agrees : (k : ℕ) → k < 16 → getD (trim bytes) k 0 ≡ getD bytes k 0
-      agrees k g =
-          let a = stands w o 4 (nameWords (trim bytes)) h in
-          let b = words-at (tab w 4 o) in
-          let a2 = a .1 .1 in
-          let b2 = b .1 .1 in
-          let words : (i : ℕ) → i < 4 → wordAt (trim bytes) i ≡ wordAt bytes i =
-          go (trim bytes) bytes (a .0) (a .1 .0) (a2 .0) (a2 .1 .0) (b .0) (b .1 .0) (b2 .0) (b2 .1 .0) in
-          let e : k / 4 * 4 + k % 4 ≡ k = omega arith in
-          let there = words (k / 4) (omega arith) in
-          ap (λ (j : ℕ). getD (trim bytes) j 0) (sym e)
-          ∙ byte-agree (trim bytes) bytes (below bytes) (k / 4) (k % 4) (omega arith) there
-          ∙ ap (λ (j : ℕ). getD bytes j 0) e
-        where
-          go : {x y z u : ℕ} (s l : List ℕ) → x ≡ wordAt s 0 → y ≡ wordAt s 1 → z ≡ wordAt s 2 → u ≡ wordAt s 3
-              → wordAt l 0 ≡ x → wordAt l 1 ≡ y → wordAt l 2 ≡ z → wordAt l 3 ≡ u → (i : ℕ) → i < 4 → wordAt s i ≡ wordAt l i
-          go s t a b c d e f g h zero l = sym (e ∙ a)
-          go s t a b c d e f g h (suc zero) l = sym (f ∙ b)
-          go s t a b c d e f g h (suc (suc zero)) l = sym (g ∙ c)
-          go s t a b c d e f g h (suc (suc (suc zero))) l = sym (h ∙ d)
-          go s t a b c d e f g h (suc (suc (suc (suc i)))) l = absurd (omega arith)
+  unfolding bytesOf gather tab
+  to h = pads bytes (agrees w o h)
 
   from : leb (padRun 0 bytes) 1 ≡ true → nameExact w o ≡ true
   unfolding nameExact nameWords nameAt tab
   from h =
       let b = words-at (tab w 4 o) in
-      let a = word-agree (trim bytes) bytes (padded bytes h) in
-      stood w o 4 (nameWords (trim bytes)) refl (sym (a 0 ∙ b .0), (sym (a 1 ∙ b .1 .0), (sym (a 2 ∙ b .1 .1 .0), (sym (a 3 ∙ b .1 .1 .1 .0), tt))))
+      let a = word-agree (front bytes) bytes (padded bytes h) in
+      stood w o 4 (nameWords (front bytes)) refl (sym (a 0 ∙ b .0), (sym (a 1 ∙ b .1 .0), (sym (a 2 ∙ b .1 .1 .0), (sym (a 3 ∙ b .1 .1 .1 .0), tt))))
 
   name-spelt : nameExact w o ≡ leb (padRun 0 bytes) 1
   name-spelt = iff (nameExact w o) (leb (padRun 0 bytes) 1) to from

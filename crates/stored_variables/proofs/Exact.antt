@@ -13,7 +13,6 @@ use Rattle.laws.proofs.Tests.{both, passed}
 use Rattle.laws.proofs.Places.{at-cut}
 use Rattle.layout.specs.Rows.{rowsOk}
 use Rattle.layout.specs.Tables.{inputRow, inputNext, outputRow, outputNext, termRow, termNext, outputTermAt, inputCount, outputCount, outputFirstAt, inputTermsIn, outputTermsIn, inputPointsIn, inputRows, outputRows, inputTermRows, outputTermRows, nameExact}
-use Rattle.stored_names.proofs.Tables.{Exact}
 use Rattle.layout.specs.Groups.{tablesOk}
 use Rattle.layout.proofs.RowLaws.{stands, stood}
 use Rattle.layout.proofs.Parts.{inputFirsts-run, outputFirsts-run, inputFirst}
@@ -33,6 +32,10 @@ span P n i p q k a b = go (eqb i k) refl
     go true e = subst P (eqb-true i k e) p
     go false e = let z = eqb-false i k e in q k (omega arith) (omega arith)
 
+-- n rows from i on begin with the exact words of a name
+abbrev pub Laid : (ℕ → ℕ) → ℕ → ℕ → ℕ → ℕ → Type 0
+Laid w o s n i = Span (λ k. nameExact w (o + k * s) ≡ true) n i
+
 exact-row : (w : ℕ → ℕ) (o s : ℕ) (xs : List ℕ) → same (tab w s o) (nameWords (nameAt w o) ++ xs) ≡ true → nameExact w o ≡ true
 unfolding nameExact nameWords
 exact-row w o s xs h =
@@ -41,7 +44,7 @@ exact-row w o s xs h =
 
 exact-rows : {R : Type 0} (enc : ℕ → R → List ℕ) (next : ℕ → R → ℕ) (dec : ℕ → R) (w : ℕ → ℕ) (o s : ℕ)
     → ((i σ : ℕ) → same (tab w s (o + i * s)) (enc σ (dec i)) ≡ true → nameExact w (o + i * s) ≡ true)
-    → (n i σ : ℕ) → rowsOk enc next dec w o s n i σ ≡ true → Exact w o s n i
+    → (n i σ : ℕ) → rowsOk enc next dec w o s n i σ ≡ true → Laid w o s n i
 unfolding rowsOk
 exact-rows enc next dec w o s f zero i σ h = no-span _ i
 exact-rows enc next dec w o s f (suc n) i σ h =
@@ -49,29 +52,29 @@ exact-rows enc next dec w o s f (suc n) i σ h =
     span (λ k. nameExact w (o + k * s) ≡ true) n i (f i σ (c .0)) (exact-rows enc next dec w o s f n (suc i) (next σ (dec i)) (c .1))
 
 module _ (w : ℕ → ℕ) where
-  inputs-exact : inputRows w ≡ true → Exact w (w 9) 7 (w 2) 0
+  inputs-exact : inputRows w ≡ true → Laid w (w 9) 7 (w 2) 0
   unfolding inputRows inputAt
   inputs-exact h = exact-rows inputRow inputNext (inputAt w) w (w 9) 7 (λ i σ e. exact-row w (w 9 + i * 7) 7 _ e) (w 2) 0 0 h
 
-  outputs-exact : outputRows w ≡ true → Exact w (w 10) 11 (w 3) 0
+  outputs-exact : outputRows w ≡ true → Laid w (w 10) 11 (w 3) 0
   unfolding outputRows outputAt
   outputs-exact h = exact-rows outputRow outputNext (outputAt w) w (w 10) 11 (λ i σ e. exact-row w (w 10 + i * 11) 11 _ e) (w 3) 0 (inputTermsIn w) h
 
-  input-terms-exact : inputTermRows w ≡ true → Exact w (w 11) 6 (inputTermsIn w) 0
+  input-terms-exact : inputTermRows w ≡ true → Laid w (w 11) 6 (inputTermsIn w) 0
   unfolding inputTermRows termAt
   input-terms-exact h = exact-rows termRow termNext (termAt w) w (w 11) 6 (λ i σ e. exact-row w (w 11 + i * 6) 6 _ e) (inputTermsIn w) 0 0 h
 
-  output-terms-exact : outputTermRows w ≡ true → Exact w (w 11) 6 (outputTermsIn w) (inputTermsIn w)
+  output-terms-exact : outputTermRows w ≡ true → Laid w (w 11) 6 (outputTermsIn w) (inputTermsIn w)
   unfolding outputTermRows singletonAt
   output-terms-exact h =
       exact-rows termRow termNext (outputTermAt w) w (w 11) 6 (λ i σ e. exact-row w (w 11 + i * 6) 6 _ e) (outputTermsIn w) (inputTermsIn w) (inputPointsIn w) h
 
   -- all names are exact
   pub record Names : Type 0 where
-    pub inputs : Exact w (w 9) 7 (w 2) 0
-    pub outputs : Exact w (w 10) 11 (w 3) 0
-    pub inputTerms : (i : ℕ) → i < w 2 → Exact w (w 11) 6 (inputCount w i) (inputFirst w i)
-    pub outputTerms : (i : ℕ) → i < w 3 → Exact w (w 11) 6 (outputCount w i) (outputFirstAt w i)
+    pub inputs : Laid w (w 9) 7 (w 2) 0
+    pub outputs : Laid w (w 10) 11 (w 3) 0
+    pub inputTerms : (i : ℕ) → i < w 2 → Laid w (w 11) 6 (inputCount w i) (inputFirst w i)
+    pub outputTerms : (i : ℕ) → i < w 3 → Laid w (w 11) 6 (outputCount w i) (outputFirstAt w i)
 
   pub exact-names : tablesOk w ≡ true → Names
   unfolding tablesOk

@@ -16,7 +16,7 @@ use Rattle.model.specs.WellFormed.{unitOk, pointOk, inOrder, termOk, rangeOk, f
 use Rattle.model.specs.Image.{crispOf, tab, inputPlace, outputPlace, termPlace, nameAt, pointAt, termAt, singletonAt}
 use Rattle.crisp.specs.Crisp.{rangeGiven}
 use Rattle.laws.proofs.Places.{length-tab}
-use Rattle.stored_names.specs.Stored.{wordsIn, apart}
+use Rattle.stored_names.specs.Stored.{lettersAt, wordsIn, apart}
 use Rattle.stored_variables.specs.Stored.{termsApart, inputStored, rangeAt, defaultAt, outputStored, variablesApart}
 
 given : (t : Bool) (a b : ℤ) → rangeGiven (not t) a b ≡ (if t then none else some (record { least = a; most = b }))
@@ -88,13 +88,13 @@ module _ (w : ℕ → ℕ) where
   unfolding singletonOk singletonAt
   singleton-spelt g t q p x eq ep ex = rw (ex, ep, eq)
 
-  pub terms-spelt : (s o k : ℕ) → o ≡ termPlace w s → distinct same (tab (wordsIn w o 6) k 0) ≡ termsApart w s k
+  pub terms-spelt : (s o k : ℕ) → o ≡ termPlace w s → distinct same (tab (wordsIn (lettersAt w) o 6) k 0) ≡ termsApart w s k
   unfolding termsApart
   terms-spelt s o k eo = rw eo
 
   pub apart-spelt : (a b n m : ℕ) → a ≡ w 9 → b ≡ w 10 → n ≡ w 2 → m ≡ w 3
-      → distinct same (tab (wordsIn w a 7) n 0)
-      && (apart same (tab (wordsIn w a 7) n 0) (tab (wordsIn w b 11) m 0) && distinct same (tab (wordsIn w b 11) m 0))
+      → distinct same (tab (wordsIn (lettersAt w) a 7) n 0)
+      && (apart same (tab (wordsIn (lettersAt w) a 7) n 0) (tab (wordsIn (lettersAt w) b 11) m 0) && distinct same (tab (wordsIn (lettersAt w) b 11) m 0))
       ≡ variablesApart w
   unfolding variablesApart
   apart-spelt a b n m ea eb en em = rw (ea, eb, en, em)

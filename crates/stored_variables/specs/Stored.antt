@@ -1,4 +1,4 @@
--- A helper: what is tested of stored variables, as of a block's, but names compared by their words.
+-- A helper: what is tested of stored variables, as of a block's, but names compared by their words, without case.
 -- `variables-spelt` ties the tests to those of model's `inputOk` and `outputOk`, by `variablesOk`.
 use mathlib.Core.Bool.{Bool, _&&_}
 use mathlib.Core.List.{List, [], _∷_, map}
@@ -12,7 +12,7 @@ use Rattle.model.specs.Block.{Range}
 use Rattle.model.specs.Tokens.{isName}
 use Rattle.model.specs.WellFormed.{termOk, rangeOk, defaultOk, singletonOk}
 use Rattle.model.specs.Image.{inputWidth, outputWidth, termWidth, INPUTS, OUTPUTS, INPUT-TABLE, OUTPUT-TABLE, inputPlace, outputPlace, termPlace, crispOf, tab, nameAt, pointAt, termAt, singletonAt}
-use Rattle.stored_names.specs.Stored.{wordsIn, apart}
+use Rattle.stored_names.specs.Stored.{lettersAt, wordsIn, apart}
 
 -- the positions of the points from i on, those before e
 abbrev pub positionsFrom : (ℕ → ℕ) → ℕ → ℕ → List ℤ
@@ -20,7 +20,7 @@ positionsFrom w e i = map (λ p. p .at) (tab (pointAt w) (e - i) i)
 
 -- the names of k terms from s on are distinct
 unfoldable pub termsApart : (ℕ → ℕ) → ℕ → ℕ → Bool
-termsApart w s k = distinct same (tab (wordsIn w (termPlace w s) termWidth) k 0)
+termsApart w s k = distinct same (tab (wordsIn (lettersAt w) (termPlace w s) termWidth) k 0)
 
 unfoldable pub inputStored : (ℕ → ℕ) → ℕ → Bool
 inputStored w i =
@@ -55,6 +55,6 @@ outputStored w i =
 -- the names of the inputs and outputs are distinct
 unfoldable pub variablesApart : (ℕ → ℕ) → Bool
 variablesApart w =
-    let inputs = tab (wordsIn w (w INPUT-TABLE) inputWidth) (w INPUTS) 0 in
-    let outputs = tab (wordsIn w (w OUTPUT-TABLE) outputWidth) (w OUTPUTS) 0 in
+    let inputs = tab (wordsIn (lettersAt w) (w INPUT-TABLE) inputWidth) (w INPUTS) 0 in
+    let outputs = tab (wordsIn (lettersAt w) (w OUTPUT-TABLE) outputWidth) (w OUTPUTS) 0 in
     distinct same inputs && (apart same inputs outputs && distinct same outputs)

@@ -24,7 +24,7 @@ use std::fmt;
 pub enum Refusal {
     /// 1: the text is longer than 65,536 bytes.
     TextTooLong,
-    /// 2: a wrong byte or token, or the text ends early.
+    /// 2: a wrong byte or token, or the text ends early. A keyword, in whatever case, is no name.
     WrongToken {
         /// Where the token begins, or the text's length.
         at: usize,
@@ -34,7 +34,7 @@ pub enum Refusal {
         /// Where the number begins.
         at: usize,
     },
-    /// 4: a name that is too long, or a variable, term, rule number or part given twice.
+    /// 4: a name that is too long, or a variable, term, rule number or part given twice, in whatever case.
     LongOrRepeated {
         /// Where the long or second one begins; of a part, where its variable does.
         at: usize,
@@ -157,7 +157,9 @@ impl Refusal {
             Refusal::TextTooLong => (1, "the text is too long"),
             Refusal::WrongToken { .. } => (2, "a wrong byte or token, or the text ends early"),
             Refusal::WrongNumber { .. } => (3, "the form or the bound of a number"),
-            Refusal::LongOrRepeated { .. } => (4, "a name that is too long, or something given twice"),
+            Refusal::LongOrRepeated { .. } => {
+                (4, "a name that is too long, or something given twice, in whatever case")
+            }
             Refusal::Undeclared { .. } => (5, "a name that is not declared for this use"),
             Refusal::TooMany { .. } => (6, "more than a bound allows"),
             Refusal::WrongPosition { .. } => {

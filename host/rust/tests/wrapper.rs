@@ -1,5 +1,5 @@
-//! The safe wrapper: what the examples print, every refusal by name and in words, texts in chunks, answers of each mark
-//! and at sharp edges.
+//! The safe wrapper: what the examples print, every refusal by name and in words, texts in chunks, names without case,
+//! answers of each mark and at sharp edges.
 use grillenhelm::{Image, Mark, Reading, Refusal, TextChunks};
 
 #[allow(dead_code)]
@@ -108,6 +108,34 @@ fn texts_in_chunks() {
     chunks.append(b";").unwrap();
     chunks.restart();
     assert_eq!(chunks.finish(), Err(Refusal::WrongToken { at: 0 }));
+}
+
+/// Uses and keywords in other letters leave no trace, declarations keep theirs; names alike but for case are one.
+#[test]
+fn names_without_case() {
+    let image = Image::read(TRUST.as_bytes()).unwrap();
+    assert_eq!(image.listing(), include_str!("../../../examples/trust.listing"));
+    let (declarations, rules) = TRUST.split_at(TRUST.find("RULE 1").unwrap());
+    for text in [format!("{declarations}{}", rules.to_ascii_uppercase()), TRUST.to_ascii_lowercase()] {
+        assert_eq!(Image::read(text.as_bytes()), Ok(image.clone()), "{text}");
+    }
+    let capitals = Image::read(TRUST.to_ascii_uppercase().as_bytes()).unwrap();
+    assert_eq!(capitals.listing(), image.listing().to_ascii_uppercase().replace("COGS", "CoGS"));
+
+    let repeated = TRUST.replacen("high :=", "Low :=", 1);
+    assert_eq!(refusal_of(&repeated), Refusal::LongOrRepeated { at: repeated.find("Low").unwrap() });
+    assert_eq!(refusal_of(&TRUST.replacen("trust", "rule", 1)), Refusal::WrongToken { at: 15 });
+
+    // The input's name stands at word 28, the output's at 35, the rule block's at 24.
+    let mut stored = image.as_bytes().to_vec();
+    stored[112..117].copy_from_slice(b"Sharp");
+    let respelt = Image::check(&stored).unwrap();
+    assert_eq!(respelt.listing(), image.listing().replace("sharp", "Sharp"));
+    for (at, name) in [(140, b"sharp"), (140, b"SHARP"), (96, b"range"), (96, b"Range")] {
+        let mut stored = stored.clone();
+        stored[at..at + 5].copy_from_slice(name);
+        assert_eq!(Image::check(&stored), Err(Refusal::NotAnImage), "{at}, {name:?}");
+    }
 }
 
 /// A block without a rule for low readings: NC holds what was, a number after DEFAULT stands in for it.

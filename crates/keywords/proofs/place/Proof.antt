@@ -1,8 +1,7 @@
 use borrow.Author.Needs.{needs}
 use borrow.Author.Tests.{ltb-true}
 use mathlib.Core.Path.{sym, ap, _∙_}
-use Rattle.model.specs.Basic.{same}
-use Rattle.laws.proofs.Places.{same-eq}
+use Rattle.model.specs.Basic.{alike}
 use Rattle.keywords.specs.Slots.{slotOf}
 use Rattle.keywords.proofs.Laws.{slot-keyword, slot-other}
 use Rattle.keywords.proofs.place.Statement.{statement}
@@ -17,7 +16,7 @@ returns c =
     let p = c .before .before .before .before .pre in
     let h = ltb-true (a .i) 43 (p .1 .1) in
     let q = sym (c .before .is-word .ensures) ∙ c .if1 .taken in
-    (sym (slot-keyword (a .w .now) (a .i) h (same-eq (a .w .now) (a .t .now) q ∙ p .1 .0)), search needs)
+    (sym (slot-keyword (a .w .now) (a .i) h (ap (alike (a .w .now)) (sym (p .1 .0)) ∙ q)), search needs)
 
 returns-2 : tie.Need-returns-2
 returns-2 c =
@@ -25,7 +24,7 @@ returns-2 c =
     let p = c .before .before .before .before .pre in
     let h = ltb-true (a .i) 43 (p .1 .1) in
     let q = sym (c .before .is-word .ensures) ∙ c .if1 .left in
-    (sym (slot-other (a .w .now) (a .i) h (sym (p .0 .0) ∙ p .0 .1 ∙ ap slotOf (p .1 .0)) (ap (same (a .w .now)) (sym (p .1 .0)) ∙ q)), search needs)
+    (sym (slot-other (a .w .now) (a .i) h (sym (p .0 .0) ∙ p .0 .1 ∙ ap slotOf (p .1 .0)) (ap (alike (a .w .now)) (sym (p .1 .0)) ∙ q)), search needs)
 
 pub place-spec : {M : Type 1} → statement M
 place-spec = tie.close (tie.spec is-word-requires returns returns-2)

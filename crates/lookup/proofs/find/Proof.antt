@@ -1,9 +1,13 @@
-use mathlib.Core.Path.{_≡_, refl, sym}
+use mathlib.Core.Path.{_≡_, refl, sym, _∙_}
+use mathlib.Core.Bool.{true}
 use Prim.Native.Nat.{ℕ, _+_, _-_, _≤_, _<_}
 use native.Mathlib.Omega.{arith}
 use borrow.Author.Needs.{needs}
+use borrow.Author.Tests.{not-true, not-false}
+use lib.Dec.{eqb}
 use lib.ListN.{getD}
 use lib.Seq.{slice}
+use Rattle.model.specs.Basic.{capital}
 use Rattle.model.specs.Tokens.{sameName}
 use Rattle.laws.proofs.Search.{Past, past-start, past-more, past-here, past-end}
 use Rattle.lookup.specs.Names.{nameOf}
@@ -13,7 +17,7 @@ use Rattle.lookup.proofs.find.Tie as tie
 
 abbrev Inv-loop : tie.InvT-loop
 Inv-loop s names from count start end n i₀ k a e j₀ i j =
-    (i ≡ i₀) × (j ≤ n) × ((m : ℕ) → j ≤ m → m < n → getD s (start + m) 0 ≡ getD s (a + m) 0)
+    (i ≡ i₀) × (j ≤ n) × ((m : ℕ) → j ≤ m → m < n → eqb (capital (getD s (start + m) 0)) (capital (getD s (a + m) 0)) ≡ true)
 
 abbrev μ-loop : tie.MeasureT-loop
 μ-loop s names from count start end n i₀ k a e j₀ i j = j
@@ -29,7 +33,7 @@ sub-n c = search needs
 
 search-holds : tie.Need-search-holds Inv-loop μ-loop Inv-search μ-search
 search-holds c =
-    let a = c .args in
+    let a = c .before .args in
     past-start (sameName (slice (a .start) (a .end) (a .s .now))) (nameOf (a .s .now) (a .names .now)) (a .count) (a .from)
 
 add-k : tie.Need-add-k Inv-loop μ-loop Inv-search μ-search
@@ -51,7 +55,7 @@ element-copy-out-e : tie.Need-element-copy-out-e Inv-loop μ-loop Inv-search μ-
 element-copy-out-e c = search needs
 
 sub-if1 : tie.Need-sub-if1 Inv-loop μ-loop Inv-search μ-search
-sub-if1 c = c .before .before .before .before .pre .3 .order _ (omega arith)
+sub-if1 c = c .before .before .before .before .before .pre .3 .order _ (omega arith)
 
 loop-holds : tie.Need-loop-holds Inv-loop μ-loop Inv-search μ-search
 loop-holds c = (refl, omega arith, λ m p q. absurd (omega arith))
@@ -59,23 +63,27 @@ loop-holds c = (refl, omega arith, λ m p q. absurd (omega arith))
 sub-j : tie.Need-sub-j Inv-loop μ-loop Inv-search μ-search
 sub-j c = search needs
 
-add-if2 : tie.Need-add-if2 Inv-loop μ-loop Inv-search μ-search
-add-if2 c = search needs
+add-is-alike : tie.Need-add-is-alike Inv-loop μ-loop Inv-search μ-search
+add-is-alike c = search needs
 
-shared-slice-read-if2 : tie.Need-shared-slice-read-if2 Inv-loop μ-loop Inv-search μ-search
-shared-slice-read-if2 c = search needs
+shared-slice-read-is-alike : tie.Need-shared-slice-read-is-alike Inv-loop μ-loop Inv-search μ-search
+shared-slice-read-is-alike c = search needs
 
-add-if2-2 : tie.Need-add-if2-2 Inv-loop μ-loop Inv-search μ-search
-add-if2-2 c =
+add-is-alike-2 : tie.Need-add-is-alike-2 Inv-loop μ-loop Inv-search μ-search
+add-is-alike-2 c =
     let o = c .before .before .before .before .before .before .before in
-    let z = o .before in
+    let z = o .before .before in
     omega (arith, z .pre .3 .inside (112 + (z .args .from + o .search .i)))
 
-shared-slice-read-if2-2 : tie.Need-shared-slice-read-if2-2 Inv-loop μ-loop Inv-search μ-search
-shared-slice-read-if2-2 c =
-    let z = c .before .before .before .before .before .before .before .before .before in
-    let o = c .before .before .before .before .before .before .before .before .search in
+shared-slice-read-is-alike-2 : tie.Need-shared-slice-read-is-alike-2 Inv-loop μ-loop Inv-search μ-search
+shared-slice-read-is-alike-2 c =
+    let s = c .before .before .before .before .before .before .before .before in
+    let z = s .before .before in
+    let o = s .search in
     omega (arith, z .pre .3 .inside (112 + (z .args .from + o .i)), z .pre .3 .order (z .args .from + o .i) (omega arith))
+
+is-alike-requires : tie.Need-is-alike-requires Inv-loop μ-loop Inv-search μ-search
+is-alike-requires c κs = search needs
 
 add-i : tie.Need-add-i Inv-loop μ-loop Inv-search μ-search
 add-i c = search needs
@@ -86,18 +94,19 @@ search-less c = search needs
 search-again : tie.Need-search-again Inv-loop μ-loop Inv-search μ-search
 unfolding nameOf
 search-again c =
-    let c4 = c .before .before .before .before in
-    let c9 = c4 .before .before .before .before .before in
-    let z = c9 .before in
-    let o = c9 .search in
-    let l = c4 .loop in
+    let c5 = c .before .before .before .before .before in
+    let c10 = c5 .before .before .before .before .before in
+    let z = c10 .before .before in
+    let o = c10 .search in
+    let l = c5 .loop in
     let a = z .args in
     let names = a .names .now in
     let k = a .from + o .i in
     let e = z .pre .3 .inside (112 + k) in
     let h = z .pre .3 .order k (omega arith) in
+    let other = sym (c .before .is-alike .ensures) ∙ not-true (c .before .is-alike .result) (c .if2 .taken) in
     let q = laws.differ-at (a .s .now) (l .j - 1) (a .start) (a .end) (getD names k 0) (getD names (112 + k) 0) (z .pre .1) e (omega arith)
-    (omega arith) (c .if2 .taken) in
+    (omega arith) other in
     let same = sameName (slice (a .start) (a .end) (a .s .now)) in
     rw (l .inv .0) (past-more same (nameOf (a .s .now) names) (a .count) (a .from) (o .i) (search needs) q (o .inv))
 
@@ -106,16 +115,17 @@ loop-less c = search needs
 
 loop-again : tie.Need-loop-again Inv-loop μ-loop Inv-search μ-search
 loop-again c =
-    let c4 = c .before .before .before .before in
-    let c9 = c4 .before .before .before .before .before in
-    let a = c9 .before .args in
-    let l = c4 .loop in
-    let k = a .from + c9 .search .i in
-    let s = a .s .now in (
+    let c5 = c .before .before .before .before .before in
+    let c10 = c5 .before .before .before .before .before in
+    let a = c10 .before .before .args in
+    let l = c5 .loop in
+    let k = a .from + c10 .search .i in
+    let s = a .s .now in
+    let alike = sym (c .before .is-alike .ensures) ∙ not-false (c .before .is-alike .result) (c .if2 .left) in (
       l .inv .0,
       search needs,
-      laws.one-back (λ m. getD s (a .start + m) 0 ≡ getD s (getD (a .names .now) k 0 + m) 0) (l .j) (a .end - a .start) (c .before .before .before .loop-test .taken)
-          (c .if2 .left) (l .inv .2),
+      laws.one-back (λ m. eqb (capital (getD s (a .start + m) 0)) (capital (getD s (getD (a .names .now) k 0 + m) 0)) ≡ true) (l .j) (a .end - a .start)
+          (omega (arith, c .before .before .before .before .loop-test .taken)) alike (l .inv .2),
     )
 
 add-i-2 : tie.Need-add-i-2 Inv-loop μ-loop Inv-search μ-search
@@ -128,7 +138,7 @@ search-again-2 : tie.Need-search-again-2 Inv-loop μ-loop Inv-search μ-search
 unfolding nameOf
 search-again-2 c =
     let o = c .before .before .before .before .search in
-    let z = c .before .before .before .before .before in
+    let z = c .before .before .before .before .before .before in
     let a = z .args in
     let names = a .names .now in
     let k = a .from + o .i in
@@ -138,7 +148,7 @@ search-again-2 c =
 
 returns : tie.Need-returns Inv-loop μ-loop Inv-search μ-search
 returns c =
-    let a = c .before .before .args in
+    let a = c .before .before .before .args in
     let o = c .before .search in
     let same = sameName (slice (a .start) (a .end) (a .s .now)) in
     (past-end same (nameOf (a .s .now) (a .names .now)) (a .count) (a .from) (o .i) (search needs) (o .inv), search needs)
@@ -148,12 +158,12 @@ unfolding nameOf
 returns-2 c =
     let o = c .before .before .before .before .before .before .search in
     let l = c .before .loop in
-    let z = c .before .before .before .before .before .before .before in
+    let z = c .before .before .before .before .before .before .before .before in
     let a = z .args in
     let names = a .names .now in
     let k = a .from + o .i in
     let h = z .pre .3 .order k (omega arith) in
-    let q = laws.alike (a .s .now) (a .end - a .start) (a .start) (a .end) (getD names k 0) (getD names (112 + k) 0) (omega arith) (omega arith) (z .pre .1)
+    let q = laws.agree (a .s .now) (a .end - a .start) (a .start) (a .end) (getD names k 0) (getD names (112 + k) 0) (omega arith) (omega arith) (z .pre .1)
     (z .pre .3 .inside (112 + k)) (λ m b. l .inv .2 m (omega arith) b) in
     let same = sameName (slice (a .start) (a .end) (a .s .now)) in
     rw (l .inv .0) (past-here same (nameOf (a .s .now) names) (a .count) (a .from) (o .i) (search needs) q (o .inv), search needs)
@@ -177,10 +187,11 @@ find-spec =
     sub-if1
     loop-holds
     sub-j
-    add-if2
-    shared-slice-read-if2
-    add-if2-2
-    shared-slice-read-if2-2
+    add-is-alike
+    shared-slice-read-is-alike
+    add-is-alike-2
+    shared-slice-read-is-alike-2
+    is-alike-requires
     add-i
     search-less
     search-again

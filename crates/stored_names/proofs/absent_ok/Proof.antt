@@ -6,14 +6,14 @@ use borrow.Author.Needs.{needs}
 use Rattle.model.specs.Basic.{same}
 use Rattle.model.specs.Image.{wordAt, tab}
 use Rattle.laws.proofs.Places.{all-more, all-stop, all-end}
-use Rattle.stored_names.specs.Stored.{wordsIn, absent}
+use Rattle.stored_names.specs.Stored.{lettersAt, wordsIn, absent}
 use Rattle.stored_names.proofs.Tables.{entry}
 use Rattle.stored_names.proofs.absent_ok.Statement.{statement}
 use Rattle.stored_names.proofs.absent_ok.Tie as tie
 
 abbrev Inv-loop : tie.InvT-loop
 Inv-loop img o q s i n j₀ j =
-    let w = wordAt img in
+    let w = lettersAt (wordAt img) in
     (i ≤ j)
     × (absent same (tab w 4 o) (tab (wordsIn w q s) (n - j) j) ≡ absent same (tab w 4 o) (tab (wordsIn w q s) (n - i) i))
 
@@ -36,7 +36,7 @@ returns : tie.Need-returns Inv-loop μ-loop
 returns c =
     let l = c .before .before .before .loop in
     let a = c .before .before .before .before .before .args in
-    let w = wordAt (a .img .now) in
+    let w = lettersAt (wordAt (a .img .now)) in
     let t = ap not (sym (c .before .same-name .ensures) ∙ c .if1 .taken) in
     sym (all-stop (λ y. not (same (tab w 4 (a .o)) y)) (wordsIn w (a .q) (a .s)) (a .n) (l .j) (omega arith) t) ∙ l .inv .1
 
@@ -50,7 +50,7 @@ loop-again : tie.Need-loop-again Inv-loop μ-loop
 loop-again c =
     let l = c .before .before .before .loop in
     let a = c .before .before .before .before .before .args in
-    let w = wordAt (a .img .now) in
+    let w = lettersAt (wordAt (a .img .now)) in
     let t = ap not (sym (c .before .same-name .ensures) ∙ c .if1 .left) in
     (search needs, sym (all-more (λ y. not (same (tab w 4 (a .o)) y)) (wordsIn w (a .q) (a .s)) (a .n) (l .j) (omega arith) t) ∙ l .inv .1)
 
@@ -58,7 +58,7 @@ returns-2 : tie.Need-returns-2 Inv-loop μ-loop
 returns-2 c =
     let l = c .before .loop in
     let a = c .before .before .before .args in
-    let w = wordAt (a .img .now) in
+    let w = lettersAt (wordAt (a .img .now)) in
     sym (all-end (λ y. not (same (tab w 4 (a .o)) y)) (wordsIn w (a .q) (a .s)) (a .n) (l .j) (c .loop-test .left)) ∙ l .inv .1
 
 pub absent-ok-spec : {M : Type 1} → statement M

@@ -7,15 +7,15 @@ use borrow.Author.Tests.{not-true, not-false}
 use Rattle.model.specs.Basic.{same}
 use Rattle.model.specs.Image.{wordAt, tab}
 use Rattle.laws.proofs.Places.{all-more, all-stop, all-end}
-use Rattle.stored_names.specs.Stored.{wordsIn, absent, apart}
+use Rattle.stored_names.specs.Stored.{lettersAt, wordsIn, absent, apart}
 use Rattle.stored_names.proofs.Tables.{entry}
 use Rattle.stored_names.proofs.apart_ok.Statement.{statement}
 use Rattle.stored_names.proofs.apart_ok.Tie as tie
 
 abbrev Inv-loop : tie.InvT-loop
 Inv-loop img o s n q t m i₀ i =
-    let f = wordsIn (wordAt img) o s in
-    let g = tab (wordsIn (wordAt img) q t) m 0 in
+    let f = wordsIn (lettersAt (wordAt img)) o s in
+    let g = tab (wordsIn (lettersAt (wordAt img)) q t) m 0 in
     (i ≤ n) × (apart same (tab f (n - i) i) g ≡ apart same (tab f n 0) g)
 
 abbrev μ-loop : tie.MeasureT-loop
@@ -37,7 +37,7 @@ returns : tie.Need-returns Inv-loop μ-loop
 returns c =
     let l = c .before .before .before .loop in
     let a = c .before .before .before .before .before .args in
-    let w = wordAt (a .img .now) in
+    let w = lettersAt (wordAt (a .img .now)) in
     let t = sym (rw sub-zero at (c .before .absent-ok .ensures)) ∙ not-true _ (c .if1 .taken) in
     sym (all-stop (λ x. absent same x (tab (wordsIn w (a .q) (a .t)) (a .m) 0)) (wordsIn w (a .o) (a .s)) (a .n) (l .i) (omega arith) t) ∙ l .inv .1
 
@@ -51,7 +51,7 @@ loop-again : tie.Need-loop-again Inv-loop μ-loop
 loop-again c =
     let l = c .before .before .before .loop in
     let a = c .before .before .before .before .before .args in
-    let w = wordAt (a .img .now) in
+    let w = lettersAt (wordAt (a .img .now)) in
     let t = sym (rw sub-zero at (c .before .absent-ok .ensures)) ∙ not-false _ (c .if1 .left) in
     let more = all-more (λ x. absent same x (tab (wordsIn w (a .q) (a .t)) (a .m) 0)) (wordsIn w (a .o) (a .s)) (a .n) (l .i) (omega arith) t in
     (search needs, sym more ∙ l .inv .1)
@@ -60,7 +60,7 @@ returns-2 : tie.Need-returns-2 Inv-loop μ-loop
 returns-2 c =
     let l = c .before .loop in
     let a = c .before .before .before .args in
-    let w = wordAt (a .img .now) in
+    let w = lettersAt (wordAt (a .img .now)) in
     sym (all-end (λ x. absent same x (tab (wordsIn w (a .q) (a .t)) (a .m) 0)) (wordsIn w (a .o) (a .s)) (a .n) (l .i) (c .loop-test .left)) ∙ l .inv .1
 
 pub apart-ok-spec : {M : Type 1} → statement M

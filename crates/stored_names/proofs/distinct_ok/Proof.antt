@@ -7,14 +7,14 @@ use borrow.Author.Tests.{not-true, not-false}
 use Rattle.model.specs.Basic.{distinct, same}
 use Rattle.model.specs.Image.{wordAt, tab}
 use Rattle.laws.proofs.Places.{distinct-more, distinct-stop, distinct-end}
-use Rattle.stored_names.specs.Stored.{wordsIn}
+use Rattle.stored_names.specs.Stored.{lettersAt, wordsIn}
 use Rattle.stored_names.proofs.Tables.{entry}
 use Rattle.stored_names.proofs.distinct_ok.Statement.{statement}
 use Rattle.stored_names.proofs.distinct_ok.Tie as tie
 
 abbrev Inv-loop : tie.InvT-loop
 Inv-loop img o s n i₀ i =
-    let f = wordsIn (wordAt img) o s in
+    let f = wordsIn (lettersAt (wordAt img)) o s in
     (i ≤ n) × (distinct same (tab f (n - i) i) ≡ distinct same (tab f n 0))
 
 abbrev μ-loop : tie.MeasureT-loop
@@ -39,7 +39,7 @@ returns : tie.Need-returns Inv-loop μ-loop
 returns c =
     let l = c .before .before .before .loop in
     let a = c .before .before .before .before .before .args in
-    let w = wordAt (a .img .now) in
+    let w = lettersAt (wordAt (a .img .now)) in
     let t = sym (c .before .absent-ok .ensures) ∙ not-true _ (c .if1 .taken) in
     sym (distinct-stop same (wordsIn w (a .o) (a .s)) (a .n) (l .i) (omega arith) t) ∙ l .inv .1
 
@@ -53,7 +53,7 @@ loop-again : tie.Need-loop-again Inv-loop μ-loop
 loop-again c =
     let l = c .before .before .before .loop in
     let a = c .before .before .before .before .before .args in
-    let w = wordAt (a .img .now) in
+    let w = lettersAt (wordAt (a .img .now)) in
     let t = sym (c .before .absent-ok .ensures) ∙ not-false _ (c .if1 .left) in
     (search needs, sym (distinct-more same (wordsIn w (a .o) (a .s)) (a .n) (l .i) (omega arith) t) ∙ l .inv .1)
 
@@ -61,7 +61,7 @@ returns-2 : tie.Need-returns-2 Inv-loop μ-loop
 returns-2 c =
     let l = c .before .loop in
     let a = c .before .before .before .args in
-    let w = wordAt (a .img .now) in
+    let w = lettersAt (wordAt (a .img .now)) in
     sym (distinct-end same (wordsIn w (a .o) (a .s)) (a .n) (l .i) (c .loop-test .left)) ∙ l .inv .1
 
 pub distinct-ok-spec : {M : Type 1} → statement M

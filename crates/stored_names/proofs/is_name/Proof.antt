@@ -1,18 +1,19 @@
 use mathlib.Core.Path.{_≡_, sym, ap, _∙_}
 use mathlib.Core.Bool.{true}
-use Prim.Native.Nat.{ℕ, _≤_, _<_}
+use Prim.Native.Nat.{ℕ, _%_, _≤_, _<_}
 use native.Mathlib.Omega.{arith}
-use lib.Dec.{leb, eqb}
+use lib.Dec.{eqb}
 use lib.ListN.{take, getD}
 use lib.Seq.{length-take-le, getD-take}
 use borrow.Author.Needs.{needs}
-use borrow.Author.Tests.{not-true, not-false}
+use borrow.Author.Tests.{not-true}
 use Rattle.model.specs.Keywords.{keywordAt}
 use Rattle.model.specs.Tokens.{isName}
-use Rattle.stored_names.specs.Stored.{front}
+use Rattle.layout.specs.Tables.{front}
 use Rattle.laws.proofs.Tests.{one-fails, last-decides}
-use Rattle.keywords.proofs.Laws.{begins-none}
-use Rattle.stored_names.proofs.Names.{nameTests, name-spelt, no-keyword, starts-take, untidy, byte-after, front-is, spelt}
+use Rattle.keywords.specs.Slots.{mayBe}
+use Rattle.keywords.proofs.Laws.{may-not}
+use Rattle.stored_names.proofs.Names.{nameTests, name-spelt, no-keyword, starts-take, untidy, digit-first, first-starts, byte-after, front-is, spelt}
 use Rattle.stored_names.proofs.is_name.Statement.{statement}
 use Rattle.stored_names.proofs.is_name.Tie as tie
 
@@ -30,7 +31,7 @@ told c k e le =
     let d = end .tidy-end .ensures .0 in
     let h : 0 < n = omega (arith, some .if1 .left) in
     let tests = nameTests (take n s) in
-    let begins = sym (c .before .starts-name .ensures) ∙ not-false _ (c .if3 .left) in
+    let begins = first-starts s n d h (sym (c .before .is-digit .ensures) ∙ c .if3 .left) in
     let head = front-is s n d h (sym (zero .before .byte .ensures) ∙ zero .if2 .left) in
     no-keyword (take n s) k e le
     ∙ sym (ap isName head ∙ sym (name-spelt (take n s)) ∙ last-decides (take 4 tests) (getD tests 4 true) (spelt s n d h (end .tidy-end .ensures .1) (search needs) begins))
@@ -50,11 +51,11 @@ returns-2 c =
     let s = end .before .before .args .s .now in
     sym (byte-after s (end .tidy-end .result) (end .tidy-end .ensures .0) (omega (arith, c .before .before .if1 .left)) (λ e. c .if2 .taken (c .before .byte .ensures ∙ e)))
 
-shared-slice-read-starts-name : tie.Need-shared-slice-read-starts-name
-shared-slice-read-starts-name c = search needs
+shared-slice-read-is-digit : tie.Need-shared-slice-read-is-digit
+shared-slice-read-is-digit c = search needs
 
-starts-name-requires : tie.Need-starts-name-requires
-starts-name-requires c κs = search needs
+is-digit-requires : tie.Need-is-digit-requires
+is-digit-requires c κs = search needs
 
 returns-3 : tie.Need-returns-3
 returns-3 c =
@@ -64,31 +65,30 @@ returns-3 c =
     let s = end .before .before .args .s .now in
     let n = end .tidy-end .result in
     let h : 0 < n = omega (arith, some .if1 .left) in
-    let first = starts-take _ s n h (end .tidy-end .ensures .1) ∙ sym (c .before .starts-name .ensures) ∙ not-true _ (c .if3 .taken) in
+    let first = starts-take _ s n h (end .tidy-end .ensures .1) ∙ digit-first (getD s 0 0) (sym (c .before .is-digit .ensures) ∙ c .if3 .taken) in
     let front = front-is s n (end .tidy-end .ensures .0) h (sym (zero .before .byte .ensures) ∙ zero .if2 .left) in
     sym (ap isName front ∙ sym (name-spelt (take n s)) ∙ one-fails (nameTests (take n s)) 0 first)
 
-shared-slice-read-begins : tie.Need-shared-slice-read-begins
-shared-slice-read-begins c = search needs
+shared-slice-read-may-be : tie.Need-shared-slice-read-may-be
+shared-slice-read-may-be c = search needs
 
-begins-requires : tie.Need-begins-requires
-begins-requires c κs = search needs
+may-be-requires : tie.Need-may-be-requires
+may-be-requires c κs = search needs
 
 returns-4 : tie.Need-returns-4
 returns-4 c =
-    let b = c .before in
-    let first = b .before .before in
+    let first = c .before .before .before in
     let end = first .before .before .before .before .before .before in
     let s = end .before .before .args .s .now in
     let n = end .tidy-end .result in
     let h : 0 < n = omega (arith, first .before .before .before .before .before .if1 .left) in
-    let late = ap (λ (a : ℕ). leb a 87) (getD-take n s 0 0 h) ∙ sym (b .begins .ensures) ∙ not-true _ (c .if4 .taken) in
-    told first 43 (sym (begins-none (take n s) late)) (omega arith)
+    let shape = (λ j. mayBe (length-take-le n s (end .tidy-end .ensures .1) j) (getD-take n s 0 0 h j % 32)) ∙ sym (c .before .may-be .ensures) in
+    let none = may-not (take n s) (shape ∙ not-true (c .before .may-be .result) (c .if4 .taken)) in
+    told first 43 (sym none) (omega arith)
 
 slice-aggregate-keyword-at : tie.Need-slice-aggregate-keyword-at
 slice-aggregate-keyword-at c =
-    let first = c .before .before .before .before in
-    let end = first .before .before .before .before .before .before in
+    let end = c .before .before .before .before .before .before .before .before .before .before in
     sym (length-take-le (end .tidy-end .result) (end .before .before .args .s .now) (end .tidy-end .ensures .1))
 
 keyword-at-requires : tie.Need-keyword-at-requires
@@ -105,11 +105,11 @@ is-name-spec =
     returns
     byte-requires
     returns-2
-    shared-slice-read-starts-name
-    starts-name-requires
+    shared-slice-read-is-digit
+    is-digit-requires
     returns-3
-    shared-slice-read-begins
-    begins-requires
+    shared-slice-read-may-be
+    may-be-requires
     returns-4
     slice-aggregate-keyword-at
     keyword-at-requires

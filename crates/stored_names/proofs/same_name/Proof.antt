@@ -1,103 +1,94 @@
-use mathlib.Core.Path.{sym, _∙_}
 use borrow.Author.Needs.{needs}
+use borrow.Author.Tests.{not-true, not-false}
 use Rattle.model.specs.Image.{wordAt}
-use Rattle.stored_names.proofs.Fours.{differs-1, differs-2, differs-3, only-last}
+use Rattle.stored_names.specs.Stored.{lettersAt}
+use Rattle.stored_names.proofs.Fours.{first-differs, second-differs, third-differs, fourth-decides}
 use Rattle.stored_names.proofs.same_name.Statement.{statement}
 use Rattle.stored_names.proofs.same_name.Tie as tie
 
-whole-word-requires : tie.Need-whole-word-requires
-whole-word-requires c κs = search needs
-
-whole-word-requires-2 : tie.Need-whole-word-requires-2
-whole-word-requires-2 c κs = search needs
+same-letters-requires : tie.Need-same-letters-requires
+same-letters-requires c κs = search needs
 
 returns : tie.Need-returns
 returns c =
-    let a = c .before .before .before .before .args in
-    differs-1 (wordAt (a .img .now)) (a .o) (a .q) (c .before .before .whole-word .ensures .0) (c .before .whole-word2 .ensures .0) (c .if1 .taken)
+    let s = c .before .before .before in
+    let one = c .before .same-letters in
+    first-differs (lettersAt (wordAt (s .args .img .now))) (s .args .o) (s .args .q) _ (one .ensures) (not-true (one .result) (c .if1 .taken))
 
-add-whole-word : tie.Need-add-whole-word
-add-whole-word c = search needs
+add-same-letters : tie.Need-add-same-letters
+add-same-letters c = search needs
 
-whole-word-requires-3 : tie.Need-whole-word-requires-3
-whole-word-requires-3 c κs = search needs
+add-same-letters-2 : tie.Need-add-same-letters-2
+add-same-letters-2 c = search needs
 
-add-whole-word-2 : tie.Need-add-whole-word-2
-add-whole-word-2 c = search needs
-
-whole-word-requires-4 : tie.Need-whole-word-requires-4
-whole-word-requires-4 c κs = search needs
+same-letters-requires-2 : tie.Need-same-letters-requires-2
+same-letters-requires-2 c κs = search needs
 
 returns-2 : tie.Need-returns-2
 returns-2 c =
-    let one = c .before .before .before in
-    let a = one .before .before .before .before .args in
-    let e1 = sym (one .before .before .whole-word .ensures .0) ∙ one .if1 .left ∙ one .before .whole-word2 .ensures .0 in
-    differs-2 (wordAt (a .img .now)) (a .o) (a .q) e1 (c .before .before .whole-word3 .ensures .0) (c .before .whole-word4 .ensures .0) (c .if2 .taken)
+    let p = c .before .before in
+    let s = p .before .before .before in
+    let one = p .before .same-letters in
+    let two = c .before .same-letters2 in
+    second-differs (lettersAt (wordAt (s .args .img .now))) (s .args .o) (s .args .q) _ (one .ensures) _ (two .ensures) (not-false (one .result) (p .if1 .left))
+    (not-true (two .result) (c .if2 .taken))
 
-add-whole-word-3 : tie.Need-add-whole-word-3
-add-whole-word-3 c = search needs
+add-same-letters-3 : tie.Need-add-same-letters-3
+add-same-letters-3 c = search needs
 
-whole-word-requires-5 : tie.Need-whole-word-requires-5
-whole-word-requires-5 c κs = search needs
+add-same-letters-4 : tie.Need-add-same-letters-4
+add-same-letters-4 c = search needs
 
-add-whole-word-4 : tie.Need-add-whole-word-4
-add-whole-word-4 c = search needs
-
-whole-word-requires-6 : tie.Need-whole-word-requires-6
-whole-word-requires-6 c κs = search needs
+same-letters-requires-3 : tie.Need-same-letters-requires-3
+same-letters-requires-3 c κs = search needs
 
 returns-3 : tie.Need-returns-3
 returns-3 c =
-    let two = c .before .before .before in
-    let one = two .before .before .before in
-    let a = one .before .before .before .before .args in
-    let e1 = sym (one .before .before .whole-word .ensures .0) ∙ one .if1 .left ∙ one .before .whole-word2 .ensures .0 in
-    let e2 = sym (two .before .before .whole-word3 .ensures .0) ∙ two .if2 .left ∙ two .before .whole-word4 .ensures .0 in
-    differs-3 (wordAt (a .img .now)) (a .o) (a .q) e1 e2 (c .before .before .whole-word5 .ensures .0) (c .before .whole-word6 .ensures .0) (c .if3 .taken)
+    let p = c .before .before in
+    let q = p .before .before in
+    let s = q .before .before .before in
+    let one = q .before .same-letters in
+    let two = p .before .same-letters2 in
+    let three = c .before .same-letters3 in
+    third-differs (lettersAt (wordAt (s .args .img .now))) (s .args .o) (s .args .q) _ (one .ensures) _ (two .ensures) _ (three .ensures)
+    (not-false (one .result) (q .if1 .left)) (not-false (two .result) (p .if2 .left)) (not-true (three .result) (c .if3 .taken))
 
-add-whole-word-5 : tie.Need-add-whole-word-5
-add-whole-word-5 c = search needs
+add-same-letters-5 : tie.Need-add-same-letters-5
+add-same-letters-5 c = search needs
 
-whole-word-requires-7 : tie.Need-whole-word-requires-7
-whole-word-requires-7 c κs = search needs
+add-same-letters-6 : tie.Need-add-same-letters-6
+add-same-letters-6 c = search needs
 
-add-whole-word-6 : tie.Need-add-whole-word-6
-add-whole-word-6 c = search needs
-
-whole-word-requires-8 : tie.Need-whole-word-requires-8
-whole-word-requires-8 c κs = search needs
+same-letters-requires-4 : tie.Need-same-letters-requires-4
+same-letters-requires-4 c κs = search needs
 
 returns-4 : tie.Need-returns-4
 returns-4 c =
-    let three = c .before .before in
-    let two = three .before .before .before in
-    let one = two .before .before .before in
-    let a = one .before .before .before .before .args in
-    let e1 = sym (one .before .before .whole-word .ensures .0) ∙ one .if1 .left ∙ one .before .whole-word2 .ensures .0 in
-    let e2 = sym (two .before .before .whole-word3 .ensures .0) ∙ two .if2 .left ∙ two .before .whole-word4 .ensures .0 in
-    let e3 = sym (three .before .before .whole-word5 .ensures .0) ∙ three .if3 .left ∙ three .before .whole-word6 .ensures .0 in
-    only-last (wordAt (a .img .now)) (a .o) (a .q) e1 e2 e3 (c .before .whole-word7 .ensures .0) (c .whole-word8 .ensures .0)
+    let r = c .before in
+    let p = r .before .before in
+    let q = p .before .before in
+    let s = q .before .before .before in
+    let one = q .before .same-letters in
+    let two = p .before .same-letters2 in
+    let three = r .before .same-letters3 in
+    fourth-decides (lettersAt (wordAt (s .args .img .now))) (s .args .o) (s .args .q) _ (one .ensures) _ (two .ensures) _ (three .ensures) _ (c .same-letters4 .ensures)
+    (not-false (one .result) (q .if1 .left)) (not-false (two .result) (p .if2 .left)) (not-false (three .result) (r .if3 .left))
 
 pub same-name-spec : {M : Type 1} → statement M
 same-name-spec =
     tie.close
     (tie.spec
-    whole-word-requires
-    whole-word-requires-2
+    same-letters-requires
     returns
-    add-whole-word
-    whole-word-requires-3
-    add-whole-word-2
-    whole-word-requires-4
+    add-same-letters
+    add-same-letters-2
+    same-letters-requires-2
     returns-2
-    add-whole-word-3
-    whole-word-requires-5
-    add-whole-word-4
-    whole-word-requires-6
+    add-same-letters-3
+    add-same-letters-4
+    same-letters-requires-3
     returns-3
-    add-whole-word-5
-    whole-word-requires-7
-    add-whole-word-6
-    whole-word-requires-8
+    add-same-letters-5
+    add-same-letters-6
+    same-letters-requires-4
     returns-4)

@@ -1,10 +1,11 @@
-use mathlib.Core.Path.{_≡_, refl, sym, _∙_}
-use mathlib.Core.Bool.{false}
-use Prim.Native.Nat.{_-_, _≤_}
+use mathlib.Core.Path.{_≡_, refl, sym, ap, _∙_}
+use mathlib.Core.Bool.{Bool, false}
+use mathlib.Core.Logic.{⊎-elim}
+use Prim.Native.Nat.{ℕ, _+_, _-_, _≤_}
 use lib.ListN.{length, drop}
 use borrow.Author.Needs.{needs}
 use Rattle.stored_names.specs.Stored.{tidyEnd}
-use Rattle.stored_names.proofs.Spelling.{at-end, at-more, at-past, tidy-small}
+use Rattle.stored_names.proofs.Spelling.{at-end, at-more, at-letter, at-past, tidy-small}
 use Rattle.stored_names.proofs.tidy_end.Statement.{statement}
 use Rattle.stored_names.proofs.tidy_end.Tie as tie
 
@@ -20,6 +21,9 @@ loop-holds c = (search needs, refl)
 shared-slice-read-c : tie.Need-shared-slice-read-c Inv-loop μ-loop
 shared-slice-read-c c = search needs
 
+is-letter-requires : tie.Need-is-letter-requires Inv-loop μ-loop
+is-letter-requires c κs = search needs
+
 ends-name-requires : tie.Need-ends-name-requires Inv-loop μ-loop
 ends-name-requires c κs = search needs
 
@@ -29,9 +33,10 @@ tidy-at-requires c κs = search needs
 returns : tie.Need-returns Inv-loop μ-loop
 returns c =
     let test = c .before .before in
-    let l = test .before .before .before .loop in
-    let s = test .before .before .before .before .before .args .s .now in
-    let e = at-end s (l .under) (l .i) (test .before .before .loop-test .taken) (sym (test .ends-name .ensures) ∙ c .before .if1 .taken) in
+    let turn = test .before .before .before .before in
+    let l = turn .before .loop in
+    let s = turn .before .before .before .args .s .now in
+    let e = at-end s (l .under) (l .i) (turn .loop-test .taken) (sym (test .ends-name .ensures) ∙ c .before .if2 .taken) in
     (c .tidy-at .ensures ∙ sym e ∙ l .inv .1, rw (c .tidy-at .ensures) (tidy-small (l .under) (l .i) _ (l .inv .0)))
 
 add-i : tie.Need-add-i Inv-loop μ-loop
@@ -42,10 +47,13 @@ loop-less c = search needs
 
 loop-again : tie.Need-loop-again Inv-loop μ-loop
 loop-again c =
-    let test = c .before in
-    let l = test .before .before .before .loop in
-    let s = test .before .before .before .before .before .args .s .now in
-    let e = at-more s (l .under) (l .i) (test .before .before .loop-test .taken) (sym (test .ends-name .ensures) ∙ c .if1 .left) in
+    let turn = c .before .before .before in
+    let l = turn .before .loop in
+    let s = turn .before .before .before .args .s .now in
+    let rest : Bool → ℕ = λ u. tidyEnd u (l .i + 1) (drop (l .i + 1) s) in
+    let e : tidyEnd (l .under) (l .i) (drop (l .i) s) ≡ rest (c .if1 .under) =
+    ⊎-elim (λ way. at-letter s (l .under) (l .i) (turn .loop-test .taken) (sym (c .before .is-letter .ensures) ∙ way .0 .taken) ∙ ap rest (sym (way .1)))
+    (λ way. at-more s (l .under) (l .i) (turn .loop-test .taken) (sym (way .1 .ensures) ∙ way .2 .left) ∙ ap rest (sym (way .3))) (c .if1 .came) in
     (search needs, sym e ∙ l .inv .1)
 
 tidy-at-requires-2 : tie.Need-tidy-at-requires-2 Inv-loop μ-loop
@@ -65,6 +73,7 @@ tidy-end-spec =
     μ-loop
     loop-holds
     shared-slice-read-c
+    is-letter-requires
     ends-name-requires
     tidy-at-requires
     returns

@@ -1,6 +1,7 @@
 //! Blocks of all sizes, and blocks that break one of document 01's rules.
 use crate::block::{Block, Condition, Input, Level, Output, Rule, Term};
 use crate::random::Random;
+use crate::words::{any_case, is_same, same_low_bits};
 use std::iter::repeat_n;
 
 const CRISP: i64 = 1_000_000_000;
@@ -52,36 +53,76 @@ pub const KEYWORDS: [&str; 43] = [
     "WITH",
 ];
 
+/// Those that stand nowhere in the texts of document 01.
+pub const UNUSED_KEYWORDS: [&str; 8] = ["CoA", "CoG", "END_OPTIONS", "LM", "NSUM", "OPTIONS", "RM", "VAR"];
+
 /// Names close to keywords and to the bounds on names.
-const ODD_NAMES: [&str; 24] = [
+const ODD_NAMES: [&str; 22] = [
     "a",
     "Z",
     "_a",
     "_1",
     "a_b",
-    "rule",
-    "Rule",
-    "RULES",
+    "rules",
+    "Rule1",
     "RUL",
-    "COGS",
-    "cogs",
-    "COG",
-    "real",
-    "Int",
+    "CoGS1",
+    "cogss",
+    "CO_G",
     "NOT1",
     "I",
-    "N",
+    "n",
     "END",
-    "VAR_",
     "_VAR",
-    "VAR_IN",
+    "Var_In",
+    "AC4",
+    "ma8",
     "abcdefghijklmnop",
     "_bcdefghijklmn_p",
     "ABCDEFGHIJKLMNO0",
 ];
 
+/// Words that are no names, and names that are too long.
+const NO_NAMES: [&str; 19] = [
+    "_",
+    "a_",
+    "a__b",
+    "__",
+    "1a",
+    "a-b",
+    "a{",
+    "a\x7fb",
+    "",
+    "abcdefghijklmnop_",
+    "END_FUNCTION_BLOC",
+    "VAR_",
+    "end__var",
+    "rule",
+    "Rule",
+    "COGS",
+    "cogs",
+    "real",
+    "Int",
+];
+
+/// Whether a word may be a name.
 pub fn is_name(word: &str) -> bool {
-    !word.is_empty() && !word.ends_with('_') && !word.contains("__") && !KEYWORDS.contains(&word)
+    let is_word = word.bytes().all(|byte| byte.is_ascii_alphanumeric() || byte == b'_');
+    let starts = word.bytes().next().is_some_and(|byte| !byte.is_ascii_digit());
+    let is_keyword = KEYWORDS.iter().any(|keyword| is_same(keyword.as_bytes(), word.as_bytes()));
+    is_word && starts && !word.ends_with('_') && !word.contains("__") && word.len() <= 16 && !is_keyword
+}
+
+/// One of these words, respelt.
+fn respelt(random: &mut Random, words: &[&str], respell: fn(&mut Random, &[u8]) -> Vec<u8>) -> String {
+    let word = random.pick(words);
+    respell(random, word.as_bytes()).into_iter().map(char::from).collect()
+}
+
+/// A keyword in any case, often the one that is too long for a name.
+pub fn keyword(random: &mut Random) -> String {
+    let words: &[&str] = if random.once_in(8) { &["END_FUNCTION_BLOCK"] } else { &KEYWORDS };
+    respelt(random, words, any_case)
 }
 
 fn word(random: &mut Random, length: usize) -> String {
@@ -97,16 +138,20 @@ fn word(random: &mut Random, length: usize) -> String {
 /// A name that is none of those taken.
 fn name(random: &mut Random, taken: &[&str]) -> String {
     loop {
-        let name = match random.below(6) {
+        let name = match random.below(9) {
             0 => random.pick(&ODD_NAMES).to_string(),
             1 => word(random, 16),
             2 => word(random, 1),
+            // Nearly a keyword, or nearly one of those taken.
+            3 => respelt(random, &KEYWORDS, same_low_bits),
+            4 if !taken.is_empty() => respelt(random, taken, same_low_bits),
             _ => {
                 let length = random.size(1, 16);
                 word(random, length)
             }
         };
-        if is_name(&name) && !taken.contains(&name.as_str()) {
+        let is_taken = taken.iter().any(|other| is_same(other.as_bytes(), name.as_bytes()));
+        if is_name(&name) && !is_taken {
             return name;
         }
     }
@@ -277,7 +322,15 @@ pub fn block(random: &mut Random) -> Block {
     if random.once_in(8) {
         nest(random, &mut block);
     }
+    share_name(random, &mut block);
     block
+}
+
+/// The rule block's name is bound to nothing else, so it may be another's, in any case.
+fn share_name(random: &mut Random, block: &mut Block) {
+    if random.once_in(8) {
+        block.rules_name = respelt(random, &[&block.name, &block.inputs[0].name, &block.outputs[0].name], any_case);
+    }
 }
 
 /// Gives a rule a condition with many parentheses, if there is room for its words.
@@ -441,16 +494,23 @@ fn strain_counts(random: &mut Random, block: &mut Block) {
 }
 
 fn strain_names(random: &mut Random, block: &mut Block) {
-    match random.below(6) {
+    match random.below(8) {
         0 => {
             let other = any_name(random, block).clone();
-            *any_name(random, block) = other;
+            *any_name(random, block) = respelt(random, &[&other], any_case);
         }
         1 => same_names(random, block),
         2 => {
             let input = random.below(block.inputs.len());
-            let term = block.inputs[input].terms[0].clone();
-            block.inputs[input].terms.push(term);
+            same_terms(random, &mut block.inputs[input].terms);
+        }
+        3 => {
+            let output = random.below(block.outputs.len());
+            same_terms(random, &mut block.outputs[output].terms);
+        }
+        4 => {
+            let name = any_name(random, block);
+            *name = respelt(random, &[&name[..]], same_low_bits);
         }
         _ => *any_name(random, block) = odd_name(random),
     }
@@ -562,11 +622,9 @@ fn near_ends(random: &mut Random, (min, max): (i64, i64)) -> i64 {
 fn odd_name(random: &mut Random) -> String {
     match random.below(6) {
         0 => word(random, 17),
-        1 | 2 => random.pick(&KEYWORDS).to_string(),
+        1 | 2 => keyword(random),
         3 => random.pick(&ODD_NAMES).to_string(),
-        4 => random
-            .pick(&["_", "a_", "a__b", "__", "1a", "a-b", "", "abcdefghijklmnop_", "END_FUNCTION_BLOC"])
-            .to_string(),
+        4 => random.pick(&NO_NAMES).to_string(),
         _ => {
             let length = random.size(15, 40);
             word(random, length)
@@ -597,14 +655,21 @@ fn any_name<'a>(random: &mut Random, block: &'a mut Block) -> &'a mut String {
     }
 }
 
-/// Two variables of one name.
+/// Two variables of one name, in any case.
 fn same_names(random: &mut Random, block: &mut Block) {
-    let name = random.pick(&variable_names(block)).to_string();
+    let name = respelt(random, &variable_names(block), any_case);
     let variable = random.below(block.inputs.len() + block.outputs.len());
     match block.inputs.get_mut(variable) {
         Some(input) => input.name = name,
         None => block.outputs[variable - block.inputs.len()].name = name,
     }
+}
+
+/// Two terms of one name, in any case.
+fn same_terms(random: &mut Random, terms: &mut Vec<Term>) {
+    let mut term = random.pick(terms).clone();
+    term.name = respelt(random, &[&term.name], any_case);
+    terms.push(term);
 }
 
 fn variable_names(block: &Block) -> Vec<&str> {

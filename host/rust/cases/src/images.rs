@@ -1,11 +1,13 @@
 //! Stored images: of blocks that keep or break a rule, and damaged ones.
 use crate::block::{Block, WIDTHS};
-use crate::blocks::{block, crowd, strain, KEYWORDS};
+use crate::blocks::{block, crowd, keyword, strain, KEYWORDS};
 use crate::random::Random;
+use crate::words::{any_case, same_low_bits};
+use std::ops::Range;
 
 pub fn image(random: &mut Random) -> Vec<u8> {
     let mut subject = block(random);
-    let kind = random.below(13);
+    let kind = random.below(16);
     if (4..=6).contains(&kind) {
         for _ in 0..random.size(1, 2) {
             strain(random, &mut subject);
@@ -25,7 +27,8 @@ pub fn image(random: &mut Random) -> Vec<u8> {
         7 => damage_rows(random, &mut image),
         8 => resize(random, &mut image),
         9 => damage_condition(random, &mut image, &subject),
-        _ => damage_name(random, &mut image),
+        10 | 11 => damage_name(random, &mut image),
+        _ => rename(random, &mut image),
     }
     image
 }
@@ -43,20 +46,99 @@ fn table(image: &[u8], table: usize) -> (usize, usize, usize) {
     (word(image, 9 + table) as usize, WIDTHS[table], word(image, 2 + table) as usize)
 }
 
+/// A word of an image that may be damaged; past its end they are 0.
+fn index(image: &[u8], at: usize) -> usize {
+    if at < image.len() / 4 {
+        word(image, at) as u32 as usize
+    } else {
+        0
+    }
+}
+
+fn row(image: &[u8], table: usize, row: usize) -> usize {
+    index(image, 9 + table) + row * WIDTHS[table]
+}
+
+/// The rows that a first and a count name, if not too many.
+fn rows(image: &[u8], at: usize, most: usize) -> Range<usize> {
+    let first = index(image, at);
+    first..first + index(image, at + 1).min(most)
+}
+
 /// For each input term its input and the words of its positions, each with the degree behind it. The image may be
 /// damaged; words past its end are left out.
 pub fn positions(image: &[u8]) -> Vec<(usize, Vec<usize>)> {
-    let index = |at: usize| if at < image.len() / 4 { word(image, at) as u32 as usize } else { 0 };
-    let row = |table: usize, row: usize| index(9 + table) + row * WIDTHS[table];
-    let rows = |at: usize, most: usize| index(at)..index(at) + index(at + 1).min(most);
     let mut positions = Vec::new();
-    for input in 0..index(2).min(8) {
-        for term in rows(row(0, input) + 5, 7) {
-            let points = rows(row(2, term) + 4, 4).map(|point| row(3, point));
+    for input in 0..index(image, 2).min(8) {
+        for term in rows(image, row(image, 0, input) + 5, 7) {
+            let points = rows(image, row(image, 2, term) + 4, 4).map(|point| row(image, 3, point));
             positions.push((input, points.filter(|at| at + 1 < image.len() / 4).collect()));
         }
     }
     positions
+}
+
+/// Whose a stored name is; a term's has its variable.
+#[derive(Clone, Copy, PartialEq, Debug)]
+pub enum Owner {
+    Block,
+    RuleBlock,
+    Input,
+    Output,
+    InputTerm(usize),
+    OutputTerm(usize),
+}
+
+impl Owner {
+    /// Whether their names must not be the same.
+    pub fn excludes(self, other: Owner) -> bool {
+        match self {
+            Owner::Block | Owner::RuleBlock => false,
+            Owner::Input | Owner::Output => matches!(other, Owner::Input | Owner::Output),
+            Owner::InputTerm(_) | Owner::OutputTerm(_) => self == other,
+        }
+    }
+
+    /// The same for the terms of all variables of a kind.
+    pub fn kind(self) -> usize {
+        match self {
+            Owner::Block => 0,
+            Owner::RuleBlock => 1,
+            Owner::Input => 2,
+            Owner::Output => 3,
+            Owner::InputTerm(_) => 4,
+            Owner::OutputTerm(_) => 5,
+        }
+    }
+}
+
+/// The first bytes of all names of an image. It may be damaged; names past its end are left out.
+pub fn names(image: &[u8]) -> Vec<(Owner, usize)> {
+    let mut names = vec![(Owner::Block, 20), (Owner::RuleBlock, 24)];
+    for input in 0..index(image, 2).min(8) {
+        let at = row(image, 0, input);
+        names.push((Owner::Input, at));
+        names.extend(rows(image, at + 5, 7).map(|term| (Owner::InputTerm(input), row(image, 2, term))));
+    }
+    for output in 0..index(image, 3).min(6) {
+        let at = row(image, 1, output);
+        names.push((Owner::Output, at));
+        names.extend(rows(image, at + 4, 7).map(|term| (Owner::OutputTerm(output), row(image, 2, term))));
+    }
+    let inside = names.into_iter().filter(|(_, at)| at + 4 <= image.len() / 4);
+    inside.map(|(owner, at)| (owner, 4 * at)).collect()
+}
+
+/// The bytes of a stored name.
+pub fn name(image: &[u8], at: usize) -> &[u8] {
+    let field = &image[at..at + 16];
+    &field[..field.iter().position(|&byte| byte == 0).unwrap_or(16)]
+}
+
+pub fn set_name(image: &mut [u8], at: usize, name: &[u8]) {
+    let length = name.len().min(16);
+    image[at..at + 16].fill(0);
+    image[at..at + length].copy_from_slice(&name[..length]);
 }
 
 pub fn damage_word(random: &mut Random, image: &mut [u8]) {
@@ -89,38 +171,46 @@ pub fn damage_word(random: &mut Random, image: &mut [u8]) {
     set_word(image, at, new);
 }
 
-/// The first byte of some name.
-fn any_name(random: &mut Random, image: &[u8]) -> usize {
-    let at = match random.below(5) {
-        0 => *random.pick(&[20, 24]),
-        kind => {
-            let (first, width, rows) = table(image, kind.min(3) - 1);
-            first + width * random.below(rows)
-        }
-    };
-    4 * at
+/// Some name, of each kind about as often.
+fn any_name(random: &mut Random, image: &[u8]) -> (Owner, usize) {
+    let kind = random.below(6);
+    let names: Vec<(Owner, usize)> = names(image).into_iter().filter(|(owner, _)| owner.kind() == kind).collect();
+    *random.pick(&names)
 }
 
 fn damage_name(random: &mut Random, image: &mut [u8]) {
-    let at = any_name(random, image);
-    let other = any_name(random, image);
-    let length = image[at..at + 16].iter().position(|&byte| byte == 0).unwrap_or(16);
+    let (_, at) = any_name(random, image);
+    let (_, other) = any_name(random, image);
+    let length = name(image, at).len();
     let last = at + length.max(1) - 1;
     match random.below(8) {
         0 => image[at] = *random.pick(b"0a_Z\x00"),
         1 => image[last] = *random.pick(b"_09zZ\x00 \x80"),
-        2 => image[at + random.below(16)] = *random.pick(b"_09az-.\x00 \xe4"),
+        2 => image[at + random.below(16)] = *random.pick(b"_09az-.\x00 \xe4@`[{"),
         3 => image[at..at + 16].fill(0),
-        4 => {
-            let keyword = random.pick(&KEYWORDS).as_bytes();
-            let length = keyword.len().min(16);
-            image[at..at + 16].fill(0);
-            image[at..at + length].copy_from_slice(&keyword[..length]);
-        }
+        4 => set_name(image, at, random.pick(&KEYWORDS).as_bytes()),
         5 => image[at + random.size(length.min(15), 15)] = *random.pick(b"_a0 "),
         6 => image[at + 8..at + 16].fill(b'x'),
         _ => image.copy_within(other..other + 16, at),
     }
+}
+
+/// A name becomes a keyword, another name or itself in any case, or nearly itself.
+fn rename(random: &mut Random, image: &mut [u8]) {
+    let (owner, at) = any_name(random, image);
+    let excluded = names(image).into_iter().filter(|name| name.1 != at && owner.excludes(name.0));
+    let excluded: Vec<usize> = excluded.map(|(_, other)| other).collect();
+    let other = match excluded[..] {
+        [_, ..] if !random.once_in(3) => *random.pick(&excluded),
+        _ => any_name(random, image).1,
+    };
+    let new = match random.below(8) {
+        0..=2 => keyword(random).into_bytes(),
+        3..=5 => any_case(random, name(image, other)),
+        6 => same_low_bits(random, name(image, at)),
+        _ => any_case(random, name(image, at)),
+    };
+    set_name(image, at, &new);
 }
 
 /// Rows swapped, doubled or taken out, the header set right or not.

@@ -13,6 +13,7 @@ pub mod random;
 mod run;
 pub mod spelling;
 pub mod texts;
+pub mod words;
 
 pub use compare::{compare, Tally};
 pub use neighbours::neighbours;

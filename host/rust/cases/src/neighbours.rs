@@ -34,15 +34,18 @@ fn by_bytes() -> impl Iterator<Item = Case> {
         let rest = after.get(1..).unwrap_or_default();
         let cut = text(before.to_vec());
         let without = text([before, rest].concat());
-        let replaced = BYTES.iter().map(move |&byte| text([before, &[byte], rest].concat()));
+        // A letter in the other case; of other bytes one that is as far away.
+        let flipped = after.first().map(|byte| byte ^ 0x20);
+        let replaced = BYTES.iter().copied().chain(flipped).map(move |byte| text([before, &[byte], rest].concat()));
         let inserted = b"_0.(*;".iter().map(move |&byte| text([before, &[byte], after].concat()));
         [cut, without].into_iter().chain(replaced).chain(inserted)
     })
 }
 
-/// Each token left out, doubled, changed with the next or replaced by any kind of token.
+/// Each token left out, doubled, changed with the next or replaced by any kind of token or by itself in other letters.
 fn by_tokens() -> impl Iterator<Item = Case> {
     let tokens: Vec<&str> = TEXT.split(' ').collect();
+    let small_keywords = KEYWORDS.map(str::to_ascii_lowercase);
     (0..tokens.len()).flat_map(move |at| {
         let (before, after) = tokens.split_at(at);
         let (token, rest) = (after[0], &after[1..]);
@@ -51,7 +54,10 @@ fn by_tokens() -> impl Iterator<Item = Case> {
             cases.push(joined(&[before, &[next, token], rest].concat()));
         }
         let names = ["a", "c", "x", "t", "w", "f", "seventeen_letters"];
-        for other in KEYWORDS.iter().chain(&SYMBOLS).chain(&names) {
+        let small = small_keywords.iter().map(String::as_str);
+        let respelt = [token.to_ascii_uppercase(), token.to_ascii_lowercase()];
+        let others = KEYWORDS.iter().chain(&SYMBOLS).chain(&names).copied().chain(small);
+        for other in others.chain(respelt.iter().map(String::as_str)) {
             cases.push(joined(&[before, &[other], rest].concat()));
         }
         cases
@@ -85,7 +91,9 @@ fn by_cuts() -> impl Iterator<Item = Case> {
         include_str!("../../../../examples/crane.fcl").to_string(),
         include_str!("../../../../examples/everything.fcl").to_string(),
         include_str!("../../../../examples/rectangle.fcl").to_string(),
+        include_str!("../../../../examples/capitals.fcl").to_string(),
         TEXT.to_string(),
+        TEXT.to_ascii_lowercase(),
         TEXT.replacen("FUZZIFY c", "FUZZIFY d", 1),
         TEXT.replacen("( +0.001", "(* +0.001", 1),
         format!("{TEXT} ;"),

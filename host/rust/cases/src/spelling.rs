@@ -1,20 +1,36 @@
 //! Blocks as tokens, and tokens as texts, in any spelling that document 01 allows.
 use crate::block::{Block, Condition, Level, Term, PAIRS};
 use crate::random::Random;
+use crate::words::any_case;
 
 pub type Tokens = Vec<Vec<u8>>;
+
+/// In which letters keywords are written, and names where they are used; case does not count in them.
+#[derive(Clone, Copy)]
+enum Letters {
+    /// As document 01 has keywords, and names as declared.
+    AsDeclared,
+    CapitalsInRules,
+    Capitals,
+    Small,
+    Any,
+}
 
 struct Speller<'a> {
     random: &'a mut Random,
     tokens: Tokens,
-    /// As the lister would write it, blanks apart.
+    /// As the lister would write it, blanks and case apart.
     plain: bool,
+    letters: Letters,
+    in_rules: bool,
 }
 
 /// The tokens of a block in some spelling. Terms that are not there get a name that was not declared.
 pub fn tokens(random: &mut Random, block: &Block) -> Tokens {
+    use Letters::*;
     let plain = random.once_in(3);
-    let mut speller = Speller { random, tokens: Vec::new(), plain };
+    let letters = *random.pick(&[AsDeclared, AsDeclared, CapitalsInRules, Capitals, Small, Any, Any]);
+    let mut speller = Speller { random, tokens: Vec::new(), plain, letters, in_rules: false };
     speller.block(block);
     speller.tokens
 }
@@ -28,9 +44,22 @@ impl Speller<'_> {
         self.tokens.push(token.as_bytes().to_vec());
     }
 
+    /// A keyword, or a name that is declared elsewhere.
+    fn word(&mut self, word: &str) {
+        let word = word.as_bytes();
+        let spelt = match self.letters {
+            Letters::Capitals => word.to_ascii_uppercase(),
+            Letters::CapitalsInRules if self.in_rules => word.to_ascii_uppercase(),
+            Letters::Small => word.to_ascii_lowercase(),
+            Letters::Any => any_case(self.random, word),
+            _ => word.to_vec(),
+        };
+        self.tokens.push(spelt);
+    }
+
     /// Tokens with blanks between.
     fn all(&mut self, tokens: &str) {
-        tokens.split(' ').for_each(|token| self.put(token));
+        tokens.split(' ').for_each(|token| self.word(token));
     }
 
     fn number(&mut self, thousandths: i64) {
@@ -71,7 +100,7 @@ impl Speller<'_> {
     }
 
     fn block(&mut self, block: &Block) {
-        self.put("FUNCTION_BLOCK");
+        self.word("FUNCTION_BLOCK");
         self.put(&block.name);
         self.declarations("VAR_INPUT", block.inputs.iter().map(|i| (i.name.as_str(), i.int)).collect());
         self.declarations("VAR_OUTPUT", block.outputs.iter().map(|o| (o.name.as_str(), false)).collect());
@@ -84,20 +113,21 @@ impl Speller<'_> {
         self.all("RULEBLOCK");
         self.put(&block.rules_name);
         self.algorithms(block);
+        self.in_rules = true;
         for rule in &block.rules {
-            self.put("RULE");
+            self.word("RULE");
             self.rule_number(rule.number);
             self.all(": IF");
             self.condition(block, &rule.condition, Level::Or, 0);
-            self.put("THEN");
+            self.word("THEN");
             for (nth, &(output, term)) in rule.conclusions.iter().enumerate() {
                 self.all(if nth == 0 { "" } else { "," });
-                self.put(&block.outputs[output].name);
-                self.put("IS");
-                self.put(term_name(&block.outputs[output].terms, term));
+                self.word(&block.outputs[output].name);
+                self.word("IS");
+                self.word(term_name(&block.outputs[output].terms, term));
             }
             if rule.weight != 1000 || !self.plain && self.random.once_in(4) {
-                self.put("WITH");
+                self.word("WITH");
                 self.number(rule.weight);
             }
             self.put(";");
@@ -107,7 +137,7 @@ impl Speller<'_> {
     }
 
     fn declarations(&mut self, section: &str, names: Vec<(&str, bool)>) {
-        self.put(section);
+        self.word(section);
         for (nth, &(name, int)) in names.iter().enumerate() {
             self.put(name);
             let joins = names.get(nth + 1).is_some_and(|next| next.1 == int);
@@ -117,7 +147,7 @@ impl Speller<'_> {
                 self.all(if int { ": INT ;" } else { ": REAL ;" });
             }
         }
-        self.put("END_VAR");
+        self.word("END_VAR");
     }
 
     /// A variable without terms has no part.
@@ -125,10 +155,10 @@ impl Speller<'_> {
         if terms.is_empty() {
             return;
         }
-        self.put("FUZZIFY");
-        self.put(name);
+        self.word("FUZZIFY");
+        self.word(name);
         for term in terms {
-            self.put("TERM");
+            self.word("TERM");
             self.put(&term.name);
             self.put(":=");
             for (nth, &(crisp, degree)) in term.points.iter().enumerate() {
@@ -140,7 +170,7 @@ impl Speller<'_> {
             }
             self.put(";");
         }
-        self.put("END_FUZZIFY");
+        self.word("END_FUZZIFY");
     }
 
     fn defuzzify(&mut self, block: &Block, output: usize) {
@@ -148,8 +178,8 @@ impl Speller<'_> {
         if output.terms.is_empty() {
             return;
         }
-        self.put("DEFUZZIFY");
-        self.put(&output.name);
+        self.word("DEFUZZIFY");
+        self.word(&output.name);
         if let Some((min, max)) = output.range {
             self.all("RANGE (");
             self.number(min);
@@ -158,7 +188,7 @@ impl Speller<'_> {
             self.all(") ;");
         }
         for term in &output.terms {
-            self.put("TERM");
+            self.word("TERM");
             self.put(&term.name);
             self.put(":=");
             term.points.iter().for_each(|&(crisp, _)| self.number(crisp));
@@ -167,7 +197,7 @@ impl Speller<'_> {
         self.all("METHOD : CoGS ; DEFAULT :=");
         match output.default {
             Some(number) => self.number(number),
-            None => self.put("NC"),
+            None => self.word("NC"),
         }
         self.all("; END_DEFUZZIFY");
     }
@@ -207,12 +237,12 @@ impl Speller<'_> {
             Condition::Not(a) => self.negation(block, a, open),
             Condition::And(a, b) => {
                 self.condition(block, a, Level::And, open);
-                self.put("AND");
+                self.word("AND");
                 self.condition(block, b, Level::Operand, open);
             }
             Condition::Or(a, b) => {
                 self.condition(block, a, Level::Or, open);
-                self.put("OR");
+                self.word("OR");
                 self.condition(block, b, Level::And, open);
             }
         }
@@ -233,7 +263,7 @@ impl Speller<'_> {
                 self.subcondition(block, input, term, true);
             }
             Some((input, term, negated)) if !spare => {
-                self.put("NOT");
+                self.word("NOT");
                 self.subcondition(block, input, term, negated);
             }
             _ => {
@@ -245,9 +275,9 @@ impl Speller<'_> {
     }
 
     fn subcondition(&mut self, block: &Block, input: usize, term: usize, negated: bool) {
-        self.put(&block.inputs[input].name);
+        self.word(&block.inputs[input].name);
         self.all(if negated { "IS NOT" } else { "IS" });
-        self.put(term_name(&block.inputs[input].terms, term));
+        self.word(term_name(&block.inputs[input].terms, term));
     }
 }
 

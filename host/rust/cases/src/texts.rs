@@ -1,8 +1,9 @@
 //! Texts: respelled, cut, damaged, past a bound, random.
 use crate::block::Block;
-use crate::blocks::{block, fill, strain, Bound, KEYWORDS};
+use crate::blocks::{block, fill, keyword, strain, Bound, KEYWORDS};
 use crate::random::Random;
 use crate::spelling::{join, tokens, Tokens};
+use crate::words::{any_case, is_same, names, same_low_bits, PLACES};
 
 pub const SYMBOLS: [&str; 22] = [
     ":", ":=", ";", ",", "(", ")", "..", ".", "=", "+", "-", "*", "(*", "*)", "0", "1", "-1", "+0.5", "00000001", "x",
@@ -15,10 +16,22 @@ pub fn valid(random: &mut Random, block: &Block) -> Vec<u8> {
     join(random, &tokens)
 }
 
+/// Some texts are in capitals or in small letters as a whole.
 pub fn text(random: &mut Random) -> Vec<u8> {
+    let mut text = in_any_letters(random);
+    match random.below(16) {
+        0 => text.make_ascii_uppercase(),
+        1 => text.make_ascii_lowercase(),
+        _ => {}
+    }
+    text
+}
+
+fn in_any_letters(random: &mut Random) -> Vec<u8> {
     let mut subject = block(random);
-    match random.below(21) {
+    match random.below(25) {
         20 => at_bound(random, subject),
+        21.. => misnamed(random, &subject),
         0..=3 => valid(random, &subject),
         4 | 5 => {
             let mut text = valid(random, &subject);
@@ -67,10 +80,10 @@ fn at_bound(random: &mut Random, mut subject: Block) -> Vec<u8> {
     };
     if let Some(&at) = places.get(most - random.below(2)) {
         tokens[at] = match random.below(6) {
-            0 => tokens[places[0]].clone(),
+            0 => any_case(random, &tokens[places[0]]),
             1 => b"gone".to_vec(),
             2 => b"seventeen_letters".to_vec(),
-            3 => random.pick(&KEYWORDS).as_bytes().to_vec(),
+            3 => keyword(random).into_bytes(),
             _ => {
                 let other = same_kind(random, &tokens, at);
                 tokens[other].clone()
@@ -82,8 +95,8 @@ fn at_bound(random: &mut Random, mut subject: Block) -> Vec<u8> {
 
 /// The names declared in a section.
 fn declared(tokens: &Tokens, section: &[u8]) -> Vec<usize> {
-    let start = tokens.iter().position(|token| token == section).unwrap_or(0);
-    let section = (start..tokens.len()).take_while(|&at| tokens[at] != b"END_VAR");
+    let start = tokens.iter().position(|token| is_same(token, section)).unwrap_or(0);
+    let section = (start..tokens.len()).take_while(|&at| !is_same(&tokens[at], b"END_VAR"));
     section.filter(|&at| alike(&tokens[at]) == Alike::Name).collect()
 }
 
@@ -92,13 +105,38 @@ fn used(tokens: &Tokens, from: &[u8], to: &[u8]) -> Vec<usize> {
     let mut inside = false;
     let mut places = Vec::new();
     for (at, token) in tokens.iter().enumerate() {
-        inside = token == from || inside && token != to;
-        let before_is = tokens.get(at + 1).is_some_and(|next| next == b"IS");
-        if inside && (before_is || [&b"NOT"[..], b"AND", b"OR"].contains(&&token[..])) {
+        inside = is_same(token, from) || inside && !is_same(token, to);
+        let before_is = tokens.get(at + 1).is_some_and(|next| is_same(next, b"IS"));
+        if inside && (before_is || [&b"NOT"[..], b"AND", b"OR"].iter().any(|operator| is_same(token, operator))) {
             places.push(at);
         }
     }
     places
+}
+
+/// A name, declared or used, replaced by a keyword, by another name or by itself in any case, or by what is nearly it.
+fn misnamed(random: &mut Random, subject: &Block) -> Vec<u8> {
+    let mut text = valid(random, subject);
+    let names = names(&text);
+    let place = *random.pick(&PLACES);
+    let here: Vec<usize> = (0..names.len()).filter(|&at| names[at].0 == place).collect();
+    // Rather a later one, which may be the same as one before it.
+    let nth = random.below(here.len()).max(random.below(here.len()));
+    let old = names[here[nth]].1.clone();
+    let other = match random.below(4) {
+        // Likely one that must not be the same: the one before it in such a place, or in any.
+        0 | 1 => here[nth.saturating_sub(1)],
+        2 => here[nth].saturating_sub(1),
+        _ => random.below(names.len()),
+    };
+    let new = match random.below(6) {
+        0 | 1 => keyword(random).into_bytes(),
+        2 | 3 => any_case(random, &text[names[other].1.clone()]),
+        4 => any_case(random, &text[old.clone()]),
+        _ => same_low_bits(random, &text[old.clone()]),
+    };
+    text.splice(old, new);
+    text
 }
 
 /// About 65,536 bytes.
@@ -128,7 +166,7 @@ fn noise(random: &mut Random) -> Vec<u8> {
         match random.below(5) {
             0 => text.push(random.bits() as u8),
             1 => text.extend(random.pick(&SYMBOLS).bytes()),
-            2 => text.extend(random.pick(&KEYWORDS).bytes()),
+            2 => text.extend(keyword(random).bytes()),
             _ => text.push(*random.pick(b" \n_aZ09.():=;,+-*")),
         }
     }
@@ -169,7 +207,7 @@ enum Alike {
 
 fn alike(token: &[u8]) -> Alike {
     match token.last() {
-        _ if KEYWORDS.iter().any(|keyword| keyword.as_bytes() == token) => Alike::Keyword,
+        _ if KEYWORDS.iter().any(|keyword| is_same(keyword.as_bytes(), token)) => Alike::Keyword,
         Some(b'0'..=b'9') if !token[0].is_ascii_alphabetic() && token[0] != b'_' => Alike::Number,
         Some(byte) if byte.is_ascii_alphanumeric() || *byte == b'_' => Alike::Name,
         _ => Alike::Symbol,
@@ -200,7 +238,8 @@ fn swap_alike(random: &mut Random, tokens: &mut Tokens, at: usize) {
 fn damage_number(random: &mut Random, tokens: &mut Tokens, at: usize) {
     // Rule numbers are few among the numbers, so they get a share of their own.
     let of_rule = random.once_in(3);
-    let fits = |&at: &usize| alike(&tokens[at]) == Alike::Number && (!of_rule || at > 0 && tokens[at - 1] == b"RULE");
+    let behind_rule = |at: usize| at > 0 && is_same(&tokens[at - 1], b"RULE");
+    let fits = |&at: &usize| alike(&tokens[at]) == Alike::Number && (!of_rule || behind_rule(at));
     let Some(at) = (at..tokens.len()).chain(0..at).find(fits) else { return };
     let token = &mut tokens[at];
     let digits = token.iter().position(u8::is_ascii_digit).unwrap_or(0);
@@ -236,13 +275,14 @@ fn damage_part(random: &mut Random, tokens: &mut Tokens) {
         0 => (b"FUZZIFY", b"END_FUZZIFY"),
         _ => (b"DEFUZZIFY", b"END_DEFUZZIFY"),
     };
-    let Some(from) = tokens.iter().position(|token| token == start) else { return };
-    let Some(length) = tokens[from..].iter().position(|token| token == end) else { return };
-    let part: Tokens = match random.below(3) {
+    let Some(from) = tokens.iter().position(|token| is_same(token, start)) else { return };
+    let Some(length) = tokens[from..].iter().position(|token| is_same(token, end)) else { return };
+    let mut part: Tokens = match random.below(3) {
         0 => tokens.drain(from..from + length + 1).collect(),
         _ => tokens[from..from + length + 1].to_vec(),
     };
-    let ends: Vec<usize> = (0..tokens.len()).filter(|&at| tokens[at] == end).collect();
+    part[1] = any_case(random, &part[1]);
+    let ends: Vec<usize> = (0..tokens.len()).filter(|&at| is_same(&tokens[at], end)).collect();
     if !ends.is_empty() && !random.once_in(4) {
         let at = *random.pick(&ends) + 1;
         tokens.splice(at..at, part);
@@ -261,9 +301,9 @@ fn damage_tokens(random: &mut Random, tokens: &mut Tokens) {
         1 => tokens.insert(at, tokens[at].clone()),
         2 => tokens.swap(at, other),
         3 => tokens[at] = tokens[other].clone(),
-        4 => tokens[at] = random.pick(&KEYWORDS).as_bytes().to_vec(),
+        4 => tokens[at] = keyword(random).into_bytes(),
         5 => tokens[at] = random.pick(&SYMBOLS).as_bytes().to_vec(),
-        6 => tokens.insert(at, random.pick(&KEYWORDS).as_bytes().to_vec()),
+        6 => tokens.insert(at, keyword(random).into_bytes()),
         _ => {
             let end = (at + random.size(1, 12)).min(tokens.len());
             let moved = tokens[at..end].to_vec();

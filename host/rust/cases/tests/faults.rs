@@ -1,6 +1,9 @@
 //! The comparison finds an implementation that differs from the reference in one thing.
+mod names;
+
 use cases::images::{positions, set_word, word};
 use cases::{compare, Answer, Case, Evaluated, Held, Implementation, Mark, Reading, Reference, Refusal, Tally};
+use names::NameFault;
 
 #[derive(Clone, Copy, PartialEq, Debug)]
 enum Fault {
@@ -39,6 +42,8 @@ enum Fault {
     EdgeRefusedByCheck,
     ThirdAtOnePositionPasses,
     FallBehindEdgePasses,
+    NamesInTexts(NameFault),
+    NamesInImages(NameFault),
 }
 
 struct Faulty(Fault);
@@ -52,7 +57,15 @@ struct Chunks {
     last: usize,
 }
 
+const NOT_ACCEPTED: Refusal = Refusal { number: 11, place: None };
 const OVER: Refusal = Refusal { number: 16, place: None };
+
+/// Answers with an image, if there is room.
+fn put(image: &[u8], buffer: &mut [u8]) -> Result<usize, Refusal> {
+    let room = buffer.get_mut(..image.len()).ok_or(Refusal { number: 10, place: Some(image.len()) })?;
+    room.copy_from_slice(image);
+    Ok(image.len())
+}
 
 /// The refusal that is kept until the end, other than that the text is not complete.
 fn kept(text: &[u8]) -> Option<Refusal> {
@@ -113,6 +126,9 @@ impl Faulty {
 
     /// The image without what the load check overlooks.
     fn righted(&self, image: &[u8]) -> Vec<u8> {
+        if let Fault::NamesInImages(fault) = self.0 {
+            return fault.righted(image);
+        }
         let mut righted = image.to_vec();
         for (_, words) in positions(image) {
             for three in words.windows(3) {
@@ -147,6 +163,9 @@ impl Implementation for Faulty {
     type Chunks = Chunks;
 
     fn read_into(&self, text: &[u8], image: &mut [u8]) -> Result<usize, Refusal> {
+        if let Fault::NamesInTexts(fault) = self.0 {
+            return put(&fault.read(text)?, image);
+        }
         let has_edge = || reference::read(text).is_ok_and(|image| !edges(&image).is_empty());
         if self.0 == Fault::EdgeRefusedByReader && has_edge() {
             return Err(Refusal { number: 7, place: Some(0) });
@@ -164,7 +183,8 @@ impl Implementation for Faulty {
     fn check(&self, image: &[u8]) -> Result<(), Refusal> {
         match (self.0, Reference.check(image)) {
             (Fault::ChecksNothing, _) => Ok(()),
-            (Fault::EdgeRefusedByCheck, Ok(())) if !edges(image).is_empty() => Err(Refusal { number: 11, place: None }),
+            (Fault::EdgeRefusedByCheck, Ok(())) if !edges(image).is_empty() => Err(NOT_ACCEPTED),
+            (Fault::NamesInImages(fault), Ok(())) if fault.refuses(image) => Err(NOT_ACCEPTED),
             (_, Err(_)) => Reference.check(&self.righted(image)),
             (_, accepted) => accepted,
         }
@@ -175,6 +195,7 @@ impl Implementation for Faulty {
         match (self.0, answer) {
             (Fault::ByteOfListing, Ok(length)) => listing[length - 1] = b' ',
             (Fault::LengthOfListing, Ok(length)) => return Ok(length - 1),
+            (Fault::NamesInImages(fault), Ok(length)) => fault.alter(&mut listing[..length]),
             _ => {}
         }
         answer
@@ -268,12 +289,17 @@ impl Implementation for Faulty {
     }
 }
 
-fn is_found(fault: Fault) -> bool {
-    (0..3_000).any(|number| compare(&Reference, &Faulty(fault), &Case::new(1, number), &mut Tally::default()).is_err())
+fn cases() -> Vec<Case> {
+    (0..3_000).map(|number| Case::new(1, number)).collect()
+}
+
+fn is_found(fault: Fault, cases: &[Case]) -> bool {
+    cases.iter().any(|case| compare(&Reference, &Faulty(fault), case, &mut Tally::default()).is_err())
 }
 
 #[test]
 fn every_fault_is_found() {
+    let cases = cases();
     for fault in [
         Fault::BytePastImage,
         Fault::ByteBesideRefusal,
@@ -310,7 +336,16 @@ fn every_fault_is_found() {
         Fault::ThirdAtOnePositionPasses,
         Fault::FallBehindEdgePasses,
     ] {
-        assert!(is_found(fault), "{fault:?}");
+        assert!(is_found(fault, &cases), "{fault:?}");
     }
-    assert!(!is_found(Fault::None));
+    assert!(!is_found(Fault::None, &cases));
+}
+
+#[test]
+fn every_fault_in_names_is_found() {
+    let cases = cases();
+    let in_texts = names::in_texts().into_iter().map(Fault::NamesInTexts);
+    for fault in in_texts.chain(names::in_images().into_iter().map(Fault::NamesInImages)) {
+        assert!(is_found(fault, &cases), "{fault:?}");
+    }
 }

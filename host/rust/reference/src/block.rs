@@ -51,7 +51,19 @@ pub struct Block {
     pub conclusions: Vec<(i32, i32)>,
 }
 
+pub fn term_names(terms: &[Term]) -> impl Iterator<Item = &Name> {
+    terms.iter().map(|term| &term.name)
+}
+
 impl Block {
+    pub fn input_names(&self) -> impl Iterator<Item = &Name> {
+        self.inputs.iter().map(|input| &input.name)
+    }
+
+    pub fn output_names(&self) -> impl Iterator<Item = &Name> {
+        self.outputs.iter().map(|output| &output.name)
+    }
+
     fn terms(&self) -> impl Iterator<Item = &Term> {
         let inputs = self.inputs.iter().flat_map(|input| &input.terms);
         inputs.chain(self.outputs.iter().flat_map(|output| &output.terms))

@@ -213,16 +213,21 @@ pub fn is_stored_name(bytes: &[u8]) -> bool {
         && padding.iter().all(|&b| b == 0)
 }
 
-/// The words of Table 7 of source document 001, with REAL and INT.
+/// Names are compared without case, which only the ASCII letters have; so are keywords.
+pub fn is_same_name(a: &[u8], b: &[u8]) -> bool {
+    a.eq_ignore_ascii_case(b)
+}
+
+/// The words of Table 7 of source document 001, with REAL and INT, here in capitals.
 fn keyword(word: &[u8]) -> Option<Key> {
-    Some(match word {
+    Some(match word.to_ascii_uppercase().as_slice() {
         b"ACCU" => Key::Accu,
         b"ACT" => Key::Act,
         b"AND" => Key::And,
         b"ASUM" => Key::Asum,
         b"BDIF" => Key::Bdif,
         b"BSUM" => Key::Bsum,
-        b"CoGS" => Key::Cogs,
+        b"COGS" => Key::Cogs,
         b"DEFAULT" => Key::Default,
         b"DEFUZZIFY" => Key::Defuzzify,
         b"END_DEFUZZIFY" => Key::EndDefuzzify,
@@ -251,7 +256,7 @@ fn keyword(word: &[u8]) -> Option<Key> {
         b"VAR_INPUT" => Key::VarInput,
         b"VAR_OUTPUT" => Key::VarOutput,
         b"WITH" => Key::With,
-        b"CoA" | b"CoG" | b"END_OPTIONS" | b"LM" | b"NSUM" | b"OPTIONS" | b"RM" | b"VAR" => Key::Unused,
+        b"COA" | b"COG" | b"END_OPTIONS" | b"LM" | b"NSUM" | b"OPTIONS" | b"RM" | b"VAR" => Key::Unused,
         _ => return None,
     })
 }

@@ -1,6 +1,6 @@
 //! An independent implementation of document 01, written from the paper: reader, load check,
-//! lister and evaluator; of document 02, texts in chunks and sharp edges. It is what the proved library is
-//! compared with.
+//! lister and evaluator; of document 02, texts in chunks, sharp edges and names without case. It is what
+//! the proved library is compared with.
 #![forbid(unsafe_code)]
 #![allow(clippy::needless_range_loop)]
 

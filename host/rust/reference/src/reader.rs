@@ -1,6 +1,6 @@
 //! The reader: tokens front to back, one ahead.
-use crate::block::{Block, Input, Output, Rule, Term, AND, FIRST_TERM, NOT, OR};
-use crate::lexer::{Key, Kind, Lexer, Name, Number, Token};
+use crate::block::{term_names, Block, Input, Output, Rule, Term, AND, FIRST_TERM, NOT, OR};
+use crate::lexer::{is_same_name, Key, Kind, Lexer, Name, Number, Token};
 use crate::numbers::{is_crisp, M};
 use crate::{bounds, Refusal};
 
@@ -78,6 +78,19 @@ impl Reader<'_> {
         }
     }
 
+    /// The name that stands here, which is none of those taken; it is not passed yet.
+    fn new_name<'n>(&self, mut taken: impl Iterator<Item = &'n Name>) -> Read<Name> {
+        let name = self.name()?;
+        self.refuse_if(taken.any(|other| is_same_name(other, &name)), 4)?;
+        Ok(name)
+    }
+
+    /// Which of those declared stands here; it is not passed yet.
+    fn declared<'n>(&self, mut names: impl Iterator<Item = &'n Name>) -> Read<usize> {
+        let name = self.name()?;
+        names.position(|other| is_same_name(other, &name)).ok_or(self.refused(5))
+    }
+
     fn number(&self) -> Read<Number> {
         match self.token.kind {
             Kind::Number(number) => Ok(number),
@@ -121,18 +134,12 @@ impl Reader<'_> {
         self.want(Kind::End)
     }
 
-    fn is_declared(&self, name: Name) -> bool {
-        self.block.inputs.iter().any(|input| input.name == name)
-            || self.block.outputs.iter().any(|output| output.name == name)
-    }
-
     fn inputs(&mut self) -> Read<()> {
         self.word(Key::VarInput)?;
         loop {
             let first = self.block.inputs.len();
             loop {
-                let name = self.name()?;
-                self.refuse_if(self.is_declared(name), 4)?;
+                let name = self.new_name(self.block.input_names())?;
                 self.refuse_if(self.block.inputs.len() == bounds::INPUTS, 6)?;
                 self.block.inputs.push(Input { name, int: false, terms: Vec::new() });
                 self.advance();
@@ -156,8 +163,7 @@ impl Reader<'_> {
         self.word(Key::VarOutput)?;
         loop {
             loop {
-                let name = self.name()?;
-                self.refuse_if(self.is_declared(name), 4)?;
+                let name = self.new_name(self.block.input_names().chain(self.block.output_names()))?;
                 self.refuse_if(self.block.outputs.len() == bounds::OUTPUTS, 6)?;
                 let output = Output { name, range: None, terms: Vec::new(), default: None };
                 self.block.outputs.push(output);
@@ -180,8 +186,7 @@ impl Reader<'_> {
         self.refuse_if(!self.is(Key::Term), 2)?;
         self.refuse_if(terms.len() == bounds::TERMS, 6)?;
         self.advance();
-        let name = self.name()?;
-        self.refuse_if(terms.iter().any(|term| term.name == name), 4)?;
+        let name = self.new_name(term_names(terms))?;
         self.advance();
         self.want(Kind::Assign)?;
         Ok(name)
@@ -189,9 +194,7 @@ impl Reader<'_> {
 
     fn fuzzify(&mut self) -> Read<()> {
         self.word(Key::Fuzzify)?;
-        let name = self.name()?;
-        let place = self.block.inputs.iter().position(|input| input.name == name);
-        let input = place.ok_or(self.refused(5))?;
+        let input = self.declared(self.block.input_names())?;
         self.refuse_if(!self.block.inputs[input].terms.is_empty(), 4)?;
         self.advance();
         let mut terms = Vec::new();
@@ -236,9 +239,7 @@ impl Reader<'_> {
 
     fn defuzzify(&mut self) -> Read<()> {
         self.word(Key::Defuzzify)?;
-        let name = self.name()?;
-        let place = self.block.outputs.iter().position(|output| output.name == name);
-        let output = place.ok_or(self.refused(5))?;
+        let output = self.declared(self.block.output_names())?;
         self.refuse_if(!self.block.outputs[output].terms.is_empty(), 4)?;
         self.advance();
         let range = if self.is(Key::Range) { Some(self.range()?) } else { None };
@@ -437,18 +438,14 @@ impl Reader<'_> {
     }
 
     fn subcondition(&mut self) -> Read<()> {
-        let name = self.name()?;
-        let place = self.block.inputs.iter().position(|input| input.name == name);
-        let input = place.ok_or(self.refused(5))?;
+        let input = self.declared(self.block.input_names())?;
         self.condition_word()?;
         self.word(Key::Is)?;
         let negated = self.is(Key::Not);
         if negated {
             self.condition_word()?;
         }
-        let name = self.name()?;
-        let terms = &self.block.inputs[input].terms;
-        let term = terms.iter().position(|term| term.name == name).ok_or(self.refused(5))?;
+        let term = self.declared(term_names(&self.block.inputs[input].terms))?;
         self.advance();
         self.block.words.push(FIRST_TERM + (self.firsts[input] + term) as i32);
         if negated {
@@ -458,15 +455,11 @@ impl Reader<'_> {
     }
 
     fn conclusion(&mut self) -> Read<()> {
-        let name = self.name()?;
-        let place = self.block.outputs.iter().position(|output| output.name == name);
-        let output = place.ok_or(self.refused(5))?;
+        let output = self.declared(self.block.output_names())?;
         self.refuse_if(self.block.conclusions.len() == bounds::CONCLUSIONS, 6)?;
         self.advance();
         self.word(Key::Is)?;
-        let name = self.name()?;
-        let terms = &self.block.outputs[output].terms;
-        let term = terms.iter().position(|term| term.name == name).ok_or(self.refused(5))?;
+        let term = self.declared(term_names(&self.block.outputs[output].terms))?;
         self.advance();
         let first = self.firsts[self.block.inputs.len() + output];
         self.block.conclusions.push((output as i32, (first + term) as i32));

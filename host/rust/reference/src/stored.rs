@@ -1,7 +1,7 @@
 //! The load check: a stored image, word by word, against what the reader can lay out.
 use crate::block::{AND, FIRST_TERM, HEADER, NOT, OR, WIDTHS};
 use crate::bounds;
-use crate::lexer::is_stored_name;
+use crate::lexer::{is_same_name, is_stored_name};
 use crate::numbers::{is_crisp, is_written_degree, M};
 use std::ops::Range;
 
@@ -176,7 +176,7 @@ impl<'a> Stored<'a> {
 
     fn is_new_name(&self, at: usize, earlier: impl Iterator<Item = usize>) -> bool {
         let name = self.name_bytes(at);
-        is_stored_name(name) && earlier.map(|row| self.name_bytes(row)).all(|other| other != name)
+        is_stored_name(name) && earlier.map(|row| self.name_bytes(row)).all(|other| !is_same_name(other, name))
     }
 
     /// Gives the number of input terms.

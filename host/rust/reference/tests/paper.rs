@@ -1,5 +1,5 @@
 //! Document 01's worked example, its values to check and the errors the trade has made; of document 02, what each
-//! sentence of W-201 and of W-203 says.
+//! sentence of W-201, of W-203 and of W-205 says.
 use reference::*;
 
 const TEXT: &str = "FUNCTION_BLOCK trust VAR_INPUT sharp: REAL; END_VAR VAR_OUTPUT grade: REAL; END_VAR \
@@ -592,5 +592,403 @@ fn edges_in_images() {
         assert_eq!(fresh(&image), Err(refusal), "{positions:?}");
         let call = evaluate(&image, &[Reading::Real(0.0); 8], 1, [0; 6]);
         assert_eq!(call.refusal, Some(refusal), "{positions:?}");
+    }
+}
+
+/// The words of Table 7 of source document 001, with REAL and INT.
+const KEYWORDS: &str = "ACCU ACT AND ASUM BDIF BSUM CoA CoG CoGS DEFAULT DEFUZZIFY END_DEFUZZIFY END_FUNCTION_BLOCK \
+END_FUZZIFY END_OPTIONS END_RULEBLOCK END_VAR FUNCTION_BLOCK FUZZIFY IF INT IS LM MAX METHOD MIN NC NOT NSUM OPTIONS OR \
+PROD RANGE REAL RM RULE RULEBLOCK TERM THEN VAR VAR_INPUT VAR_OUTPUT WITH";
+
+/// Small letters and capitals by turns.
+fn by_turns(text: &str) -> String {
+    let turn = |(nth, letter): (usize, char)| match nth % 2 {
+        0 => letter.to_ascii_lowercase(),
+        _ => letter.to_ascii_uppercase(),
+    };
+    text.chars().enumerate().map(turn).collect()
+}
+
+/// One maker's editor turns every name into capitals in the rules but not in the declarations.
+#[test]
+fn names_in_capitals_in_the_rules() {
+    let (head, rules) = TEXT.split_at(TEXT.find("RULE 1:").unwrap());
+    let image = read(TEXT.as_bytes()).unwrap();
+    for rules in [
+        "RULE 1: IF SHARP IS CLEAR THEN GRADE IS HIGH; RULE 2: IF NOT SHARP IS CLEAR THEN GRADE IS LOW; \
+         END_RULEBLOCK END_FUNCTION_BLOCK",
+        &rules.to_ascii_uppercase(),
+        &rules.to_ascii_lowercase(),
+        &by_turns(rules),
+    ] {
+        let text = format!("{head}{rules}");
+        assert_eq!(read(text.as_bytes()).as_ref(), Ok(&image), "{rules}");
+        assert_eq!(in_chunks(&[&text.as_bytes()[..350], &text.as_bytes()[350..]]).1[..364], image);
+    }
+    // Of other places, each use by itself.
+    for (declared, used) in [("FUZZIFY sharp", "FUZZIFY SHARP"), ("DEFUZZIFY grade", "DEFUZZIFY gRADE")] {
+        assert_eq!(read(&with(declared, used).0).as_ref(), Ok(&image), "{used}");
+    }
+    assert_eq!(list(&image).unwrap(), LISTING.as_bytes());
+}
+
+/// A block with every part that a text can have, one blank between tokens.
+fn spaced(and: &str, or: &str, act: &str, accu: &str) -> String {
+    format!(
+        "FUNCTION_BLOCK f VAR_INPUT a : REAL ; b : INT ; END_VAR VAR_OUTPUT o : REAL ; q : REAL ; END_VAR \
+         FUZZIFY a TERM t := ( 0 , 0 ) , ( 1 , 1 ) ; END_FUZZIFY FUZZIFY b TERM t := ( 0 , 0 ) , ( 1 , 1 ) ; END_FUZZIFY \
+         DEFUZZIFY o RANGE ( 0 .. 9 ) ; TERM x := 1 ; METHOD : CoGS ; DEFAULT := NC ; END_DEFUZZIFY \
+         DEFUZZIFY q TERM x := 1 ; METHOD : CoGS ; DEFAULT := 0 ; END_DEFUZZIFY \
+         RULEBLOCK r AND : {and} ; OR : {or} ; ACT : {act} ; ACCU : {accu} ; \
+         RULE 1 : IF a IS t OR NOT b IS t AND a IS NOT t THEN o IS x , q IS x WITH 0.5 ; END_RULEBLOCK \
+         END_FUNCTION_BLOCK "
+    )
+}
+
+/// A keyword in other letters is that keyword, wherever it is wanted.
+#[test]
+fn keywords_in_any_case() {
+    let texts = [
+        spaced("MIN", "MAX", "MIN", "MAX"),
+        spaced("PROD", "ASUM", "PROD", "BSUM"),
+        spaced("BDIF", "BSUM", "MIN", "MAX"),
+    ];
+    let images = texts.each_ref().map(|text| read(text.as_bytes()).unwrap());
+    // Pair, ACCU and ACT.
+    assert_eq!(images.each_ref().map(|image| words(image)[16..19].to_vec()), [[0, 0, 0], [1, 1, 1], [2, 0, 0]]);
+    let mut nowhere = Vec::new();
+    for keyword in KEYWORDS.split(' ') {
+        let mut stands = false;
+        for (text, image) in texts.iter().zip(&images) {
+            for other in [keyword.to_ascii_lowercase(), keyword.to_ascii_uppercase(), by_turns(keyword)] {
+                let respelt = format!(" {text}").replace(&format!(" {keyword} "), &format!(" {other} "));
+                assert_eq!(read(respelt.as_bytes()).as_ref(), Ok(image), "{other}");
+                stands |= respelt[1..] != **text;
+            }
+        }
+        nowhere.extend((!stands).then_some(keyword));
+    }
+    assert_eq!(nowhere, ["CoA", "CoG", "END_OPTIONS", "LM", "NSUM", "OPTIONS", "RM", "VAR"]);
+    // The names are in small letters already.
+    for (text, image) in texts.iter().zip(&images) {
+        assert_eq!(read(text.to_ascii_lowercase().as_bytes()).as_ref(), Ok(image));
+    }
+    assert_eq!(read(TEXT.to_ascii_lowercase().as_bytes()), read(TEXT.as_bytes()));
+}
+
+/// The worked example with every name declared in one spelling and used in others, keywords in any.
+const MIXED: &str = "function_block Trust Var_Input sHARP: Real; end_var VAR_OUTPUT Grade: real; End_Var \
+fuzzify SHARP Term Clear := (20,0),(60.0,1); END_fuzzify Defuzzify GRADE term LOW := 0; TERM hIgH := 100; \
+method : cogs; Default := nc; end_Defuzzify RuleBlock R accu : Max; rule 1: if Sharp is CLEAR then gRADE Is HIGH; \
+Rule 2: If not sharp iS clear THen grade IS low; end_RuleBlock End_Function_Block";
+
+const MIXED_LISTING: &str = "\
+FUNCTION_BLOCK Trust
+VAR_INPUT
+  sHARP : REAL;
+END_VAR
+VAR_OUTPUT
+  Grade : REAL;
+END_VAR
+FUZZIFY sHARP
+  TERM Clear := (20, 0), (60, 1);
+END_FUZZIFY
+DEFUZZIFY Grade
+  TERM LOW := 0;
+  TERM hIgH := 100;
+  METHOD : CoGS;
+  DEFAULT := NC;
+END_DEFUZZIFY
+RULEBLOCK R
+  AND : MIN;
+  OR : MAX;
+  ACT : MIN;
+  ACCU : MAX;
+  RULE 1 : IF sHARP IS Clear THEN Grade IS hIgH;
+  RULE 2 : IF sHARP IS NOT Clear THEN Grade IS LOW;
+END_RULEBLOCK
+END_FUNCTION_BLOCK
+";
+
+/// The words of the worked example's image where names start: of the block, the rule block, the input, the output, the
+/// input's term and the output's two.
+const NAMES: [usize; 7] = [20, 24, 28, 35, 46, 52, 58];
+
+fn names(image: &[u8]) -> [&str; 7] {
+    NAMES.map(|word| std::str::from_utf8(&image[4 * word..4 * word + 16]).unwrap().trim_end_matches('\0'))
+}
+
+fn named(image: &[u8], nth: usize, name: &str) -> Vec<u8> {
+    let mut image = image.to_vec();
+    let at = 4 * NAMES[nth];
+    image[at..at + 16].fill(0);
+    image[at..at + name.len()].copy_from_slice(name.as_bytes());
+    image
+}
+
+/// The image keeps each name as first declared; the listing prints it so, and keywords as document 01 spells them.
+#[test]
+fn names_as_declared() {
+    let image = read(MIXED.as_bytes()).unwrap();
+    assert_eq!(names(&image), ["Trust", "R", "sHARP", "Grade", "Clear", "LOW", "hIgH"]);
+    assert_eq!(list(&image).unwrap(), MIXED_LISTING.as_bytes());
+    assert_eq!(read(MIXED_LISTING.as_bytes()), Ok(image.clone()));
+    // But for its names it is the worked example's.
+    let small = ["trust", "r", "sharp", "grade", "clear", "low", "high"];
+    let renamed = small.iter().enumerate().fold(image, |image, (nth, name)| named(&image, nth, name));
+    assert_eq!(Ok(renamed), read(TEXT.as_bytes()));
+    // In capitals as a whole, names are declared so too.
+    let image = read(TEXT.to_ascii_uppercase().as_bytes()).unwrap();
+    assert_eq!(names(&image), ["TRUST", "R", "SHARP", "GRADE", "CLEAR", "LOW", "HIGH"]);
+    assert_eq!(list(&image).unwrap(), LISTING.to_ascii_uppercase().replace("COGS", "CoGS").as_bytes());
+}
+
+/// Two names that differ only in case are one: 4 at the second.
+#[test]
+fn names_repeated_in_other_case() {
+    // Two inputs, in one declaration and in two; an input and an output; two outputs.
+    refuses("sharp: REAL", "sharp, Sharp: REAL", 4, 7);
+    refuses("sharp: REAL", "sharp: REAL; dull, SHARP: INT", 4, 19);
+    refuses("grade: REAL", "GRADE, gRADE: REAL", 4, 7);
+    refuses("grade: REAL", "grade: REAL; b: REAL; Grade: REAL", 4, 22);
+    refuses("grade: REAL", "sharP: REAL", 4, 0);
+    refuses("grade: REAL", "b: REAL; SHARP: REAL", 4, 9);
+    // Two terms of an input, two terms of an output.
+    refuses("(60.0,1);", "(60.0,1); TERM CLEAR := (0,0),(1,1);", 4, 15);
+    refuses("(60.0,1);", "(60.0,1); TERM b := (0,0),(1,1); TERM cLear := (0,0),(1,1);", 4, 38);
+    refuses("TERM high", "TERM LOW", 4, 5);
+    refuses("TERM high", "TERM b := 1; TERM Low", 4, 18);
+    // A part again, at its variable.
+    refuses("DEFUZZIFY grade", "FUZZIFY SHARP TERM b := (0,0),(1,1); END_FUZZIFY DEFUZZIFY grade", 4, 8);
+    refuses("RULEBLOCK r", "DEFUZZIFY Grade TERM b := 1; RULEBLOCK r", 4, 10);
+    // All 16 bytes count, the last too.
+    let sixteen = |other: &str| with("sharp: REAL", &format!("sharp, _bcdefgh_1234_xy, {other}: REAL"));
+    let (text, at) = sixteen("_BCDEFGH_1234_XY");
+    assert_eq!(read(&text), refused(4, at + 25));
+    for other in ["_BCDEFGH_1234_XZ", "_BCDEFGH_1234_X", "_BCDEFGH_1334_XY"] {
+        let (text, _) = sixteen(other);
+        // Only their parts are missing.
+        assert_eq!(read(&text), refused(9, text.len() - 19), "{other}");
+    }
+}
+
+/// Where the worked example has names, each with the token before it.
+const PLACES: [&str; 12] = [
+    "BLOCK trust",
+    "INPUT sharp",
+    "OUTPUT grade",
+    "FUZZIFY sharp",
+    "TERM clear",
+    "DEFUZZIFY grade",
+    "TERM low",
+    "RULEBLOCK r",
+    "1: IF sharp",
+    "NOT sharp IS clear",
+    "high; RULE 2: IF NOT sharp IS clear THEN grade",
+    "grade IS low",
+];
+
+/// The worked example with another word for the last one of these, and where it stands.
+fn replaced(place: &str, word: &str) -> (Vec<u8>, usize) {
+    let (before, _) = place.rsplit_once(' ').unwrap();
+    let (text, at) = with(place, &format!("{before} {word}"));
+    (text, at + before.len() + 1)
+}
+
+/// A name that differs from a keyword only in case is that keyword: 2 where a name is wanted, before 4, 5 and 6.
+#[test]
+fn keywords_as_names() {
+    for place in PLACES {
+        for keyword in KEYWORDS.split(' ') {
+            for word in [keyword.to_ascii_lowercase(), keyword.to_ascii_uppercase(), by_turns(keyword)] {
+                let (text, at) = replaced(place, &word);
+                // NOT may stand before a condition's names; what comes behind it is wrong then.
+                let may_stand =
+                    word.eq_ignore_ascii_case("NOT") && ["1: IF sharp", "NOT sharp IS clear"].contains(&place);
+                let at = if may_stand { at + 4 } else { at };
+                assert_eq!(read(&text), refused(2, at), "{place}, {word}");
+            }
+        }
+        // 18 bytes and a keyword; 17 and 19 that are none are too long.
+        for (word, number) in [("end_function_block", 2), ("End_Function_Bloc", 4), ("end_function_blocks", 4)] {
+            let (text, at) = replaced(place, word);
+            assert_eq!(read(&text), refused(number, at), "{place}, {word}");
+        }
+    }
+    for word in ["rule", "If", "max", "coa", "COGS", "real", "Int"] {
+        refuses("trust", word, 2, 0);
+    }
+    // Names that are nearly keywords, but for more than case.
+    for word in ["rules", "rul", "_rule", "rule_1", "i", "AC4", "ma8", "VAR_IN", "end_var1", "co_gs"] {
+        assert!(read(&with("trust", word).0).is_ok(), "{word}");
+    }
+    // A ninth input and a seventh output that are keywords.
+    refuses("sharp: REAL", "sharp, a1, a2, a3, a4, a5, a6, a7, rule: REAL", 2, 35);
+    refuses("grade: REAL", "grade, o1, o2, o3, o4, o5, wIth: REAL", 2, 27);
+}
+
+/// Misplaced underscores come first: such a word is no keyword, in any case.
+#[test]
+fn underscores_in_keywords() {
+    for word in ["end__var", "End_Var_", "END__VAR", "_end_var"] {
+        let (text, at) = with("END_VAR VAR_OUTPUT", &format!("{word} VAR_OUTPUT"));
+        // The last one is a name, behind which a colon or a comma is missing.
+        let at = if word == "_end_var" { at + 9 } else { at };
+        assert_eq!(read(&text), refused(2, at), "{word}");
+    }
+    refuses("trust", "end_function__block", 2, 0);
+    refuses("trust", "_end_function_block", 4, 0);
+}
+
+/// 5 only where no declared name is the same but for case.
+#[test]
+fn names_not_declared_in_any_case() {
+    for (place, words) in [
+        ("FUZZIFY sharp", ["SHARPE", "GRADE", "CLEAR"]),
+        ("DEFUZZIFY grade", ["Grad", "SHARP", "LOW"]),
+        ("1: IF sharp", ["SHAR", "GRADE", "TRUST"]),
+        ("NOT sharp IS clear", ["CLEARE", "SHARP", "LOW"]),
+        ("high; RULE 2: IF NOT sharp IS clear THEN grade", ["GRADE1", "SHARP", "R"]),
+        ("grade IS low", ["LO", "GRADE", "CLEAR"]),
+    ] {
+        for word in words {
+            let (text, at) = replaced(place, word);
+            assert_eq!(read(&text), refused(5, at), "{place}, {word}");
+        }
+    }
+}
+
+/// Only letters have a case: of other bytes that are 32 apart at most one can stand in a name, and 2 is at the other.
+#[test]
+fn bytes_that_are_no_letters() {
+    let digits = (b'0'..=b'9').map(|digit| digit - 32);
+    for byte in b"[{@`\\|]}^~\x7f".iter().copied().chain(digits) {
+        for place in PLACES {
+            let (_, word) = place.rsplit_once(' ').unwrap();
+            let (text, at) = replaced(place, &format!("{word}{}", char::from(byte)));
+            assert_eq!(read(&text), refused(2, at + word.len()), "{place}, {byte}");
+        }
+    }
+    // Of a letter outside of ASCII each byte is wrong.
+    for byte in [0xc4, 0xe4] {
+        let text = [b"FUNCTION_BLOCK a".as_slice(), &[byte], b" VAR_INPUT"].concat();
+        assert_eq!(read(&text), refused(2, 16));
+    }
+    // Letters, digits and underscores whose five low bits are the same, or nearly so, are two bytes.
+    for (name, other) in [("a0", "aP"), ("a0", "ap"), ("a9", "aY"), ("a_1", "aO1"), ("a_1", "a11")] {
+        let (text, _) = with("sharp: REAL", &format!("sharp, {name}, {other}: REAL"));
+        // Only their parts are missing.
+        assert_eq!(read(&text), refused(9, text.len() - 19), "{name}, {other}");
+    }
+}
+
+/// Terms of different variables, the block's and the rule block's names are bound to nothing else.
+#[test]
+fn names_that_may_be_alike() {
+    let text = TEXT
+        .replace("BLOCK trust", "BLOCK Sharp")
+        .replace("RULEBLOCK r", "RULEBLOCK SHARP")
+        .replace("TERM clear", "TERM sHarp")
+        .replace("TERM low", "TERM Grade")
+        .replace("TERM high", "TERM SHarp")
+        .replace("IS clear", "IS sharp")
+        .replace("IS low", "IS grade")
+        .replace("IS high", "IS sharp");
+    let image = read(text.as_bytes()).unwrap();
+    assert_eq!(names(&image), ["Sharp", "SHARP", "sharp", "grade", "sHarp", "Grade", "SHarp"]);
+    assert_eq!(check(&image), Ok(()));
+    assert_eq!(read(&list(&image).unwrap()), Ok(image));
+}
+
+fn passes(image: &[u8]) {
+    assert_eq!(check(image), Ok(()), "{:?}", names(image));
+    assert_eq!(read(&list(image).unwrap()).as_deref(), Ok(image));
+}
+
+fn does_not_pass(image: &[u8]) {
+    let refusal = Refusal { number: 11, place: None };
+    assert_eq!(check(image), Err(refusal), "{:?}", names(image));
+    assert_eq!(list(image), Err(refusal));
+    assert_eq!(fresh(image), Err(refusal));
+    assert_eq!(evaluate(image, &[Reading::Real(30.0); 8], 1, [0; 6]).refusal, Some(refusal));
+}
+
+/// A stored name may be in any letters, but no keyword in any; other bytes that are 32 from a name's are none of its.
+#[test]
+fn letters_in_images() {
+    let image = read(MIXED.as_bytes()).unwrap();
+    for nth in 0..NAMES.len() {
+        let name = names(&image)[nth];
+        for other in [name.to_ascii_lowercase(), name.to_ascii_uppercase(), by_turns(name)] {
+            passes(&named(&image, nth, &other));
+        }
+        for keyword in KEYWORDS.split(' ').filter(|keyword| keyword.len() <= 16) {
+            for word in [keyword.to_ascii_lowercase(), keyword.to_ascii_uppercase(), by_turns(keyword)] {
+                does_not_pass(&named(&image, nth, &word));
+            }
+        }
+        for near in ["rules", "AC4", "ma8", "end_var1"] {
+            passes(&named(&image, nth, near));
+        }
+        for wrong in ["a\x7fb", "a\x10", "a[", "a{", "a@", "a`"] {
+            does_not_pass(&named(&image, nth, wrong));
+        }
+    }
+}
+
+/// Of `sHARP` and `Grade`, `LOW` and `hIgH` none may be the other; all else may be alike.
+#[test]
+fn names_alike_in_images() {
+    let image = read(MIXED.as_bytes()).unwrap();
+    for (nth, others) in [(2, ["GRADE", "grade"]), (3, ["sharp", "Sharp"]), (5, ["HIGH", "high"]), (6, ["low", "Low"])]
+    {
+        for other in others {
+            does_not_pass(&named(&image, nth, other));
+        }
+    }
+    for (nth, others) in [
+        (0, ["SHARP", "r"]),
+        (1, ["sharp", "TRUST"]),
+        (2, ["Trust", "CLEAR"]),
+        (3, ["r", "grade"]),
+        (4, ["SHARP", "low"]),
+        (5, ["CLEAR", "Grade"]),
+        (6, ["GRADE", "clear"]),
+    ] {
+        for other in others {
+            passes(&named(&image, nth, other));
+        }
+    }
+}
+
+/// Two inputs, two outputs and two terms of an input, stored with names that differ only in case or in more.
+#[test]
+fn pairs_of_names_in_images() {
+    let image = read(spaced("MIN", "MAX", "MIN", "MAX").as_bytes()).unwrap();
+    let renamed = |word: usize, letter: u8| {
+        let mut image = image.clone();
+        image[4 * word] = letter;
+        check(&image).map_err(|refusal| refusal.number)
+    };
+    // Inputs a and b at 28 and 35, outputs o and q at 42 and 53, behind them the terms t, t, x and x.
+    for (word, taken, free) in [(28, b"BOQ", b"Atx"), (35, b"AOQ", b"Btx"), (42, b"ABQ", b"Otx"), (53, b"ABO", b"QTX")]
+    {
+        for letter in taken {
+            assert_eq!(renamed(word, *letter), Err(11), "{word}, {letter}");
+            assert_eq!(renamed(word, letter.to_ascii_lowercase()), Err(11), "{word}, {letter}");
+        }
+        for letter in free {
+            assert_eq!(renamed(word, *letter), Ok(()), "{word}, {letter}");
+        }
+    }
+    // The input's second term stands where else the output's first does.
+    let (text, _) = with("(60.0,1);", "(60.0,1); TERM b := (0,0),(1,1);");
+    let image = read(&text).unwrap();
+    assert_eq!(names(&image)[4..6], ["clear", "b"]);
+    for (other, expected) in
+        [("clear", Err(11)), ("CLEAR", Err(11)), ("cLeaR", Err(11)), ("B", Ok(())), ("LOW", Ok(()))]
+    {
+        let stored = named(&image, 5, other);
+        assert_eq!(check(&stored).map_err(|refusal| refusal.number), expected, "{other}");
     }
 }

@@ -1,0 +1,9 @@
+pub mod Bytes
+pub mod Tokens
+pub mod Blocks
+pub mod Steps
+pub mod Late
+pub mod Declarations
+pub mod Conditions
+pub mod RuleBlock
+pub mod Claim

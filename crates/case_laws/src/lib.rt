@@ -1,0 +1,1 @@
+// Case has no meaning: laws of the definitions. Proofs only.
