@@ -110,7 +110,10 @@ typedef struct {
     GrillenhelmAnswer answers[GRILLENHELM_OUTPUTS];
 } GrillenhelmReply;
 
-/* Reads an FCL text and writes its image to the start of the buffer; refused by 1 to 10. */
+/*
+ * Reads an FCL text and writes its image to the start of the buffer; refused by 1 to 10. Case does not count in names
+ * and keywords; the image has each name as it is declared.
+ */
 GrillenhelmOutcome grillenhelm_read(const uint8_t *text, size_t text_length, uint8_t *image, size_t image_room);
 
 /*

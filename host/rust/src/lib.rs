@@ -58,7 +58,8 @@ pub struct Image {
 }
 
 impl Image {
-    /// Reads an FCL text; refused by 1 to 9.
+    /// Reads an FCL text; refused by 1 to 9. Case does not count in names and keywords; the image has each name as it is
+    /// declared, and so has its listing.
     pub fn read(text: &[u8]) -> Result<Image, Refusal> {
         Image::written_by(|buffer| ffi::read(text, buffer))
     }
