@@ -49,7 +49,8 @@ pub fn centre_of(s: Sums) -> Centre
             figure: Crisp(0),
         };
     }
-    let q = nearest::nearest_quotient(s.moment, s.heights) as u32;
+    // Most figures lie within 500 of 0, and so at most a million thousandths above -500.
+    let q = nearest::nearest_above(s.moment, s.heights, 999_500_000) as u32;
     let figure = crisp::lower(q);
     Centre {
         sum: s.heights as u32,

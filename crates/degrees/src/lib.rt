@@ -31,10 +31,17 @@ pub fn max(a: Degree, b: Degree) -> Degree
     if a.0 < b.0 { b } else { a }
 }
 
+// Most weights are 1, and so are many degrees.
 pub fn prod(a: Degree, b: Degree) -> Degree
     requires { ⌜ (a .0 ≤ M) × (b .0 ≤ M) ⌝ }
     ensures { λ r. ⌜ (r .0 ≡ prodOf (a .0) (b .0)) × (r .0 ≤ M) ⌝ }
 {
+    if b.0 == 1_000_000 {
+        return a;
+    }
+    if a.0 == 1_000_000 {
+        return b;
+    }
     let x = a.0 as u64;
     let y = b.0 as u64;
     let r = nearest::nearest_quotient(x * y, 1_000_000) as u32;

@@ -1,7 +1,7 @@
 -- The three cases of `magnitude`: past the crisp limit, too small to count, and between.
 use mathlib.Core.Path.{_≡_, refl, sym, ap, _∙_}
-use Prim.Native.Nat.{ℕ, _+_, _*_, _-_, _%_, _^_, _≤_, _<_, min}
-use native.Mathlib.Nat.{mul-assoc, div-eq-of-lt, le-trans, mul-le-mul-left, mul-le-mul-right, mod-eq-of-lt}
+use Prim.Native.Nat.{ℕ, _+_, _*_, _-_, _^_, _≤_, _<_, min}
+use native.Mathlib.Nat.{mul-assoc, div-eq-of-lt, le-trans, mul-le-mul-left, mul-le-mul-right}
 use native.Mathlib.Omega.{arith}
 use lib.Pow.{pow-pos, pow-add, pow-mono}
 use Rattle.model.specs.Bounds.{crispLimit}
@@ -39,9 +39,3 @@ min-high r v b e h = omega arith
 
 pub min-low : (r v b : ℕ) → r ≡ v → r ≤ b → r ≡ min v b
 min-low r v b e h = omega arith
-
-pub pow-bounds : (j : ℕ) → j ≤ 40 → (2 ^ j ≤ 1099511627776) × (1 ≤ 2 ^ j)
-pow-bounds j h = (pow-mono h, pow-pos j)
-
-pub shifted : (j : ℕ) → j ≤ 40 → 1 * 2 ^ j % 2 ^ 64 ≡ 2 ^ j
-shifted j h = let e : 1 * 2 ^ j ≡ 2 ^ j = omega arith in rw e (mod-eq-of-lt (omega (arith, pow-bounds j h)))

@@ -40,8 +40,7 @@ fn magnitude(down: u64, q: u64, k: u64) -> u64
     if j > 40 {
         return 0;
     }
-    let d = 1u64 << j;
-    let v = nearest::nearest_quotient(2 * (1000 * q) - down, 2 * d);
+    let v = nearest::nearest_shift(2 * (1000 * q) - down, j);
     if v < 1_000_000_000 { v } else { 1_000_000_000 }
 }
 

@@ -13,17 +13,17 @@ use Rattle.centre.proofs.Moment.{nearest-is}
 use Rattle.centre.proofs.centre_of.Statement.{statement}
 use Rattle.centre.proofs.centre_of.Tie as tie
 
-quotient-le : (c : tie.After-nearest-quotient) → c .nearest-quotient .result ≤ 2000000000
+quotient-le : (c : tie.After-nearest-above) → c .nearest-above .result ≤ 2000000000
 quotient-le c =
     let s = c .before .before .before in
     let a = s .args .s in
-    rw (c .nearest-quotient .ensures) (nearest-le 2000000000 (a .moment) (a .heights) (omega (arith, c .before .if1 .left)) (s .pre .1))
+    rw (c .nearest-above .ensures) (nearest-le 2000000000 (a .moment) (a .heights) (omega (arith, c .before .if1 .left)) (s .pre .1))
 
 returns : tie.Need-returns
 returns c = (λ ps hs s k. rw (le-ltb 0 (sumOf hs) (omega (arith, s .1, c .if1 .taken))) refl, (sym (c .if1 .taken), lit≤ tt))
 
-nearest-quotient-requires : tie.Need-nearest-quotient-requires
-nearest-quotient-requires c κs = search needs
+nearest-above-requires : tie.Need-nearest-above-requires
+nearest-above-requires c κs = search needs
 
 cast-q : tie.Need-cast-q
 cast-q c = omega (arith, quotient-le c)
@@ -37,7 +37,7 @@ cast-t7 c = search needs
 returns-2 : tie.Need-returns-2
 returns-2 c =
     let q = c .before .before in
-    let n = q .nearest-quotient in
+    let n = q .nearest-above in
     let lower = c .before .lower in
     let a = q .before .before .before .args .s in (
       (λ ps hs s crisp.
@@ -48,4 +48,4 @@ returns-2 c =
 
 pub centre-of-spec : {M : Type 1} → statement M
 centre-of-spec =
-    tie.close (tie.spec returns nearest-quotient-requires cast-q lower-requires cast-t7 returns-2)
+    tie.close (tie.spec returns nearest-above-requires cast-q lower-requires cast-t7 returns-2)

@@ -6,7 +6,7 @@ use native.Mathlib.Omega.{arith}
 use lib.Dec.{lit≤}
 use Rattle.model.specs.Bounds.{crispLimit}
 use Rattle.readings.specs.Fields.{magnitudeOf}
-use Rattle.readings.proofs.Cases.{large, tiny, middle, min-high, min-low, pow-bounds, shifted}
+use Rattle.readings.proofs.Cases.{large, tiny, middle, min-high, min-low}
 use Rattle.readings.proofs.magnitude.Statement.{statement}
 use Rattle.readings.proofs.magnitude.Tie as tie
 
@@ -26,44 +26,30 @@ returns-2 c =
     let p = c .before .before .pre in
     (rw (tiny (a .down) (a .q) (a .k) (p .1) (omega arith)), lit≤ tt)
 
-shl-d : tie.Need-shl-d
-shl-d c = search needs
+mul-nearest-shift : tie.Need-mul-nearest-shift
+mul-nearest-shift c = search needs
 
-mul-nearest-quotient : tie.Need-mul-nearest-quotient
-mul-nearest-quotient c = search needs
+mul-nearest-shift-2 : tie.Need-mul-nearest-shift-2
+mul-nearest-shift-2 c = search needs
 
-mul-nearest-quotient-2 : tie.Need-mul-nearest-quotient-2
-mul-nearest-quotient-2 c = search needs
+sub-nearest-shift : tie.Need-sub-nearest-shift
+sub-nearest-shift c = omega (arith, c .before .before .pre .2 (omega arith))
 
-sub-nearest-quotient : tie.Need-sub-nearest-quotient
-sub-nearest-quotient c = omega (arith, c .before .before .pre .2 (omega arith))
-
-mul-nearest-quotient-3 : tie.Need-mul-nearest-quotient-3
-mul-nearest-quotient-3 c =
-    let j = 149 - c .before .before .args .k in
-    let h : j ≤ 40 = omega arith in
-    rw (shifted j h) (omega (arith, pow-bounds j h))
-
-nearest-quotient-requires : tie.Need-nearest-quotient-requires
-nearest-quotient-requires c κs =
-    let j = 149 - c .before .before .args .k in
-    let h : j ≤ 40 = omega arith in
-    rw (shifted j h) (omega (arith, pow-bounds j h))
+nearest-shift-requires : tie.Need-nearest-shift-requires
+nearest-shift-requires c κs = search needs
 
 -- the quotient is the one asked for, before the bound
-quotient : (c : tie.After-nearest-quotient) → let a = c .before .before .before .args in
-    c .nearest-quotient .result ≡ magnitudeOf (a .down) (1000 * (a .q * 2 ^ a .k)) (2 ^ 149)
+quotient : (c : tie.After-nearest-shift) → let a = c .before .before .before .args in
+    c .nearest-shift .result ≡ magnitudeOf (a .down) (1000 * (a .q * 2 ^ a .k)) (2 ^ 149)
 quotient c =
     let a = c .before .before .before .args in
-    let j = 149 - a .k in
-    let h : j ≤ 40 = omega arith in
-    (rw (shifted j h) at (c .nearest-quotient .ensures)) ∙ middle (a .down) (a .q) (a .k) j (c .before .before .before .pre .0) (omega arith)
+    c .nearest-shift .ensures ∙ middle (a .down) (a .q) (a .k) (149 - a .k) (c .before .before .before .pre .0) (omega arith)
 
 returns-3 : tie.Need-returns-3
 returns-3 c =
     let c4 = c .before .before .before .before in
     let a = c4 .args in (
-      min-low (c .before .nearest-quotient .result) (magnitudeOf (a .down) (1000 * (a .q * 2 ^ a .k)) (2 ^ 149)) crispLimit (quotient (c .before))
+      min-low (c .before .nearest-shift .result) (magnitudeOf (a .down) (1000 * (a .q * 2 ^ a .k)) (2 ^ 149)) crispLimit (quotient (c .before))
           (le-of-lt (c .if3 .taken)),
       le-of-lt (c .if3 .taken),
     )
@@ -72,7 +58,7 @@ returns-4 : tie.Need-returns-4
 returns-4 c =
     let c4 = c .before .before .before .before in
     let a = c4 .args in (
-      min-high (c .before .nearest-quotient .result) (magnitudeOf (a .down) (1000 * (a .q * 2 ^ a .k)) (2 ^ 149)) crispLimit (quotient (c .before))
+      min-high (c .before .nearest-shift .result) (magnitudeOf (a .down) (1000 * (a .q * 2 ^ a .k)) (2 ^ 149)) crispLimit (quotient (c .before))
           (c .if3 .left),
       lit≤ tt,
     )
@@ -84,11 +70,9 @@ magnitude-spec =
     returns
     sub-j
     returns-2
-    shl-d
-    mul-nearest-quotient
-    mul-nearest-quotient-2
-    sub-nearest-quotient
-    mul-nearest-quotient-3
-    nearest-quotient-requires
+    mul-nearest-shift
+    mul-nearest-shift-2
+    sub-nearest-shift
+    nearest-shift-requires
     returns-3
     returns-4)
