@@ -177,6 +177,8 @@ pub fn crisp(random: &mut Random, low: i64, high: i64) -> i64 {
         4 => 1000 * random.between(-100, 100),
         5 => random.between(-9, 9),
         6 => 100 * random.between(-90, 90),
+        // A figure this far from 0 may be worked out in another way.
+        7 => *random.pick(&[-500_000, 500_000]) + random.between(-2, 2),
         _ => random.between(-100_000, 100_000),
     };
     if (low..=high).contains(&value) {

@@ -42,6 +42,10 @@ enum Fault {
     EdgeRefusedByCheck,
     ThirdAtOnePositionPasses,
     FallBehindEdgePasses,
+    FigureFarBelowTooLow,
+    FigureAtLowBorderTooHigh,
+    FigureAtHighBorderTooHigh,
+    FigureCutToTwentyBits,
     NamesInTexts(NameFault),
     NamesInImages(NameFault),
 }
@@ -149,7 +153,14 @@ impl Faulty {
 
     fn answers(&self, answers: [Answer; 6]) -> [Answer; 6] {
         answers.map(|mut answer| {
+            let fired = (answer.mark == Mark::Fired).then_some(answer.thousandths);
             match self.0 {
+                Fault::FigureFarBelowTooLow if fired.is_some_and(|figure| figure < -500_000) => answer.thousandths -= 1,
+                Fault::FigureAtLowBorderTooHigh if fired == Some(-500_000) => answer.thousandths += 1,
+                Fault::FigureAtHighBorderTooHigh if fired == Some(500_000) => answer.thousandths += 1,
+                Fault::FigureCutToTwentyBits if fired.is_some_and(|figure| figure > 548_575) => {
+                    answer.thousandths = (answer.thousandths + 500_000) % (1 << 20) - 500_000;
+                }
                 Fault::HeldTakenAsFired if answer.mark == Mark::Held => answer.mark = Mark::Fired,
                 Fault::NegativeZero if answer.value == 0.0 => answer.value = -0.0,
                 _ => {}
@@ -335,6 +346,10 @@ fn every_fault_is_found() {
         Fault::EdgeRefusedByCheck,
         Fault::ThirdAtOnePositionPasses,
         Fault::FallBehindEdgePasses,
+        Fault::FigureFarBelowTooLow,
+        Fault::FigureAtLowBorderTooHigh,
+        Fault::FigureAtHighBorderTooHigh,
+        Fault::FigureCutToTwentyBits,
     ] {
         assert!(is_found(fault, &cases), "{fault:?}");
     }

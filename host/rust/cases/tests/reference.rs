@@ -1,11 +1,12 @@
 //! The reference by itself: every case gets an answer, what is listed reads back, buffers stay as they should,
-//! and the cases reach every refusal, every kind of sharp edge and names and keywords in all letters.
+//! and the cases reach every refusal, every kind of sharp edge, figures near and far, and names and keywords in all
+//! letters.
 use cases::block::Block;
 use cases::blocks::{KEYWORDS, UNUSED_KEYWORDS};
 use cases::calls::Call;
 use cases::random::Random;
 use cases::words::{any_case, is_same, Place, PLACES};
-use cases::{blocks, images, texts, words, Case, Reference, Refusal, Run};
+use cases::{blocks, images, texts, words, Case, Implementation, Mark, Reference, Refusal, Run};
 use std::collections::BTreeMap;
 use std::ops::Range;
 
@@ -102,6 +103,31 @@ fn edges_are_reached() {
     let [real, int] = readings;
     assert!(real[0] >= 80 && real[1] >= 300 && real[2] >= 80, "{real:?}");
     assert!(int[0] >= 20 && int[1] >= 150 && int[2] >= 20, "{int:?}");
+}
+
+/// Fired figures lie on both sides of what a quotient of twenty bits can be, and at its borders.
+#[test]
+fn figures_of_every_length_are_reached() {
+    let seed = Run::from_environment().seed;
+    let (mut lowest, mut low, mut near, mut high, mut highest) = (0, 0, 0, 0, 0);
+    for number in 0..12_000 {
+        let Case::Calls { image, calls } = Case::new(seed, number) else { continue };
+        let Ok(fresh) = reference::fresh(&image) else { continue };
+        for call in calls {
+            let answers = Reference.evaluate(&image, &call.readings, call.count, fresh).answers;
+            for answer in answers.iter().filter(|answer| answer.mark == Mark::Fired) {
+                match answer.thousandths {
+                    ..-500_001 => lowest += 1,
+                    -500_001..=-499_999 => low += 1,
+                    -499_998..=499_998 => near += 1,
+                    499_999..=500_001 => high += 1,
+                    _ => highest += 1,
+                }
+            }
+        }
+    }
+    let counts = [lowest, low, near, high, highest];
+    assert!(counts.into_iter().all(|count| count >= 50), "{counts:?}");
 }
 
 /// Blocks that break one rule have all that is refused by 7 about equal positions.
