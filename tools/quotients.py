@@ -14,7 +14,7 @@ ARCHIVE = "target/staticlib/libgrillenhelm.a"
 EXPORTED = "grillenhelm::grillenhelm_"
 FOR_TEXTS = {EXPORTED + name for name in ("read", "append", "finish", "list")}
 DAILY = "daily::evaluate_held"
-# Where an evaluation rounds: what does not reach these was not followed rightly.
+# Every evaluation runs these: where they are not reached, the calls were not followed rightly.
 REACHED = {"load::examine", "readings::real", "terms::on_line", "degrees::prod", "centre::centre_of"}
 
 
