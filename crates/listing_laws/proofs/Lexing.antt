@@ -40,12 +40,12 @@ Cuts w xs s = CutsTo w xs s (cut 0 s)
 
 -- ONE PIECE, AND THE REST
 module _ {v : List ℕ} {ys : List Item} {s : List ℕ} {zs : List Item} where
-  part : (w : List ℕ) (xs : List Item) → Cuts w xs (v ++ s) → CutsTo v ys s zs → CutsTo (w ++ v) (xs ++ ys) s zs
+  pub part : (w : List ℕ) (xs : List Item) → Cuts w xs (v ++ s) → CutsTo v ys s zs → CutsTo (w ++ v) (xs ++ ys) s zs
   part w xs a b = record {
     cuts = ap (cut 0) (append-assoc w v s) ∙ a .cuts ∙ ap (λ (l : List Item). xs ++ l) (b .cuts) ∙ sym (append-assoc xs ys zs);
   }
 
-  text : (w : String) (xs : List Item) → ((s : List ℕ) → cut 0 (bytes w ++ s) ≡ xs ++ cut 0 s) → CutsTo v ys s zs → CutsTo (bytes w ++ v) (xs ++ ys) s zs
+  pub text : (w : String) (xs : List Item) → ((s : List ℕ) → cut 0 (bytes w ++ s) ≡ xs ++ cut 0 s) → CutsTo v ys s zs → CutsTo (bytes w ++ v) (xs ++ ys) s zs
   text w xs e b = part (bytes w) xs (record { cuts = e (v ++ s) }) b
 
   -- a text that ends in an opening parenthesis
@@ -200,12 +200,12 @@ wrapped-cuts l k w xs s e f g = go (ltb l k) refl
         (last ")" (closing ∷ []) (λ s. refl))))
     go false q = rw q (f s e)
 
-operator-cuts : (o : Op) (s : List ℕ) → Cuts (operator o) (Items.operator o ∷ []) s
+pub operator-cuts : (o : Op) (s : List ℕ) → Cuts (operator o) (Items.operator o ∷ []) s
 unfolding cutting
 operator-cuts and s = record { cuts = refl }
 operator-cuts or s = record { cuts = refl }
 
-operator-ends : (o : Op) (v s : List ℕ) → starts isNameByte ((operator o ++ v) ++ s) ≡ false
+pub operator-ends : (o : Op) (v s : List ℕ) → starts isNameByte ((operator o ++ v) ++ s) ≡ false
 operator-ends and v s = refl
 operator-ends or v s = refl
 
@@ -239,12 +239,12 @@ module _ (f : ℕ → TermNames) (n : ℕ) (ok : Named f n) where
       go g false q = rw q (rw (append-assoc (conditionText f a) rest s) (g (rest ++ s)))
 
   -- where forms up to l stand bare
-  placed-cuts : (l : ℕ) (c : Condition) (s : List ℕ) → termsBelow n c ≡ true → starts isNameByte s ≡ false
+  pub placed-cuts : (l : ℕ) (c : Condition) (s : List ℕ) → termsBelow n c ≡ true → starts isNameByte s ≡ false
       → ((s : List ℕ) → starts isNameByte s ≡ false → Cuts (conditionText f c) (conditionItems f c) s)
       → Cuts (wrapped l (form c) (conditionText f c)) (within l (form c) (conditionItems f c)) s
   placed-cuts l c s h e k = wrapped-cuts l (form c) (conditionText f c) (conditionItems f c) s e k (λ s. condition-start c s h)
 
-  condition-cuts : (c : Condition) (s : List ℕ) → termsBelow n c ≡ true → starts isNameByte s ≡ false → Cuts (conditionText f c) (conditionItems f c) s
+  pub condition-cuts : (c : Condition) (s : List ℕ) → termsBelow n c ≡ true → starts isNameByte s ≡ false → Cuts (conditionText f c) (conditionItems f c) s
   unfolding cutting conditionText conditionItems termsBelow
   condition-cuts (term t) s h e =
       let o = ok t (ltb-true t n h) in

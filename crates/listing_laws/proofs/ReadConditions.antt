@@ -33,7 +33,7 @@ pair-read : {p q : Parse} {c d : Condition} → p ≡ q → c ≡ d → conditio
 pair-read e h = λ j. conditionRead (e j) (h j)
 
 -- FORMS
-bare : (c : Condition) → ltb 4 (form c) ≡ false
+pub bare : (c : Condition) → ltb 4 (form c) ≡ false
 unfolding form
 bare (term t) = refl
 bare (neg c) = go (eqb (form c) 0)
@@ -63,7 +63,7 @@ unfolding form
 neg-form c h = rw h
 
 module _ (f : ℕ → ℕ) (b : Block) (g : ℕ → TermNames) where
-  abbrev read : List Item → ℕ → Condition → ConditionRead
+  abbrev pub read : List Item → ℕ → Condition → ConditionRead
   read rest w c = conditionRead (at f rest b w) c
 
   word-at : (x : Item) (xs : List Item) (w : ℕ) → w < wordLimit → word (at f (x ∷ xs) b w) ≡ at f xs b (w + 1)
@@ -105,7 +105,7 @@ module _ (f : ℕ → ℕ) (b : Block) (g : ℕ → TermNames) where
     unfolding operand
     operand-plain xs w h = rw (is-head NOT f xs b w ∙ h)
 
-    operand-not : (xs : List Item) (w : ℕ) → w < wordLimit
+    pub operand-not : (xs : List Item) (w : ℕ) → w < wordLimit
         → operand inner (at f (keyword "NOT" ∷ xs) b w) ≡ negatedRead (plain inner (at f xs b (w + 1)))
     unfolding operand at kind
     operand-not xs w l = ap (λ (r : Parse). negatedRead (plain inner r)) (word-at (keyword "NOT") xs w l)
@@ -140,45 +140,45 @@ module _ (f : ℕ → ℕ) (b : Block) (g : ℕ → TermNames) where
     chain-reads xs w n x l h = h (suc (length (at f xs b w .rest))) (omega (arith, length-rest f xs b w))
 
   -- WHAT EACH LEVEL READS, where forms up to l stand bare
-  abbrev shown : ℕ → Condition → List Item
+  abbrev pub shown : ℕ → Condition → List Item
   shown l c = within l (form c) (conditionItems g c)
 
-  abbrev deep : ℕ → Condition → ℕ
+  abbrev pub deep : ℕ → Condition → ℕ
   deep l c = opened l (form c) (depth c)
 
-  abbrev op : ℕ → Parse → ConditionRead
+  abbrev pub op : ℕ → Parse → ConditionRead
   op d = operand (parenthesis d)
 
-  abbrev ands : ℕ → Parse → ConditionRead
+  abbrev pub ands : ℕ → Parse → ConditionRead
   ands d = chain (op d) AND and
 
-  abbrev POk : Condition → Type 0
+  abbrev pub POk : Condition → Type 0
   POk c = (d w : ℕ) (rest : List Item) → deep 1 c ≤ d → w + size c ≤ wordLimit
       → plain (parenthesis d) (at f (shown 1 c ++ rest) b w) ≡ read rest (w + size c) c
 
-  abbrev NOk : Condition → Type 0
+  abbrev pub NOk : Condition → Type 0
   NOk c = (d w : ℕ) (rest : List Item) → deep 2 c ≤ d → w + size c ≤ wordLimit
       → op d (at f (shown 2 c ++ rest) b w) ≡ read rest (w + size c) c
 
   -- a chain goes on from x as it goes on from c
-  abbrev AOk : Condition → Type 0
+  abbrev pub AOk : Condition → Type 0
   AOk c = (d w j : ℕ) (rest : List Item) (x : ConditionRead) → deep 3 c ≤ d → w + size c ≤ wordLimit
       → ((n : ℕ) → j ≤ n → chainOn n (op d) AND and (read rest (w + size c) c) ≡ x)
       → (n : ℕ) → j + length (shown 3 c) ≤ n → chainOn n (op d) AND and (op d (at f (shown 3 c ++ rest) b w)) ≡ x
 
-  abbrev OOk : Condition → Type 0
+  abbrev pub OOk : Condition → Type 0
   OOk c = (d w j : ℕ) (rest : List Item) (x : ConditionRead) → eqb (headKind rest) AND ≡ false → deep 4 c ≤ d → w + size c ≤ wordLimit
       → ((n : ℕ) → j ≤ n → chainOn n (ands d) OR or (read rest (w + size c) c) ≡ x)
       → (n : ℕ) → j + length (shown 4 c) ≤ n → chainOn n (ands d) OR or (ands d (at f (shown 4 c ++ rest) b w)) ≡ x
 
-  record Ok (c : Condition) : Type 0 where
-    pOk : POk c
-    nOk : NOk c
-    aOk : AOk c
-    oOk : OOk c
+  pub record Ok (c : Condition) : Type 0 where
+    pub pOk : POk c
+    pub nOk : NOk c
+    pub aOk : AOk c
+    pub oOk : OOk c
 
   -- a whole condition
-  abbrev COk : Condition → Type 0
+  abbrev pub COk : Condition → Type 0
   COk c = (d w : ℕ) (rest : List Item) → eqb (headKind rest) AND ≡ false → eqb (headKind rest) OR ≡ false → depth c ≤ d → w + size c ≤ wordLimit
       → conditionWith (parenthesis d) (at f (conditionItems g c ++ rest) b w) ≡ read rest (w + size c) c
 
@@ -199,7 +199,7 @@ module _ (f : ℕ → ℕ) (b : Block) (g : ℕ → TermNames) where
       ap (λ (l : List Item). chainOn n (ands d) OR or (ands d (at f (l ++ rest) b w))) e
       ∙ ap (chainOn n (ands d) OR or) (and-read c a d w rest t (omega arith) hw) ∙ go n (omega arith)
 
-  whole : (c : Condition) → OOk c → COk c
+  pub whole : (c : Condition) → OOk c → COk c
   unfolding conditionWith
   whole c o d w rest u v hd hw =
       let x = read rest (w + size c) c in
@@ -214,7 +214,7 @@ module _ (f : ℕ → ℕ) (b : Block) (g : ℕ → TermNames) where
     in-parentheses : shown l c ≡ opening ∷ (conditionItems g c ++ (closing ∷ []))
     in-parentheses = rw loose
 
-    paren-read : (d w : ℕ) (rest : List Item) → deep l c ≤ d → w + size c ≤ wordLimit
+    pub paren-read : (d w : ℕ) (rest : List Item) → deep l c ≤ d → w + size c ≤ wordLimit
         → plain (parenthesis d) (at f (shown l c ++ rest) b w) ≡ read rest (w + size c) c
     paren-read zero w rest hd hw = let e : deep l c ≡ suc (depth c) = rw loose in absurd (omega arith)
     paren-read (suc d) w rest hd hw =
@@ -339,7 +339,7 @@ module _ (f : ℕ → ℕ) (b : Block) (g : ℕ → TermNames) where
 
   -- ALL FORMS
   module _ (m : ℕ) (named : (t : ℕ) → t < m → Named b (g t) t) where
-    all-ok : (c : Condition) → termsBelow m c ≡ true → Ok c
+    pub all-ok : (c : Condition) → termsBelow m c ≡ true → Ok c
     unfolding termsBelow
     all-ok (term t) h = ok-term t (named t (ltb-true t m h))
     all-ok (neg (term t)) h = ok-not-term t (named t (ltb-true t m h))
