@@ -101,7 +101,8 @@ def calls(blocks):
             readings = call["readings"]
             parts = [word(len(readings))] + [reading(r) for r in readings + [None] * (8 - len(readings))]
             data.append(with_length(b"".join(parts + [word(x) for x in call["held"]])))
-            lines.append(outcome(call))
+            # the call by value, then the call for daily use
+            lines += [outcome(call)] * 2
         # an empty case behind the calls
         data.append(with_length(b""))
     write("call_vectors", data, lines)

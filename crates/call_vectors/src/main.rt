@@ -1,4 +1,5 @@
-// Runs the calls of data/calls and writes a line for the fresh record of each image and one for each call.
+// Runs the calls of data/calls, each by value and for daily use, and writes a line for the fresh record of each image and
+// two for each call.
 ghost use Prim.Native.Nat.{_≤_};
 use model::Crisp;
 use model::Held;
@@ -75,8 +76,8 @@ fn run_words(img: &[u8], call: &[u8]) {
     let n = word(call, 0);
     let readings = readings_of(call);
     let held = held_of(call);
-    let e = evaluation::evaluate(img, readings, n, held);
-    write_evaluation(e);
+    write_evaluation(evaluation::evaluate(img, readings, n, held));
+    write_evaluation(daily::evaluate_lending(img, readings, n, held));
 }
 
 // False behind the last call, which an empty case marks.

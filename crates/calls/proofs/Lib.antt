@@ -6,3 +6,5 @@ pub mod Low
 pub mod Steps
 pub mod Claim
 pub mod Contracts
+pub mod Traces
+pub mod Texts

@@ -1,6 +1,7 @@
 // Evaluation for daily use: the host lends one held record and finds it brought up to date.
 ghost use Rattle.model.specs.Evaluation.{evaluate, Tells, leaving};
 use evaluation::evaluate;
+use model::Evaluation;
 use model::Held;
 use model::Reading;
 use model::Reply;
@@ -15,5 +16,23 @@ pub fn evaluate_held(img: &[u8], rs: [Reading; bounds::INPUTS], n: usize, held: 
     Reply {
         verdict: e.verdict,
         answers: e.answers,
+    }
+}
+
+// The same on a copy that is lent here: for callers that hold the record by value.
+pub fn evaluate_lending(
+    img: &[u8],
+    rs: [Reading; bounds::INPUTS],
+    n: usize,
+    before: Held,
+) -> Evaluation
+    ensures { λ r. ⌜ Tells r before (evaluate (now (img .entry)) rs n before) ⌝ }
+{
+    let mut held = before;
+    let reply = evaluate_held(img, rs, n, &mut held);
+    Evaluation {
+        verdict: reply.verdict,
+        answers: reply.answers,
+        held: held,
     }
 }

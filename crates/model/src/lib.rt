@@ -1,6 +1,7 @@
 // Document 01: the types that all layers share. What they mean is defined in specs/.
 
 // A crisp value, in thousandths.
+#[repr(C)]
 pub struct Crisp(pub i32);
 
 // A degree, in millionths.
@@ -62,7 +63,8 @@ pub struct Answer {
     pub value: f64,
 }
 
-// The held record: a figure for each output, 0 in the places past the last.
+// The held record: a figure for each output, 0 in the places past the last. Hosts lend it.
+#[repr(C)]
 pub struct Held {
     pub figures: [Crisp; 6],
 }

@@ -23,14 +23,14 @@ use types.Run.{no-more, assigns, land, returns, enter, alloc1, alloc0, params1, 
 use types.Part.{agg, whole, sub, look-in}
 use types.SemTy.{Body}
 use sound.WpLaws.{FmC, fmOf, WpFn-mono}
-use denote.Array.{Array, array-vals, array-tells, array-typed, array-makes}
+use denote.Array.{array-vals, array-tells, array-typed}
 use denote.Builtin.{u8, usize}
 use denote.Enum.Laws as EL
 use denote.Exit.{yes}
-use denote.Laws.{Is, Makes, shows}
+use denote.Laws.{Is, shows}
 use denote.Memory.{mem}
 use denote.Plain.{uint-vals, uint-tells, uint-lawful, uint-makes}
-use denote.RattleType.{RattleType, owns}
+use denote.RattleType.{owns}
 use denote.Ref.{RefT, MutRef, now, ptr-vals, mut-tells}
 use denote.Signature.{plain}
 use denote.Slice.{sliceVal, ShrSlice, slice-vals, shr-slice-tells, shr-slice-lawful, shr-slice-copy}
@@ -63,13 +63,11 @@ use Rattle.evaluation.proofs.evaluate as eval
 use Rattle.evaluation.proofs.evaluate.Symbol as eval-def
 use Rattle.evaluation.proofs.evaluate.Symbol.{name as #evaluation·evaluate}
 use Rattle.evaluation.proofs.evaluate.Met as eval-thm
+use Rattle.daily.proofs.Rows.{Readings, held-vals, reply-val, readings-made, held-made, reply-made}
 use Rattle.daily.proofs.evaluate_held.Key.{name as #daily·evaluate-held}
 use Rattle.daily.proofs.evaluate_held as f
 use Rattle.daily.proofs.evaluate_held.Statement as stated
 use Rattle.daily.proofs.evaluate_held.Code as code
-
-abbrev Readings : RattleType
-Readings = Array R.the-row 8
 
 abbrev Arg : Type 0
 Arg = RefT (List ℕ) × (List Reading × (ℕ × (RefT Held × Unit {0})))
@@ -79,13 +77,6 @@ stayed = (
   stay-none-slice (0 ∷ []) tt (plain (λ _. u8)) yes,
   (stay-none (λ _. Readings) yes, (stay-none (λ _. usize) yes, (stay-ref (1 ∷ []) tt (plain (λ _. K.the-row)), tt))),
 )
-
--- the machine values of a record and of an answer
-abbrev held-vals : Held → List Val
-held-vals = LL.vals K.the-type K′.the-laws
-
-abbrev reply-val : Reply → Val
-reply-val = LL.val Y.the-type Y′.the-laws
 
 abbrev reply : Evaluation → Reply
 reply e = record { verdict = e .verdict; answers = e .answers }
@@ -103,17 +94,6 @@ module _ {M : Type 1} (𝓤 : URA M) (H : Heap 𝓤) (A : Atoms 𝓤) (at-mem : 
   -- the contract that the proof cites
   abbrev Eval : Contract 𝓤
   Eval = tripleOf 𝓤 H A eval.signature (eval.spec 𝓤 H A at-mem run)
-
-module _ {M : Type 1} (𝓤 : URA M) (H : Heap 𝓤) (A : Atoms 𝓤) (W : Given 𝓤 H A) where
-  -- what owns only facts is had from its relation
-  readings-made : Makes 𝓤 H A Readings (Is Readings)
-  readings-made = array-makes 𝓤 H A W R.the-row (EL.makes R.the-type R′.the-plain 𝓤 H A) 8
-
-  held-made : Makes 𝓤 H A K.the-row (Is K.the-row)
-  held-made = LL.makes K.the-type K′.the-plain 𝓤 H A
-
-  reply-made : Makes 𝓤 H A Y.the-row (Is Y.the-row)
-  reply-made = LL.makes Y.the-type Y′.the-plain 𝓤 H A
 
 module _ {M : Type 1} (𝓤 : URA M) (H : Heap 𝓤) (A : Atoms 𝓤) (W : Given 𝓤 H A) (at-mem : Memory → SProp 𝓤) (run : Routine → Fun 𝓤) (κ κ′ : Lft)
     (q q′ : Share) (s : RefT (List ℕ)) (rs : List Reading) (rv : Val) (n b o : ℕ) (γ : GName) (h : Held) where

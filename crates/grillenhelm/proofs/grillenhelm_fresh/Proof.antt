@@ -1,7 +1,6 @@
-use mathlib.Core.Path.{ap, _∙_}
-use Rattle.model.specs.Evaluation.{figuresOf, fresh}
-use Rattle.grillenhelm.specs.Crossing.{bareOutcome}
-use Rattle.grillenhelm.proofs.Laws.{told-then}
+use mathlib.Core.Path.{_∙_}
+use Rattle.model.specs.Evaluation.{fresh}
+use Rattle.crossing.proofs.Laws.{crossed-fresh}
 use borrow.Author.Needs.{needs}
 use Rattle.grillenhelm.proofs.grillenhelm_fresh.Statement.{statement}
 use Rattle.grillenhelm.proofs.grillenhelm_fresh.Tie as tie
@@ -9,21 +8,14 @@ use Rattle.grillenhelm.proofs.grillenhelm_fresh.Tie as tie
 fresh-of-requires : tie.Need-fresh-of-requires
 fresh-of-requires c κs = search needs
 
-figures-of-requires : tie.Need-figures-of-requires
-figures-of-requires c κs = search needs
-
-verdict-requires : tie.Need-verdict-requires
-verdict-requires c κs = search needs
+fresh-of-requires-2 : tie.Need-fresh-of-requires-2
+fresh-of-requires-2 c κs = search needs
 
 returns : tie.Need-returns
 returns c =
-    let f = c .before .before .before in
-    let o = fresh (f .before .before .args .image .now) in
-    λ j. record {
-      outcome = (c .verdict .ensures ∙ ap bareOutcome (f .fresh-of .ensures .0) ∙ told-then (λ u. 0) (λ h. tt) o) j;
-      held = record { figures = (c .before .figures-of .ensures ∙ ap figuresOf (f .fresh-of .ensures .1)) j };
-    }
+    let f = c .before .fresh-of in
+    let o = fresh (c .before .before .before .args .image .now) in
+    c .fresh-of2 .ensures ∙ crossed-fresh (f .result) o (f .ensures .0) (f .ensures .1)
 
 pub grillenhelm-fresh-spec : {M : Type 1} → statement M
-grillenhelm-fresh-spec =
-    tie.close (tie.spec fresh-of-requires figures-of-requires verdict-requires returns)
+grillenhelm-fresh-spec = tie.close (tie.spec fresh-of-requires fresh-of-requires-2 returns)

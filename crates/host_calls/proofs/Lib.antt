@@ -1,0 +1,4 @@
+pub mod Texts
+pub mod Claim
+pub mod Contracts
+pub mod Examples
