@@ -2,7 +2,11 @@
 // refusals, images, figures and answers are written. The files, and the lines to expect, are made by tools/vectors.py
 // from vectors worked out elsewhere.
 ghost use mathlib.Core.Path.{_≡_};
-ghost use lib.ListN.{length};
+ghost use mathlib.Core.Bool.{not};
+ghost use lib.Dec.{eqb};
+ghost use lib.ListN.{length, drop, replicate};
+ghost use Rattle.model.specs.Basic.{all};
+ghost use Rattle.vectors.specs.Case.{Came};
 use model::Answer;
 use model::Crisp;
 use model::Evaluation;
@@ -13,31 +17,38 @@ use model::Refusal;
 use model::Verdict;
 use model::Written;
 
-// More bytes than any case has.
-pub const END: usize = 1000000;
-
 // What a buffer is filled with before it is lent.
 pub const FILL: u8 = 165;
 
-// How many bytes the next case has, which are read to the start of buf: a word says it, then they follow. END at the
-// end of the file, and where buf has no room for them.
-pub fn next_case(fd: i32, buf: &mut [u8]) -> usize {
+// The bytes of a case at the start of a buffer, or that no case is left for it.
+pub enum Case {
+    End,
+    Bytes(usize),
+}
+
+// The next case of a file, read to the start of buf: a word says how many bytes it has, then they follow. No case is
+// left at the end of the file, and where buf has no room for it.
+pub fn next_case(fd: i32, buf: &mut [u8]) -> Case
+    ensures { λ r. ⌜ Came (now (buf .exit)) r ⌝ }
+{
     let mut head = [0u8; 4];
     if io::read_full(fd, &mut head) != 4 {
-        return END;
+        return Case::End;
     }
     let n = words::word(&head, 0);
     if n > buf.len() {
-        return END;
+        return Case::End;
     }
     if io::read_full(fd, &mut buf[..n]) != n {
-        return END;
+        return Case::End;
     }
-    n
+    Case::Bytes(n)
 }
 
 // Whether a byte from k on is another than the buffer was filled with.
-fn is_changed(buf: &[u8], k: usize) -> bool {
+fn is_changed(buf: &[u8], k: usize) -> bool
+    ensures { λ r. ⌜ r ≡ not (all (eqb 165) (drop k (now (buf .entry)))) ⌝ }
+{
     let mut i = k;
     while i < buf.len() {
         if buf[i] != FILL {
@@ -81,6 +92,7 @@ pub fn write_verdict(v: Verdict) {
 // A buffer that holds every image.
 pub fn image_buffer() -> [u8; 16384]
     ensures { λ r. ⌜ 16384 ≡ length r ⌝ }
+    ensures filled { λ r. ⌜ r ≡ replicate 16384 165 ⌝ }
 {
     [FILL; 16384]
 }

@@ -103,7 +103,7 @@ fn run_image(fd: i32, img: &[u8]) {
 }
 
 // An image and its calls. False at the end of the file.
-fn run_case(fd: i32) -> bool {
+pub fn run_case(fd: i32) -> bool {
     let mut img = io::large_buffer();
     let n = next_case(fd, &mut img);
     if n > 65536 {
@@ -111,16 +111,4 @@ fn run_case(fd: i32) -> bool {
     }
     run_image(fd, &img[..n]);
     true
-}
-
-fn main() {
-    let fd = os::open_read(b"calls");
-    if fd < 0 {
-        return;
-    }
-    let mut i = 0u32;
-    while i < 100000 && run_case(fd) {
-        i += 1;
-    }
-    libc::close(fd);
 }

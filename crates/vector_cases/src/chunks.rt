@@ -71,7 +71,7 @@ fn run_calls(text: &[u8], calls: &[u8]) {
 }
 
 // A text and the calls on it. False at the end of the file.
-fn run_case(fd: i32) -> bool {
+pub fn run_case(fd: i32) -> bool {
     let mut text = text_buffer();
     let n = next_case(fd, &mut text);
     if n > 80000 {
@@ -84,16 +84,4 @@ fn run_case(fd: i32) -> bool {
     }
     run_calls(&text[..n], &calls[..m]);
     true
-}
-
-fn main() {
-    let fd = os::open_read(b"chunks");
-    if fd < 0 {
-        return;
-    }
-    let mut i = 0u32;
-    while i < 100000 && run_case(fd) {
-        i += 1;
-    }
-    libc::close(fd);
 }

@@ -56,7 +56,7 @@ fn run_image(img: &[u8]) {
 }
 
 // False at the end of the file.
-fn run_case(fd: i32) -> bool {
+pub fn run_case(fd: i32) -> bool {
     let mut img = io::large_buffer();
     let n = next_case(fd, &mut img);
     if n > 65536 {
@@ -64,16 +64,4 @@ fn run_case(fd: i32) -> bool {
     }
     run_image(&img[..n]);
     true
-}
-
-fn main() {
-    let fd = os::open_read(b"images");
-    if fd < 0 {
-        return;
-    }
-    let mut i = 0u32;
-    while i < 100000 && run_case(fd) {
-        i += 1;
-    }
-    libc::close(fd);
 }
