@@ -5,14 +5,21 @@ use mathlib.Core.Path.{_≡_, refl}
 use Prim.Native.Nat.{ℕ}
 use Prim.Native.String.{String}
 use lib.IntN.{pos}
 use Rattle.model.specs.Basic.{bytes}
-use Rattle.model.specs.Block.{Input, Output, Pair, Accumulation, Activation, Block, Condition, and, or, term, neg, two, real, int, min-max, prod-asum, bdif-bsum, by-max, by-bsum, by-min, by-prod}
+use Rattle.model.specs.Block.{Input, Output, Block, Condition, and, or, term, neg, two}
+use Rattle.model.specs.declared.Pair.{Pair}
+use Rattle.model.specs.declared.Pair.the-variants.{MinMax as min-max, ProdAsum as prod-asum, BdifBsum as bdif-bsum}
+use Rattle.model.specs.declared.Accumulation.{Accumulation}
+use Rattle.model.specs.declared.Accumulation.the-variants.{Max as by-max, Bsum as by-bsum}
+use Rattle.model.specs.declared.Activation.{Activation}
+use Rattle.model.specs.declared.Activation.the-variants.{Min as by-min, Prod as by-prod}
+use Rattle.model.specs.declared.InputType.the-variants.{Real as real, Int as int}
 use Rattle.model.specs.Outcome.{Outcome, accepted, refused}
 use Rattle.model.specs.Reader.{reads}
 use Rattle.model.specs.Parentheses.{depth}
 use Rattle.model.specs.Listing.{inputTermName, conditionText}
 use Rattle.model.proofs.Opened.{opened}
 use Rattle.model.proofs.Texts.{opening, fuzzified, defuzzified, ruled, ended, ruleEnded, oneRule, sevenTerms, times, acceptedAll, trueAll}
 
 -- a text whose DEFUZZIFY has this in it, before and after METHOD
 abbrev figures : String → String → List ℕ

@@ -1,0 +1,11 @@
+pub mod Refused
+pub mod Accepted
+pub mod Limits
+pub mod Crane
+pub mod Blocks
+pub mod Images
+pub mod Listings
+pub mod Edges
+pub mod Case
+pub mod Calls
+pub mod Vectors

@@ -1,0 +1,1 @@
+// Computed examples of the definitions that take long: whole texts, blocks and images, and lists of calls. Proofs only.
