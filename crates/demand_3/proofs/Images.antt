@@ -11,12 +11,13 @@ use Rattle.model.specs.Image.{image, loads}
 use Rattle.model.specs.Buffers.{readsTo}
 use Rattle.model.specs.Evaluation.{heldOf, noAnswer, leaving, starting, fresh, recordIn}
 use Rattle.model.specs.declared.Held.{Held}
-use Rattle.model.specs.declared.Refusal.the-variants.{ImageNotAccepted, WrongCount}
+use Rattle.model.specs.declared.Mark.the-variants.{Fired}
+use Rattle.model.specs.declared.Refusal.the-variants.{ImageNotAccepted, WrongReading}
 use Rattle.model.specs.declared.Reply.{Reply}
 use Rattle.model.proofs.Example.{trust}
 use Rattle.demand_3.specs.Calls.{Made, evaluated, daily, Trace, CallsHold, Demand3}
 use Rattle.demand_3.proofs.Opened.{opened}
-use Rattle.demand_3.proofs.Calls.{calling, given, notGiven}
+use Rattle.demand_3.proofs.Calls.{calling, whole, answer, given, notGiven}
 use Rattle.demand_3.proofs.Broken.{refusalNumber, figureNumber}
 
 -- THE IMAGE: the worked example's has a text that reads to it, no bytes at all have none
@@ -51,11 +52,29 @@ accepted-not-traced : (h : Held) → Trace [] h (valued notLoaded h ∷ lent (gi
 unfolding opened
 accepted-not-traced h t = let z : _≡_ {A = ℕ} 0 11 = ap (λ (o : Outcome (Unit {0})). refusalNumber o) (t .1 .0 .verdict) in omega (arith, z)
 
--- the second call gets the record that the first left
 moved-not-traced : Trace [] (heldOf (pos 1 ∷ [])) (valued notLoaded (heldOf (pos 2 ∷ [])) ∷ []) → ⊥
 unfolding opened
 moved-not-traced t = let z : _≡_ {A = ℕ} 2 1 = ap (λ (g : Held). figureNumber 0 g) (t .0 .held) in omega (arith, z)
 
-handed-on : (h g : Held) → Trace [] h (valued notLoaded h ∷ lent notLoaded g ∷ []) → g ≡ h
+-- on the worked example's image: sharp 30 answers 25 and leaves it; a call without readings, refused, has to leave it too
+abbrev graded : Held → Made
+graded h = daily (calling (whole (pos 30) ∷ []) 1) (given (answer Fired (pos 25000) 1000000 0x4039000000000000) noAnswer) h
+
+abbrev unread : Held → Made
+unread h = daily (calling [] 1) (notGiven (WrongReading 0)) h
+
+abbrev of25 : Held
+of25 = heldOf (pos 25000 ∷ [])
+
+handed-on : Trace (image trust) (heldOf []) (graded of25 ∷ unread of25 ∷ [])
 unfolding opened
-handed-on h g t = t .1 .0 .held
+handed-on = (record { verdict = refl; answers = refl; held = refl }, (record { verdict = refl; answers = refl; held = refl }, tt))
+
+lost-not-traced : Trace (image trust) (heldOf []) (graded of25 ∷ unread (heldOf []) ∷ []) → ⊥
+unfolding opened
+lost-not-traced t = let z : _≡_ {A = ℕ} 0 25000 = ap (λ (g : Held). figureNumber 0 g) (t .1 .0 .held) in omega (arith, z)
+
+-- a record that is refused by 13 stays so, whatever record the call leaves
+wrong-record-not-traced : Trace (image trust) (heldOf (pos 1000000001 ∷ [])) (graded of25 ∷ []) → ⊥
+unfolding opened
+wrong-record-not-traced t = let z : _≡_ {A = ℕ} 0 13 = ap (λ (o : Outcome (Unit {0})). refusalNumber o) (t .0 .verdict) in omega (arith, z)

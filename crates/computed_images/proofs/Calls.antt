@@ -1,13 +1,11 @@
--- Calls on a stored image: the block of `demand_3/proofs/Calls` from its text, its fresh record and its list of calls; the
--- order of the checks, and held records that are right and wrong.
-use mathlib.Core.List.{List, [], _∷_, _++_, map}
+-- Calls on a stored image, that of the block of `demand_3/proofs/Calls`: its fresh record and its list of calls; the order
+-- of the checks, and held records that are right and wrong.
+use mathlib.Core.List.{List, [], _∷_, map}
 use mathlib.Core.Option.{none, some}
 use mathlib.Core.Path.{_≡_, refl}
 use Prim.Native.Nat.{ℕ}
 use lib.IntN.{ℤ, pos, negsuc}
-use Rattle.model.specs.Basic.{bytes}
 use Rattle.model.specs.Outcome.{Outcome, accepted, refused}
-use Rattle.model.specs.Reader.{reads}
 use Rattle.model.specs.Image.{image}
 use Rattle.model.specs.Evaluation.{heldOf, CallResult, evaluate, fresh, recordIn}
 use Rattle.model.specs.declared.Reading.{Reading}
@@ -16,19 +14,6 @@ use Rattle.model.proofs.Opened.{opened}
 use Rattle.model.proofs.Example.{trust}
 use Rattle.demand_3.specs.Calls.{Trace}
 use Rattle.demand_3.proofs.Calls.{block, whole, list}
-
-abbrev text : List ℕ
-text =
-    bytes "FUNCTION_BLOCK f VAR_INPUT a: REAL; n: INT; END_VAR VAR_OUTPUT y, z: REAL; END_VAR"
-    ++ (bytes " FUZZIFY a TERM t := (0,0),(1,1); END_FUZZIFY FUZZIFY n TERM v := (-1,0),(1,0.5),(2,1),(3,0); END_FUZZIFY"
-    ++ (bytes " DEFUZZIFY y RANGE(10..20); TERM k := 10; TERM m := 20; METHOD : CoGS; DEFAULT := NC; END_DEFUZZIFY"
-    ++ (bytes " DEFUZZIFY z RANGE(-5..-2); TERM k := -4.5; METHOD : CoGS; DEFAULT := -3; END_DEFUZZIFY"
-    ++ (bytes " RULEBLOCK r AND : PROD; ACCU : BSUM; RULE 1: IF a IS t AND n IS v THEN y IS m, z IS k WITH 0.5;"
-    ++ bytes " RULE 2: IF n IS v THEN y IS k, y IS k; END_RULEBLOCK END_FUNCTION_BLOCK"))))
-
-block-reads : reads text ≡ accepted block
-unfolding opened
-block-reads = refl
 
 abbrev stored : List ℕ
 stored = image block
