@@ -16,7 +16,7 @@ use Rattle.model.specs.declared.Held.{Held}
 use Rattle.laws.proofs.Each.{Each, each-so, each-append, each-always}
 use Rattle.image_laws.proofs.Loads.{loads-iff}
 use Rattle.round_trip.proofs.RoundTrip.{passes-iff}
-use Rattle.model.specs.Calls.{rightCall, ruling, given, inputDegrees, figuresAfter, defined, degreesIn, Made, callOf, resultOf, Link, Trace, recordAfter, acceptedIn, lastFigures, Seen, outputsSeen, seen, CallsHold, Demand3}
+use Rattle.demand_3.specs.Calls.{rightCall, ruling, given, inputDegrees, figuresAfter, defined, degreesIn, Made, callOf, resultOf, Link, Trace, recordAfter, acceptedIn, lastFigures, Seen, outputsSeen, seen, CallsHold, Demand3}
 use Rattle.calls.proofs.Outputs.{Good, Fit, starting-fit}
 use Rattle.calls.proofs.Low.{outputs-ok, block-low, call-low}
 use Rattle.calls.proofs.Steps.{step}

@@ -32,7 +32,7 @@ use Rattle.load.proofs.check as load-check
 use Rattle.evaluation.proofs.fresh_of as fresh-of
 use Rattle.evaluation.proofs.evaluate as evaluate-by-value
 use Rattle.daily.proofs.evaluate_held as evaluate-held
-use Rattle.model.specs.Calls.{evaluated, daily, Link}
+use Rattle.demand_3.specs.Calls.{evaluated, daily, Link}
 
 module _ {M : Type 1} (𝓤 : URA M) (H : Heap 𝓤) (A : Atoms 𝓤) (at-mem : Memory → SProp 𝓤) (run : Routine → Fun 𝓤) (κ : Lft) where
   abbrev Asks-nothing : SProp 𝓤 → Type 2

@@ -22,7 +22,7 @@ use Rattle.laws.proofs.Tests.{both, passed}
 use Rattle.degrees.proofs.Laws.{prod-fits, pair-degree, accumulated-degree}
 use Rattle.crisp.specs.Crisp.{InCrisp}
 use Rattle.terms.proofs.Degree.{term-le}
-use Rattle.model.specs.Calls.{parts, degreesOf, degreesIn, outputTermPlaces}
+use Rattle.demand_3.specs.Calls.{parts, degreesOf, degreesIn, outputTermPlaces}
 
 abbrev Low : ℕ → Type 0
 Low d = d ≤ M

@@ -27,7 +27,7 @@ use Rattle.laws.proofs.Each.{Each, each-passes, each-so}
 use Rattle.laws.proofs.Tests.{both, and-i, passed, clash}
 use Rattle.laws.proofs.Places.{length-tab}
 use Rattle.crisp.specs.Crisp.{InCrisp}
-use Rattle.model.specs.Calls.{Seen, outputsSeen, markOf, figureOf, raised, raisedIn, Between, isMarked}
+use Rattle.demand_3.specs.Calls.{Seen, outputsSeen, markOf, figureOf, raised, raisedIn, Between, isMarked}
 use Rattle.calls.proofs.Raised as R
 
 -- ONE OUTPUT

@@ -22,7 +22,7 @@ use Rattle.laws.proofs.Tests.{both, and-i, clash}
 use Rattle.crisp.specs.Crisp.{InCrisp}
 use Rattle.crisp.proofs.Laws.{not-at-most, bounds}
 use Rattle.centre.proofs.Between.{from-low, to-high}
-use Rattle.model.specs.Calls.{raised, foremost, lowest, highest, Between}
+use Rattle.demand_3.specs.Calls.{raised, foremost, lowest, highest, Between}
 
 -- THE ORDER
 le-trans : (a b c : ℤ) → leZ a b ≡ true → leZ b c ≡ true → leZ a c ≡ true

@@ -14,7 +14,7 @@ use Rattle.model.specs.Refusals.{verdictOf}
 use Rattle.model.specs.Image.{loads}
 use Rattle.model.specs.Evaluation.{blockAnswers, noAnswer, padded, heldOf, figuresOf, heldOk, valuesOf, CallResult, callResult, evaluateBlock, evaluate, Tells, freshOf, fresh, recordIn}
 use Rattle.model.specs.declared.Held.{Held}
-use Rattle.model.specs.Calls.{Call, ruling, given, answersOf, Made, callOf, resultOf, Trace, recordAfter}
+use Rattle.demand_3.specs.Calls.{Call, ruling, given, answersOf, Made, callOf, resultOf, Trace, recordAfter}
 use Rattle.laws.proofs.Tests.{clash}
 
 -- ANY RECORD on an accepted image: an answer by that record where it passes, else 13 where the number is right

@@ -17,7 +17,7 @@ use Rattle.model.specs.declared.InputType.{InputType}
 use Rattle.model.specs.declared.InputType.the-variants.{Real as real, Int as int}
 use Rattle.model.specs.declared.Reading.{Reading}
 use Rattle.model.specs.declared.Reading.the-variants.{Real, Int, Absent}
-use Rattle.model.specs.Calls.{Call, fits, allFit, rightCall, ruling, isAccepted}
+use Rattle.demand_3.specs.Calls.{Call, fits, allFit, rightCall, ruling, isAccepted}
 
 abbrev isSome : Option ℤ → Bool
 isSome none = false

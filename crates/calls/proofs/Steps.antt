@@ -16,7 +16,7 @@ use Rattle.model.specs.WellFormed.{wellFormed}
 use Rattle.model.specs.Evaluation.{blockAnswers, noAnswer, padded, figures, heldOf, figuresOf, CallResult, callResult, evaluate, Tells}
 use Rattle.model.specs.declared.Answer.{Answer}
 use Rattle.laws.proofs.Each.{Each}
-use Rattle.model.specs.Calls.{Call, rightCall, ruling, inputDegrees, answersOf, figuresAfter, answered, Made, callOf, resultOf, Link, isAccepted, acceptedIn, lastFigures, Seen, outputsSeen}
+use Rattle.demand_3.specs.Calls.{Call, rightCall, ruling, inputDegrees, answersOf, figuresAfter, answered, Made, callOf, resultOf, Link, isAccepted, acceptedIn, lastFigures, Seen, outputsSeen}
 use Rattle.calls.proofs.Right.{ruling-right}
 use Rattle.calls.proofs.Records.{outcomeBy, on-record}
 use Rattle.calls.proofs.Outputs.{Good, Fit, all-told, past-outputs, count-answers, figures-back, held-fits}

@@ -1,5 +1,5 @@
--- Names and keywords without case: the bytes that have one, words that are alike, keywords, and texts and images with
--- names and keywords in any case.
+-- Names and keywords without case: the bytes that have one, words that are alike, keywords, and a text with names and
+-- keywords in any case.
 use mathlib.Core.Bool.{true, false}
 use mathlib.Core.List.{List, [], _∷_, _++_, map}
 use mathlib.Core.Option.{none}
@@ -12,14 +12,13 @@ use Rattle.model.specs.Keywords
 use Rattle.model.specs.Keywords.{keywords, NAME}
 use Rattle.model.specs.Tokens.{sameName, isName, wordKind}
 use Rattle.model.specs.Block.{Block, real, term, neg, min-max, by-min, by-max}
-use Rattle.model.specs.Outcome.{accepted, refused}
+use Rattle.model.specs.Outcome.{accepted}
 use Rattle.model.specs.Reader.{reads}
-use Rattle.model.specs.Image.{image, loads}
 use Rattle.model.specs.Listing.{listing}
 use Rattle.model.specs.Case.{inCapitals}
 use Rattle.model.proofs.Opened.{opened}
-use Rattle.model.proofs.Texts.{opening, declared, fuzzified, defuzzified, ruled, ruleEnded, oneRule, Cut, behind, answers, refusedBy, trueAll, falseAll, acceptedAll, numbersFrom}
-use Rattle.model.proofs.Example.{exampleText, clear, trust}
+use Rattle.model.proofs.Texts.{trueAll, falseAll, numbersFrom}
+use Rattle.model.proofs.Example.{clear}
 
 -- BYTES, each from 0 to 255: the small letters alone have another capital
 byte-capitals : map capital (numbersFrom 256 0) ≡ numbersFrom 97 0 ++ (numbersFrom 26 65 ++ numbersFrom 133 123)
@@ -27,7 +26,7 @@ unfolding opened
 byte-capitals = refl
 
 -- WORDS
-abbrev small : ℕ → ℕ
+abbrev pub small : ℕ → ℕ
 small c = if between 65 90 c then c + 32 else c
 
 -- one name
@@ -81,20 +80,8 @@ names-not : map (λ w. isName (bytes w)) noNames ≡ falseAll noNames
 unfolding opened
 names-not = refl
 
--- TEXTS: the worked example as one maker's editor writes it, names in capitals in the rules
-editor-reads :
-    reads (bytes "FUNCTION_BLOCK trust VAR_INPUT sharp: REAL; END_VAR VAR_OUTPUT grade: REAL; END_VAR FUZZIFY sharp TERM clear := (20,0),(60.0,1); END_FUZZIFY DEFUZZIFY grade TERM low := 0; TERM high := 100; METHOD : CoGS; DEFAULT := NC; END_DEFUZZIFY RULEBLOCK r ACCU : MAX; RULE 1: IF SHARP IS CLEAR THEN GRADE IS HIGH; RULE 2: IF NOT SHARP IS CLEAR THEN GRADE IS LOW; END_RULEBLOCK END_FUNCTION_BLOCK")
-    ≡ accepted trust
-unfolding opened
-editor-reads = refl
-
--- all of it in small letters
-small-reads : reads (map small exampleText) ≡ accepted trust
-unfolding opened
-small-reads = refl
-
--- the example's block with these names
-abbrev named : String → String → String → String → String → String → String → Block
+-- A TEXT: the worked example's block with these names
+abbrev pub named : String → String → String → String → String → String → String → Block
 named f a t y k m r = record {
   name = bytes f;
   inputs = record { name = bytes a; type = real; terms = record { name = bytes t; points = clear } ∷ [] } ∷ [];
@@ -115,7 +102,7 @@ named f a t y k m r = record {
 }
 
 -- a name is kept as it is declared, not in capitals and not as it is used, first or last
-abbrev mixed : Block
+abbrev pub mixed : Block
 mixed = named "Trust" "shARp" "Clear" "grADE" "lOW" "High" "R"
 
 mixed-in-capitals : inCapitals mixed ≡ named "TRUST" "SHARP" "CLEAR" "GRADE" "LOW" "HIGH" "R"
@@ -132,79 +119,3 @@ mixed-lists : listing mixed
     ≡ bytes "FUNCTION_BLOCK Trust\nVAR_INPUT\n  shARp : REAL;\nEND_VAR\nVAR_OUTPUT\n  grADE : REAL;\nEND_VAR\nFUZZIFY shARp\n  TERM Clear := (20, 0), (60, 1);\nEND_FUZZIFY\nDEFUZZIFY grADE\n  TERM lOW := 0;\n  TERM High := 100;\n  METHOD : CoGS;\n  DEFAULT := NC;\nEND_DEFUZZIFY\nRULEBLOCK R\n  AND : MIN;\n  OR : MAX;\n  ACT : MIN;\n  ACCU : MAX;\n  RULE 1 : IF shARp IS Clear THEN grADE IS High;\n  RULE 2 : IF shARp IS NOT Clear THEN grADE IS lOW;\nEND_RULEBLOCK\nEND_FUNCTION_BLOCK\n"
 unfolding opened
 mixed-lists = refl
-
--- names that are bound to nothing else: terms of different variables, the names of the blocks
-abbrev readable : List (List ℕ)
-readable =
-    ruleEnded (declared ++ (bytes "FUZZIFY a TERM t := (0,0),(1,1); END_FUZZIFY FUZZIFY n TERM T := (0,0),(1,1); END_FUZZIFY "
-    ++ bytes "DEFUZZIFY y TERM k := 1; TERM T := 1; METHOD : CoGS; DEFAULT := NC; END_DEFUZZIFY RULEBLOCK r ACCU : MAX; "))
-    ∷ ruleEnded (bytes "FUNCTION_BLOCK A VAR_INPUT a: REAL; END_VAR VAR_OUTPUT y: REAL; END_VAR FUZZIFY A TERM A := (0,0),(1,1); TERM t := (0,0),(1,1); END_FUZZIFY "
-    ++ bytes "DEFUZZIFY Y TERM k := 1; METHOD : CoGS; DEFAULT := NC; END_DEFUZZIFY RULEBLOCK Y ACCU : MAX; ")
-    ∷ oneRule (bytes "A IS T OR N IS NOT V")
-    ∷ []
-
-bound-alone : acceptedAll readable ≡ trueAll readable
-unfolding opened
-bound-alone = refl
-
--- 4: two inputs, an input and an output, two outputs, two terms of an input or of an output, FUZZIFY and DEFUZZIFY again
-abbrev repeated-texts : List Cut
-repeated-texts =
-    behind opening "a, " "A: REAL;"
-    ∷ behind opening "Ab: REAL; " "aB: INT;"
-    ∷ behind opening "a: REAL; END_VAR VAR_OUTPUT " "A: REAL;"
-    ∷ behind opening "a: REAL; END_VAR VAR_OUTPUT y, " "Y: REAL;"
-    ∷ behind declared "FUZZIFY a TERM t := (0,0),(1,1); TERM " "T := (0,0)"
-    ∷ behind fuzzified "DEFUZZIFY y TERM K := 1; TERM " "k := 2;"
-    ∷ behind fuzzified "FUZZIFY " "N TERM w := (0,0)"
-    ∷ behind defuzzified "DEFUZZIFY " "Y TERM k := 1;"
-    ∷ []
-
-repeated : answers repeated-texts ≡ refusedBy 4 repeated-texts
-unfolding opened
-repeated = refl
-
--- 2: a keyword in other letters wherever a name is wanted, before 4, 5 and 6; misplaced underscores
-abbrev keyword-texts : List Cut
-keyword-texts =
-    behind [] "FUNCTION_BLOCK " "rule VAR_INPUT"
-    ∷ behind [] "FUNCTION_BLOCK " "end_function_block VAR_INPUT"
-    ∷ behind opening "" "If: REAL;"
-    ∷ behind opening "a, b, c, d, e, g, h, i, " "coa: REAL;"
-    ∷ behind opening "a: REAL; END_VAR VAR_OUTPUT " "rEAL: REAL;"
-    ∷ behind declared "FUZZIFY " "var TERM"
-    ∷ behind declared "FUZZIFY a TERM " "max := (0,0),(1,1);"
-    ∷ behind fuzzified "DEFUZZIFY " "Nc TERM"
-    ∷ behind fuzzified "DEFUZZIFY y TERM " "cogs := 1;"
-    ∷ behind defuzzified "RULEBLOCK " "accu ACCU : MAX;"
-    ∷ behind ruled "RULE 1: IF " "is IS t"
-    ∷ behind ruled "RULE 1: IF a IS " "then THEN"
-    ∷ behind ruled "RULE 1: IF a IS t THEN " "With IS k;"
-    ∷ behind ruled "RULE 1: IF a IS t THEN y IS " "lm;"
-    ∷ behind opening "a: REAL; " "end__var"
-    ∷ []
-
-keyword-named : answers keyword-texts ≡ refusedBy 2 keyword-texts
-unfolding opened
-keyword-named = refl
-
--- IMAGES: names in any case pass, as they are; two that are one, or a keyword in other letters, do not
-mixed-loads : loads (image mixed) ≡ accepted mixed
-unfolding opened
-mixed-loads = refl
-
-abbrev unreadable : List Block
-unreadable =
-    named "trust" "sharp" "clear" "grade" "low" "LOW" "r"
-    ∷ named "trust" "Grade" "clear" "gRADE" "low" "high" "r"
-    ∷ named "rule" "sharp" "clear" "grade" "low" "high" "r"
-    ∷ named "trust" "Real" "clear" "grade" "low" "high" "r"
-    ∷ named "trust" "sharp" "max" "grade" "low" "high" "r"
-    ∷ named "trust" "sharp" "clear" "Var_Output" "low" "high" "r"
-    ∷ named "trust" "sharp" "clear" "grade" "cogs" "high" "r"
-    ∷ named "trust" "sharp" "clear" "grade" "low" "high" "If"
-    ∷ []
-
-unreadable-refused : map (λ b. loads (image b)) unreadable ≡ map (λ b. refused 11 none) unreadable
-unfolding opened
-unreadable-refused = refl

@@ -5,13 +5,13 @@ use mathlib.Core.Option.{none}
 use mathlib.Core.Path.{_≡_, refl}
 use Prim.Native.Nat.{ℕ}
 use lib.IntN.{pos}
-use lib.ListN.{length, take, drop}
+use lib.ListN.{length, set, take, drop}
 use Rattle.model.specs.Basic.{bytes}
 use Rattle.model.specs.Block.{Point, Block, real, term, neg, min-max, by-min, by-max}
-use Rattle.model.specs.Outcome.{accepted}
+use Rattle.model.specs.Outcome.{accepted, refused}
 use Rattle.model.specs.Reader.{reads}
 use Rattle.model.specs.WellFormed.{wellFormed}
-use Rattle.model.specs.Image.{words, image, loads}
+use Rattle.model.specs.Image.{bytesOf, words, image, loads}
 use Rattle.model.specs.Listing.{listing}
 use Rattle.model.proofs.Opened.{opened}
 
@@ -97,6 +97,11 @@ example-bytes = refl
 example-loads : loads (image trust) ≡ accepted trust
 unfolding opened
 example-loads = refl
+
+-- the spare word has to be 0
+example-spare : loads (bytesOf (set (words trust) 19 1)) ≡ refused 11 none
+unfolding opened
+example-spare = refl
 
 abbrev pub exampleListing : List ℕ
 exampleListing =

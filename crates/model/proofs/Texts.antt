@@ -2,13 +2,15 @@
 use mathlib.Core.Bool.{Bool, true, false}
 use mathlib.Core.List.{List, [], _∷_, _++_, map}
 use mathlib.Core.Option.{some}
-use Prim.Native.Nat.{ℕ, zero, suc}
+use mathlib.Core.Path.{_≡_}
+use Prim.Native.Nat.{ℕ, zero, suc, _≤_}
 use Prim.Native.String.{String}
+use borrow.Author.Tests.{le-ltb}
 use lib.ListN.{length}
 use Rattle.model.specs.Basic.{bytes}
 use Rattle.model.specs.Block.{Block}
 use Rattle.model.specs.Outcome.{Outcome, accepted, refused}
-use Rattle.model.specs.Reader.{reads}
+use Rattle.model.specs.Reader.{start, functionBlock, outcomeOf, reads}
 use Rattle.model.specs.Listing.{digits}
 
 -- a text up to its declarations, up to and behind each section
@@ -93,3 +95,8 @@ falseAll xs = map (λ x. false) xs
 abbrev pub numbersFrom : ℕ → ℕ → List ℕ
 numbersFrom zero n = []
 numbersFrom (suc k) n = n ∷ numbersFrom k (suc n)
+
+-- a text of 65,536 bytes and fewer is read token by token
+pub text-not-too-long : (s : List ℕ) → length s ≤ 65536 → reads s ≡ outcomeOf (functionBlock (start s))
+unfolding reads
+text-not-too-long s h = simp (le-ltb 65536 (length s) h)

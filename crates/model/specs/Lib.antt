@@ -19,6 +19,5 @@ pub mod Degrees
 pub mod Edges
 pub mod Readings
 pub mod Evaluation
-pub mod Calls
 pub mod Chunks
 pub mod Case

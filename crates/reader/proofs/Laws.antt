@@ -15,7 +15,7 @@ use Rattle.model.specs.Rules.{rule, ruleBlock}
 use Rattle.model.specs.Reader.{functionBlock, start, outcomeOf, reads}
 use Rattle.model.specs.Image.{image}
 use Rattle.model.specs.Buffers.{readsInto}
-use Rattle.model.proofs.Limits.{text-not-too-long}
+use Rattle.model.proofs.Texts.{text-not-too-long}
 use Rattle.cursor.specs.declared.Cursor.{Cursor}
 use Rattle.cursor.specs.View.{seen}
 use Rattle.block_tables.specs.declared.Tables.{Tables}

@@ -1,18 +1,10 @@
 -- At the limits and one past them: texts of 64 rules, 640 condition words and 128 conclusions, in one rule and in all.
 use mathlib.Core.List.{List, [], _∷_, _++_}
 use mathlib.Core.Path.{_≡_, refl}
-use Prim.Native.Nat.{ℕ, _≤_}
-use borrow.Author.Tests.{le-ltb}
-use lib.ListN.{length}
+use Prim.Native.Nat.{ℕ}
 use Rattle.model.specs.Basic.{bytes}
-use Rattle.model.specs.Reader.{start, functionBlock, outcomeOf, reads}
 use Rattle.model.proofs.Opened.{opened}
 use Rattle.model.proofs.Texts.{ruled, ended, oneRule, times, rulesFrom, Cut, cut, answers, refusedBy, acceptedAll, trueAll}
-
--- a text of 65,536 bytes and fewer is read token by token
-pub text-not-too-long : (s : List ℕ) → length s ≤ 65536 → reads s ≡ outcomeOf (functionBlock (start s))
-unfolding reads
-text-not-too-long s h = simp (le-ltb 65536 (length s) h)
 
 -- 639 condition words and the next operator; 640
 abbrev words639 : List ℕ

@@ -8,17 +8,21 @@ use Prim.Native.String.{String}
 use lib.Ieee.{binary32, binary64, ofInt, ofBits}
 use lib.IntN.{ℤ, pos, negsuc}
 use lib.ListN.{length}
 use Rattle.model.specs.Basic.{bytes}
 use Rattle.model.specs.Bounds.{M}
-use Rattle.model.specs.Block.{Point, Term, Singleton, real, Condition, term, two, and, Rule, Block, min-max, by-min, by-max}
+use Rattle.model.specs.Block.{Point, Term, Singleton, Condition, term, two, and, Rule, Block}
+use Rattle.model.specs.declared.InputType.the-variants.{Real as real}
+use Rattle.model.specs.declared.Pair.the-variants.{MinMax as min-max}
+use Rattle.model.specs.declared.Activation.the-variants.{Min as by-min}
+use Rattle.model.specs.declared.Accumulation.the-variants.{Max as by-max}
 use Rattle.model.specs.Outcome.{accepted, refused}
 use Rattle.model.specs.Reader.{reads}
 use Rattle.model.specs.Evaluation.{termDegrees, heldOf, freshOf, noAnswer, padded, evaluateBlock}
 use Rattle.model.specs.declared.Answer.{Answer}
 use Rattle.model.specs.declared.Mark.the-variants.{Fired}
 use Rattle.model.specs.declared.Reading.the-variants.{Real}
 use Rattle.model.proofs.Opened.{opened}
 use Rattle.model.proofs.Texts.{isAccepted}
 
 -- up to its rules
 abbrev crane : List ℕ

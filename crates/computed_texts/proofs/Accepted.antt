@@ -1,18 +1,27 @@
--- Texts that are accepted: at the bounds, in other spellings, and conditions with the trees they read to and their listing.
+-- Texts that are accepted: at the bounds, in other spellings, conditions with the trees they read to and their listing, and
+-- the text of the block that calls are made on.
 use mathlib.Core.List.{List, [], _∷_, _++_, map}
 use mathlib.Core.Option.{some}
 use mathlib.Core.Path.{_≡_, refl}
 use Prim.Native.Nat.{ℕ}
 use Prim.Native.String.{String}
 use lib.IntN.{pos}
 use Rattle.model.specs.Basic.{bytes}
-use Rattle.model.specs.Block.{Input, Output, Pair, Accumulation, Activation, Block, Condition, and, or, term, neg, two, real, int, min-max, prod-asum, bdif-bsum, by-max, by-bsum, by-min, by-prod}
+use Rattle.model.specs.Block.{Input, Output, Block, Condition, and, or, term, neg, two}
+use Rattle.model.specs.declared.Pair.{Pair}
+use Rattle.model.specs.declared.Pair.the-variants.{MinMax as min-max, ProdAsum as prod-asum, BdifBsum as bdif-bsum}
+use Rattle.model.specs.declared.Accumulation.{Accumulation}
+use Rattle.model.specs.declared.Accumulation.the-variants.{Max as by-max, Bsum as by-bsum}
+use Rattle.model.specs.declared.Activation.{Activation}
+use Rattle.model.specs.declared.Activation.the-variants.{Min as by-min, Prod as by-prod}
+use Rattle.model.specs.declared.InputType.the-variants.{Real as real, Int as int}
 use Rattle.model.specs.Outcome.{Outcome, accepted, refused}
 use Rattle.model.specs.Reader.{reads}
 use Rattle.model.specs.Parentheses.{depth}
 use Rattle.model.specs.Listing.{inputTermName, conditionText}
 use Rattle.model.proofs.Opened.{opened}
 use Rattle.model.proofs.Texts.{opening, fuzzified, defuzzified, ruled, ended, ruleEnded, oneRule, sevenTerms, times, acceptedAll, trueAll}
+use Rattle.demand_3.proofs.Calls.{block}
 
 -- a text whose DEFUZZIFY has this in it, before and after METHOD
 abbrev figures : String → String → List ℕ
@@ -183,3 +192,17 @@ condition-listings = refl
 condition-depths : map (λ s. depth (s .tree)) conditions ≡ 0 ∷ 0 ∷ 1 ∷ 0 ∷ 1 ∷ 1 ∷ 0 ∷ 0 ∷ 1 ∷ 0 ∷ 0 ∷ 0 ∷ 0 ∷ 0 ∷ 1 ∷ 1 ∷ 1 ∷ 1 ∷ 2 ∷ 1 ∷ []
 unfolding opened
 condition-depths = refl
+
+-- THE BLOCK of the list of calls in `demand_3/proofs/Calls`
+abbrev called : List ℕ
+called =
+    bytes "FUNCTION_BLOCK f VAR_INPUT a: REAL; n: INT; END_VAR VAR_OUTPUT y, z: REAL; END_VAR"
+    ++ (bytes " FUZZIFY a TERM t := (0,0),(1,1); END_FUZZIFY FUZZIFY n TERM v := (-1,0),(1,0.5),(2,1),(3,0); END_FUZZIFY"
+    ++ (bytes " DEFUZZIFY y RANGE(10..20); TERM k := 10; TERM m := 20; METHOD : CoGS; DEFAULT := NC; END_DEFUZZIFY"
+    ++ (bytes " DEFUZZIFY z RANGE(-5..-2); TERM k := -4.5; METHOD : CoGS; DEFAULT := -3; END_DEFUZZIFY"
+    ++ (bytes " RULEBLOCK r AND : PROD; ACCU : BSUM; RULE 1: IF a IS t AND n IS v THEN y IS m, z IS k WITH 0.5;"
+    ++ bytes " RULE 2: IF n IS v THEN y IS k, y IS k; END_RULEBLOCK END_FUNCTION_BLOCK"))))
+
+block-reads : reads called ≡ accepted block
+unfolding opened
+block-reads = refl

@@ -6,13 +6,17 @@ use Prim.Native.Nat.{ℕ, zero, suc, _+_}
 use Prim.Native.String.{String}
 use lib.IntN.{ℤ, pos, negsuc}
 use lib.ListN.{length}
 use Rattle.model.specs.Basic.{bytes, total}
-use Rattle.model.specs.Block.{Point, Term, Singleton, Input, Range, Output, Condition, term, neg, two, and, or, Conclusion, Rule, Block, real, int, bdif-bsum, by-prod, by-bsum, blockOf, withName, withRuleBlock, size}
+use Rattle.model.specs.Block.{Point, Term, Singleton, Input, Range, Output, Condition, term, neg, two, and, or, Conclusion, Rule, Block, blockOf, withName, withRuleBlock, size}
+use Rattle.model.specs.declared.InputType.the-variants.{Real as real, Int as int}
+use Rattle.model.specs.declared.Pair.the-variants.{BdifBsum as bdif-bsum}
+use Rattle.model.specs.declared.Activation.the-variants.{Prod as by-prod}
+use Rattle.model.specs.declared.Accumulation.the-variants.{Bsum as by-bsum}
 use Rattle.model.specs.Outcome.{accepted, refused}
 use Rattle.model.specs.WellFormed.{wellFormed}
 use Rattle.model.specs.Image.{image, loads}
 use Rattle.model.proofs.Opened.{opened}
 use Rattle.model.proofs.Texts.{trueAll, falseAll, numbersFrom}
 
 -- PIECES
 abbrev at : ℤ → ℕ → Point

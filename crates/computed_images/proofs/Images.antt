@@ -4,14 +4,20 @@ use mathlib.Core.Option.{none}
 use mathlib.Core.Path.{_≡_, refl}
 use Prim.Native.Nat.{ℕ}
 use lib.ListN.{set, take, drop}
-use Rattle.model.specs.Block.{Block, Pair, Accumulation, Activation, min-max, prod-asum, bdif-bsum, by-max, by-bsum, by-min, by-prod, withPair, withAccu, withAct}
+use Rattle.model.specs.Block.{Block, withPair, withAccu, withAct}
+use Rattle.model.specs.declared.Pair.{Pair}
+use Rattle.model.specs.declared.Pair.the-variants.{MinMax as min-max, ProdAsum as prod-asum, BdifBsum as bdif-bsum}
+use Rattle.model.specs.declared.Accumulation.{Accumulation}
+use Rattle.model.specs.declared.Accumulation.the-variants.{Max as by-max, Bsum as by-bsum}
+use Rattle.model.specs.declared.Activation.{Activation}
+use Rattle.model.specs.declared.Activation.the-variants.{Min as by-min, Prod as by-prod}
 use Rattle.model.specs.Outcome.{Outcome, refused}
 use Rattle.model.specs.Image
 use Rattle.model.specs.Image.{words, bytesOf, image, loads}
 use Rattle.model.specs.Evaluation.{fresh}
 use Rattle.model.proofs.Opened.{opened}
 use Rattle.model.proofs.Texts.{numbersFrom}
 use Rattle.model.proofs.Example.{trust}
 
 -- HEADER: the counts in the order of the tables, their offsets, pair, ACCU, ACT, the two names
 header-places :

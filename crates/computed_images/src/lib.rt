@@ -1,0 +1,1 @@
+// Computed examples of the definitions that take long: whole blocks and images, and calls on them. Proofs only.

@@ -1,0 +1,1 @@
+// Computed examples of the definitions that take long: whole texts, refused, accepted, at the limits, listed. Proofs only.

@@ -1,0 +1,4 @@
+pub mod Opened
+pub mod Calls
+pub mod Broken
+pub mod Images
