@@ -45,10 +45,10 @@ module _ (s : List ℕ) (c : Cursor) (b : Block) (n : ℕ) where
   unfolding change seen
   unchanged f h = simp (ne-eqb _ _ h)
 
-pub begun : (s : List ℕ) (t : Found) (b : Block) (n : ℕ) → tokensFrom s 0 ≡ tokenOf s t ∷ after s t
+pub begun : (s : List ℕ) (t : Found) (b : Block) (n : ℕ) → tokens s ≡ tokenOf s t ∷ after s t
     → seen s (record { kind = t .kind; start = t .start; end = t .end; why = 0; place = 0 }) b n
     ≡ record { rest = tokens s; why = 0; place = 0; block = b; words = n }
-unfolding seen tokens tokensFrom
+unfolding seen
 begun s t b n e = ap (λ (l : List Token). record { rest = l; why = 0; place = 0; block = b; words = n }) (sym e)
 
 -- what a loop has for fuel is enough

@@ -2,12 +2,13 @@
 -- ties a move of the cursor to a part of the rules, a `Part` of the model.
 use mathlib.Core.Path.{_≡_}
 use mathlib.Core.List.{List, [], _∷_}
-use Prim.Native.Nat.{ℕ, suc, _≤_, _<_}
-use lib.Dec.{eqb}
+use Prim.Native.Nat.{ℕ, suc, _-_, _≤_, _<_}
+use lib.Dec.{eqb, leb}
 use lib.ListN.{length}
 use lib.Seq.{slice}
 use Rattle.model.specs.Basic.{if_then_else_}
-use Rattle.model.specs.Keywords.{END}
+use Rattle.model.specs.Bounds.{nameLimit}
+use Rattle.model.specs.Keywords.{END, NAME}
 use Rattle.model.specs.Block.{Block}
 use Rattle.model.specs.Parse.{Parse, Part, Checks}
 use Rattle.tokens.specs.Tokens.{tokenOf, after}
@@ -55,3 +56,11 @@ pub record Step (part : Part) (s : List ℕ) (c r : Cursor) : Type 0 where
 unfoldable pub fault : Checks → ℕ
 fault [] = 0
 fault ((ok, n) ∷ cs) = if ok then fault cs else n
+
+-- c refused by w, where it is not refused yet
+unfoldable pub refusedAt : Cursor → ℕ → Cursor
+refusedAt c w = if eqb (c .why) 0 then record { kind = END; start = 0; end = 0; why = w; place = c .start } else c
+
+-- by which number the current token is refused as a name
+unfoldable pub nameFault : Cursor → ℕ
+nameFault c = fault ((eqb (c .kind) NAME, 2) ∷ (leb (c .end - c .start) nameLimit, 4) ∷ [])

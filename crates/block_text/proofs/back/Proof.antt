@@ -16,9 +16,9 @@ returns : tie.Need-returns
 returns c =
     let c3 = c .before .before .before in (
       (λ b n p. laws.back-refused _ _ _ (c3 .expect .ensures .0) b n 2 (c .refuse .result)
-          (laws.not-end _ _ _ (c3 .expect .ensures .0) b n (c .before .if1 .taken)) (λ z. omega arith) (c .refuse .ensures .1 .1)
+          (laws.not-end _ _ _ (c3 .expect .ensures .0) b n (c .before .if1 .taken)) (λ z. omega arith) (c .refuse .ensures .1 .1 .0)
           (c .refuse .ensures .0 _ (c3 .expect .ensures .0 .fits))),
-      λ z. absurd (c .refuse .ensures .1 .1 z),
+      λ z. absurd (c .refuse .ensures .1 .1 .0 z),
     )
 
 refuse-requires-2 : tie.Need-refuse-requires-2
@@ -29,8 +29,8 @@ returns-2 c =
     let c4 = c .before .before .before .before in (
       (λ b n p. laws.back-refused _ _ _ (c4 .expect .ensures .0) b n 9 (c .refuse2 .result)
           (laws.not-all _ _ _ (c4 .expect .ensures .0) b n (c .before .before .if1 .left) (p ∙ not-true _ (c .before .if2 .taken))) (λ z. omega arith)
-          (c .refuse2 .ensures .1 .1) (c .refuse2 .ensures .0 _ (c4 .expect .ensures .0 .fits))),
-      λ z. absurd (c .refuse2 .ensures .1 .1 z),
+          (c .refuse2 .ensures .1 .1 .0) (c .refuse2 .ensures .0 _ (c4 .expect .ensures .0 .fits))),
+      λ z. absurd (c .refuse2 .ensures .1 .1 .0 z),
     )
 
 advance-requires : tie.Need-advance-requires
@@ -47,7 +47,7 @@ returns-3 c =
     let c7 = c5 .before .before in (
       (λ b n p. laws.back-more _ _ _ (c7 .expect .ensures .0) b n (c5 .if1 .left) (p ∙ not-false _ (c4 .if2 .left)) (c3 .advance .result)
           (c3 .advance .ensures .0) (c .before .if3 .taken) (c .refuse3 .result) (c .refuse3 .ensures .0 _ (c3 .advance .ensures .0 .fits))),
-      λ z. absurd (c .refuse3 .ensures .1 .1 z),
+      λ z. absurd (c .refuse3 .ensures .1 .1 .0 z),
     )
 
 returns-4 : tie.Need-returns-4

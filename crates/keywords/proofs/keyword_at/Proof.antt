@@ -47,6 +47,9 @@ shared-slice-read-slot-2 c = omega (arith, some-length _ (c .before .before .bef
 slot-requires : tie.Need-slot-requires
 slot-requires c κs = search needs
 
+slice-aggregate-in-slot : tie.Need-slice-aggregate-in-slot
+slice-aggregate-in-slot c = search needs
+
 in-slot-requires : tie.Need-in-slot-requires
 in-slot-requires c κs = search needs
 
@@ -67,5 +70,6 @@ keyword-at-spec =
     sub-slot
     shared-slice-read-slot-2
     slot-requires
+    slice-aggregate-in-slot
     in-slot-requires
     returns-4)

@@ -77,7 +77,7 @@ advance-requires c κs =
     let c4 = c .before .before .before .before in
     let c5 = c4 .before in
     let c8 = c5 .before .before .before in
-    (c8 .pre .0, λ z. let k = c5 .name-fault .ensures .1 (c4 .if1 .left) in omega arith)
+    (c8 .pre .0, λ z. let k = c5 .name-fault .ensures .1 .0 (c4 .if1 .left) in omega arith)
 
 cast-conclusions : tie.Need-cast-conclusions
 cast-conclusions c = search needs
@@ -134,7 +134,7 @@ returns-3 c =
     let g = t .pre in
     let s = t .args .s .now in
     let a = c .before .advance .ensures .0 in
-    let k = c7 .name-fault .ensures .1 (c6 .if1 .left) in (
+    let k = c7 .name-fault .ensures .1 .0 (c6 .if1 .left) in (
       (λ b rs q m d. laws.concludes-one m _ _ p _ a
           (laws.term-known s _ _ b d rs q (p .cursor) m (sym (c6 .if1 .left) ∙ c7 .name-fault .ensures .0 s (g .0) (midst b rs q) m) _ (g .2) _
           (c5 .term-of .ensures .0) (c .before .before .if2 .left) (g .0 .halted (λ z. omega (arith, k)))) _
