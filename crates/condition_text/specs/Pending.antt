@@ -10,7 +10,13 @@ use Rattle.model.specs.Block.{Block}
 use Rattle.model.specs.Rules.{ConditionRead}
 use Rattle.model.specs.Image.{postfix}
 use Rattle.cursor.specs.View.{seen, Fits, left}
+use Rattle.symbol_table.specs.Symbols.{Describes}
 use Rattle.condition_text.specs.declared.Pending.{Pending}
+
+-- names and symbols are those of a block, so that what is said of every such block is said of one
+pub record Declared (s names symbols : List ℕ) : Type 0 where
+  pub block : Block
+  pub describes : Describes s names symbols block
 
 -- no more words are put than counted, and none past the limit
 pub record Room (s : List ℕ) (p : Pending) : Type 0 where

@@ -10,11 +10,17 @@ ghost use Rattle.model.specs.Parse.{refuse};
 ghost use Rattle.model.specs.Rules.{word, conditionTerm, termOrNot, subcondition as subconditionOf, chain, plain as plainOf, operand as operandOf, conditionWith, parenthesis};
 ghost use Rattle.cursor.specs.View.{seen, Fits, Step};
 ghost use Rattle.symbol_table.specs.Symbols.{Symbols, Describes, inputCount};
-ghost use Rattle.condition_text.specs.Pending.{Room, Reads, Within, Stops, Counts, Puts};
+ghost use Rattle.condition_text.specs.Pending.{Declared, Room, Reads, Within, Stops, Counts, Puts};
 use block_tables::Words;
 use cursor::Cursor;
 use lookup::Names;
 use symbol_table::SymbolTable;
+
+const NOT_WORD: u32 = stored_conditions::NOT_WORD as u32;
+
+const AND_WORD: u32 = stored_conditions::AND_WORD as u32;
+
+const OR_WORD: u32 = stored_conditions::OR_WORD as u32;
 
 // A reading in the midst of a condition: the words that are counted, and how many of them are put.
 pub struct Pending {
@@ -107,7 +113,7 @@ fn term_named(
             words: p.words,
             put: p.put,
         },
-        (16 + symbols[i] + j) as u32,
+        (stored_conditions::TERM_WORD + symbols[i] + j) as u32,
     )
 }
 
@@ -133,7 +139,7 @@ fn term_here(
     }
     let q = count(s, p);
     let r = term_named(s, names, symbols, words, q, i);
-    put(words, r, 0)
+    put(words, r, NOT_WORD)
 }
 
 // input IS [NOT] term
@@ -185,7 +191,8 @@ fn plain(
     p: Pending,
     depth: usize,
 ) -> Pending
-    requires { ⌜ Room (now s) p × Symbols (now s) (now names) (now symbols) ⌝ }
+    requires { ⌜ Room (now s) p × Symbols (now s) (now names) (now symbols)
+        × Declared (now s) (now names) (now symbols) ⌝ }
     ensures { λ r. ⌜ ((b : Block) → Describes (now (s .entry)) (now (names .entry)) (now (symbols .entry)) b
         → Reads (now (s .entry)) b p r (plainOf (parenthesis depth) (seen (now (s .entry)) (p .cursor) b (p .words)))
         (now (words .entry)) (now (words .exit))) ⌝ }
@@ -228,7 +235,8 @@ fn operand(
     p: Pending,
     depth: usize,
 ) -> Pending
-    requires { ⌜ Room (now s) p × Symbols (now s) (now names) (now symbols) ⌝ }
+    requires { ⌜ Room (now s) p × Symbols (now s) (now names) (now symbols)
+        × Declared (now s) (now names) (now symbols) ⌝ }
     ensures { λ r. ⌜ ((b : Block) → Describes (now (s .entry)) (now (names .entry)) (now (symbols .entry)) b
         → Reads (now (s .entry)) b p r (operandOf (parenthesis depth) (seen (now (s .entry)) (p .cursor) b (p .words)))
         (now (words .entry)) (now (words .exit))) ⌝ }
@@ -240,7 +248,7 @@ fn operand(
     }
     let q = count(s, p);
     let r = plain(s, names, symbols, words, q, depth);
-    put(words, r, 0)
+    put(words, r, NOT_WORD)
 }
 
 // operand {AND operand}
@@ -252,7 +260,8 @@ fn conjunction(
     p: Pending,
     depth: usize,
 ) -> Pending
-    requires { ⌜ Room (now s) p × Symbols (now s) (now names) (now symbols) ⌝ }
+    requires { ⌜ Room (now s) p × Symbols (now s) (now names) (now symbols)
+        × Declared (now s) (now names) (now symbols) ⌝ }
     ensures { λ r. ⌜ ((b : Block) → Describes (now (s .entry)) (now (names .entry)) (now (symbols .entry)) b
         → Reads (now (s .entry)) b p r
         (chain (operandOf (parenthesis depth)) AND and (seen (now (s .entry)) (p .cursor) b (p .words)))
@@ -263,7 +272,7 @@ fn conjunction(
     while q.cursor.kind == token_kinds::AND {
         let n = count(s, q);
         let m = operand(s, names, symbols, words, n, depth);
-        q = put(words, m, 1);
+        q = put(words, m, AND_WORD);
     }
     q
 }
@@ -277,7 +286,8 @@ pub fn condition(
     p: Pending,
     depth: usize,
 ) -> Pending
-    requires { ⌜ Room (now s) p × Symbols (now s) (now names) (now symbols) ⌝ }
+    requires { ⌜ Room (now s) p × Symbols (now s) (now names) (now symbols)
+        × Declared (now s) (now names) (now symbols) ⌝ }
     ensures { λ r. ⌜ ((b : Block) → Describes (now (s .entry)) (now (names .entry)) (now (symbols .entry)) b
         → Reads (now (s .entry)) b p r
         (conditionWith (parenthesis depth) (seen (now (s .entry)) (p .cursor) b (p .words)))
@@ -288,7 +298,7 @@ pub fn condition(
     while q.cursor.kind == token_kinds::OR {
         let n = count(s, q);
         let m = conjunction(s, names, symbols, words, n, depth);
-        q = put(words, m, 2);
+        q = put(words, m, OR_WORD);
     }
     q
 }

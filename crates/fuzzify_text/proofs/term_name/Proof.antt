@@ -115,7 +115,7 @@ returns-4 c =
             ∙ ap (termFrom (a .i)) (sym (laws.name-good (a .s .now) (a .names .now) (a .i) (a .n) b t (d .result) (e .result)
             (sym (c3 .if2 .left) ∙ c3 .before .name-fault .ensures .0 _ f b 0) _ (c .before .before .find .ensures .0) (c .before .if3 .left) (d .ensures .1 .1)
             (e .ensures .0)));
-        lost = λ z. absurd (z (e .ensures .1 .1 .0));
+        lost = λ z. absurd (z (e .ensures .1 .1));
       },
       record {
         fewer = omega (arith, e .ensures .1 .0, d .ensures .1 .0);
