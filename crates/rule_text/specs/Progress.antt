@@ -12,6 +12,7 @@ use Rattle.model.specs.Parse.{Part}
 use Rattle.cursor.specs.View.{seen, Fits, left}
 use Rattle.block_tables.specs.declared.Totals.{Totals}
 use Rattle.block_tables.specs.Stored.{Stored, ruleRow}
+use Rattle.symbol_table.specs.Symbols.{Describes}
 use Rattle.condition_text.specs.Pending.{Adds}
 use Rattle.rule_text.specs.declared.Concluded.{Concluded}
 use Rattle.rule_text.specs.declared.Progress.{Progress}
@@ -25,6 +26,12 @@ pub record Kept (rs : List Rule) (rules ws ks : List ℕ) (n : Totals) : Type 0 
   pub rules-count : length rs ≡ n .rules
   pub words-count : total (λ r. size (r .condition)) rs ≡ n .words
   pub conclusions-count : length (gather (λ r. r .conclusions) rs) ≡ n .conclusions
+
+-- names and symbols are those of a block whose rules are kept, so that what is said of every such block is said of one
+pub record Standing (s names symbols rules ws ks : List ℕ) (n : Totals) : Type 0 where
+  pub block : Block
+  pub describes : Describes s names symbols block
+  pub kept : Kept (block .rules) rules ws ks n
 
 -- no more than the limits
 pub record Few (n : Totals) : Type 0 where
