@@ -8,6 +8,7 @@ use borrow.Author.Tests.{eq-eqb, ne-eqb, lt-ltb, le-ltb, ltb-true, ltb-false}
 use lib.Dec.{eqb, ltb}
 use lib.ListN.{length, getD, replicate}
 use Rattle.model.specs.Basic.{all, isEmpty}
+use Rattle.model.specs.Bounds.{inputLimit}
 use Rattle.model.specs.Block as block
 use Rattle.model.specs.Block.{Block, termsOf, singletonsOf, emptyBlock}
 use Rattle.model.specs.Image.{tab}
@@ -107,12 +108,12 @@ module _ (s names symbols : List ℕ) (b : Block) (d : Describes s names symbols
       ∙ above (first symbols i) (first symbols (i + 1)) ∙ ap (ltb 0) (sym (d .terms i (omega (arith, d .inputs)))))
       ∙ ap (λ (n : ℕ). all (λ k. ltb (first symbols k) (first symbols (k + 1))) (tab (λ k. k) n 0)) (d .inputs)
 
-  outputs-there : all (λ v. not (isEmpty (v .terms))) (b .outputs) ≡ haveTerms symbols 8 (outputCount symbols)
+  outputs-there : all (λ v. not (isEmpty (v .terms))) (b .outputs) ≡ haveTerms symbols inputLimit (outputCount symbols)
   unfolding haveTerms singletonsOf
   outputs-there =
-      parts-by (λ (v : block.Output). v .terms) (λ k. ltb (first symbols k) (first symbols (k + 1))) (b .outputs) 8
-      (λ o h. above (first symbols (8 + o)) (first symbols (8 + o + 1)) ∙ ap (ltb 0) (sym (d .singletons o (omega (arith, d .outputs)))))
-      ∙ ap (λ (n : ℕ). all (λ k. ltb (first symbols k) (first symbols (k + 1))) (tab (λ k. k) n 8)) (d .outputs)
+      parts-by (λ (v : block.Output). v .terms) (λ k. ltb (first symbols k) (first symbols (k + 1))) (b .outputs) inputLimit
+      (λ o h. above (first symbols (inputLimit + o)) (first symbols (inputLimit + o + 1)) ∙ ap (ltb 0) (sym (d .singletons o (omega (arith, d .outputs)))))
+      ∙ ap (λ (n : ℕ). all (λ k. ltb (first symbols k) (first symbols (k + 1))) (tab (λ k. k) n inputLimit)) (d .outputs)
 
   pub parts-there : partsThere b ≡ allHaveTerms symbols
   unfolding partsThere allHaveTerms

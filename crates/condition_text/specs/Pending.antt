@@ -1,4 +1,5 @@
--- A helper: what reading a condition adds: the rules' reading of its text, and its words in postfix order. `Reads` ties
+-- A helper: what reading a condition adds: the rules' reading of its text, and its words in postfix order.
+-- `ReadsCondition` ties
 -- both to the model's `ConditionRead` and `postfix`.
 use mathlib.Core.Path.{_≡_}
 use mathlib.Core.List.{List, [], _∷_}
@@ -30,12 +31,12 @@ pub record Adds (m n : ℕ) (ws old new : List ℕ) : Type 0 where
   pub said : new ≡ sets old m ws
 
 -- in block b, the rules read g from p on, and where they do not refuse, its words are put
-pub record Reads (s : List ℕ) (b : Block) (p r : Pending) (g : ConditionRead) (old new : List ℕ) : Type 0 where
+pub record ReadsCondition (s : List ℕ) (b : Block) (p r : Pending) (g : ConditionRead) (old new : List ℕ) : Type 0 where
   pub seen : seen s (r .cursor) b (r .words) ≡ g .parse
   pub adds : r .cursor .why ≡ 0 → Adds (p .put) (r .put) (postfix (g .tree)) old new
 
 -- whatever the block: a refusal stays, the words before p stay, and as many words are put as counted, and k more
-pub record Within (s : List ℕ) (k : ℕ) (p r : Pending) (old new : List ℕ) : Type 0 where
+pub record Balanced (s : List ℕ) (k : ℕ) (p r : Pending) (old new : List ℕ) : Type 0 where
   pub fewer : left s (r .cursor) ≤ left s (p .cursor)
   pub room : Room s r
   pub sticky : r .cursor .why ≡ 0 → p .cursor .why ≡ 0

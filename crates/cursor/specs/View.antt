@@ -35,7 +35,7 @@ seen s c b n = record {
 pub record Fits (s : List ℕ) (c : Cursor) : Type 0 where
   pub order : c .start ≤ c .end
   pub inside : c .end ≤ length s
-  pub halted : (c .kind ≡ 0 → ⊥) → c .why ≡ 0
+  pub halted : (c .kind ≡ END → ⊥) → c .why ≡ 0
 
 -- how many tokens are left, the end apart
 unfoldable pub left : List ℕ → Cursor → ℕ
@@ -43,7 +43,7 @@ left s c = if eqb (c .kind) END then 0 else suc (length (after s (current c)))
 
 -- before a token, at least one is passed or reading is refused
 abbrev pub Moves : List ℕ → Cursor → Cursor → Type 0
-Moves s c r = (c .kind ≡ 0 → ⊥) → left s r < left s c
+Moves s c r = (c .kind ≡ END → ⊥) → left s r < left s c
 
 -- from c to r a part of the rules was read that looks at no block and at no words
 pub record Step (part : Part) (s : List ℕ) (c r : Cursor) : Type 0 where

@@ -4,7 +4,7 @@ ghost use mathlib.Core.Path.{_≡_};
 ghost use mathlib.Core.List.{List, []};
 ghost use Prim.Native.Nat.{ℕ, _≤_, _<_};
 ghost use Rattle.model.specs.Block.{Block};
-ghost use Rattle.model.specs.Keywords.{NAME};
+ghost use Rattle.model.specs.Keywords.{NAME, END};
 ghost use Rattle.model.specs.Parse.{refuse as refused, advance as advanced, expect as expected, aName};
 ghost use Rattle.model.specs.Tokens.{tokens};
 ghost use Rattle.cursor.specs.View.{seen, Fits, left, Step, Moves, fault, refusedAt, nameFault};
@@ -55,7 +55,7 @@ pub fn refuse(c: Cursor, why: u8) -> Cursor
 }
 
 pub fn advance(s: &[u8], c: Cursor) -> Cursor
-    requires { ⌜ Fits (now s) c × (c .kind ≡ 0 → ⊥) ⌝ }
+    requires { ⌜ Fits (now s) c × (c .kind ≡ END → ⊥) ⌝ }
     ensures { λ r. ⌜ Step advanced (now (s .entry)) c r ⌝ }
     ensures moves { λ r. ⌜ (left (now (s .entry)) r < left (now (s .entry)) c) × (r .why ≡ 0) ⌝ }
 {

@@ -19,7 +19,7 @@ use Rattle.laws.proofs.Places.{same-eq}
 use Rattle.laws.proofs.Slices.{part}
 use Rattle.laws.proofs.Tests.{both, clash}
 use Rattle.laws.proofs.Words.{by-case, length-capitals, byte-capitals, capitals-again, low-bits}
-use Rattle.keywords.specs.Slots.{slotOf, joined, startOf, rowAt, slotRow, firstOf, rowIn, mayBe, Others}
+use Rattle.keywords.specs.Slots.{keywordCount, slotOf, joined, startOf, rowAt, slotRow, firstOf, rowIn, mayBe, Others}
 use Rattle.keywords.specs.declared.Row.{Row}
 
 module _ (w t : List ℕ) (k : ℕ) (hw : k < length w) (ht : k < length t) where
@@ -42,13 +42,16 @@ unlike f c w q (k ∷ ks) e = go (both (f k) (all f ks) e) (unlike f c w q ks) (
     go t ih false p = rw (indexOf, p) (ap suc (ih (t .1)))
 
 -- LENGTHS: a bit for each that a keyword has
-pub no-length : (w : List ℕ) → 290556 / 2 ^ length w % 2 ≡ 0 → keywordAt w ≡ 43
+abbrev lengthBits : ℕ
+lengthBits = 290556
+
+pub no-length : (w : List ℕ) → lengthBits / 2 ^ length w % 2 ≡ 0 → keywordAt w ≡ keywordCount
 unfolding all
 no-length w h =
-    unlike (λ k. not (eqb (290556 / 2 ^ length k % 2) 0)) (λ v. ap (λ (n : ℕ). not (eqb (290556 / 2 ^ n % 2) 0)) (length-capitals v)) w
+    unlike (λ k. not (eqb (lengthBits / 2 ^ length k % 2) 0)) (λ v. ap (λ (n : ℕ). not (eqb (lengthBits / 2 ^ n % 2) 0)) (length-capitals v)) w
     (simp (eq-eqb _ _ h)) keywords refl
 
-pub some-length : (n : ℕ) → (290556 / 2 ^ n % 2 ≡ 0 → ⊥) → 0 < n
+pub some-length : (n : ℕ) → (lengthBits / 2 ^ n % 2 ≡ 0 → ⊥) → 0 < n
 some-length zero f = absurd (f refl)
 some-length (suc n) f = omega arith
 
@@ -83,16 +86,16 @@ slot-capitals w =
 ownSlot : ℕ → Bool
 ownSlot i = eqb (indexOf (λ k. eqb (slotOf (getD keywords i [])) (slotOf k)) keywords) i
 
-own-slot : (i : ℕ) → i < 43 → ownSlot i ≡ true
+own-slot : (i : ℕ) → i < keywordCount → ownSlot i ≡ true
 unfolding ownSlot all tab
-own-slot i h = let z : 0 + i ≡ i = omega arith in rw z at (all-at ownSlot (λ i. i) 43 0 i h refl)
+own-slot i h = let z : 0 + i ≡ i = omega arith in rw z at (all-at ownSlot (λ i. i) keywordCount 0 i h refl)
 
-pub row-here : (h i a e : ℕ) → h ≡ slotOf (getD keywords i []) → ltb i 43 ≡ true → a ≡ startOf i → e ≡ startOf (i + 1)
+pub row-here : (h i a e : ℕ) → h ≡ slotOf (getD keywords i []) → ltb i keywordCount ≡ true → a ≡ startOf i → e ≡ startOf (i + 1)
     → record { keyword = i; start = a; end = e } ≡ slotRow h
 unfolding slotRow ownSlot
 row-here h i a e q l p r =
     let z : indexOf (λ k. eqb h (slotOf k)) keywords ≡ i =
-    ap (λ (n : ℕ). indexOf (λ k. eqb n (slotOf k)) keywords) q ∙ eqb-true _ _ (own-slot i (ltb-true i 43 l)) in
+    ap (λ (n : ℕ). indexOf (λ k. eqb n (slotOf k)) keywords) q ∙ eqb-true _ _ (own-slot i (ltb-true i keywordCount l)) in
     (λ j. record { keyword = i; start = p j; end = r j }) ∙ ap rowAt (sym z)
 
 -- the text of a row
@@ -101,7 +104,7 @@ rowText r = slice (r .start) (r .end) (joined keywords)
 
 -- it lies in the text of all keywords, and is the row's keyword
 rightRow : ℕ → Bool
-rightRow i = (leb (rowAt i .start) (rowAt i .end) && leb (rowAt i .end) 243) && eqb (keywordAt (rowText (rowAt i))) i
+rightRow i = (leb (rowAt i .start) (rowAt i .end) && leb (rowAt i .end) (startOf keywordCount)) && eqb (keywordAt (rowText (rowAt i))) i
 
 index-most : {A : Type 0} (f : A → Bool) (xs : List A) → indexOf f xs ≤ length xs
 index-most f [] = omega arith
@@ -116,7 +119,7 @@ unfolding rightRow all tab
 right-row h =
     let i = indexOf (λ k. eqb h (slotOf k)) keywords in
     let z : 0 + i ≡ i = omega arith in
-    rw z at (all-at rightRow (λ i. i) 44 0 i (omega (arith, index-most (λ k. eqb h (slotOf k)) keywords)) refl)
+    rw z at (all-at rightRow (λ i. i) (keywordCount + 1) 0 i (omega (arith, index-most (λ k. eqb h (slotOf k)) keywords)) refl)
 
 -- what a word of slot h is beside the row of its slot
 module _ (w text : List ℕ) (h : ℕ) (r : Row) (own : h ≡ slotOf w) (here : r ≡ slotRow h) (all-text : text ≡ joined keywords) where
@@ -124,10 +127,10 @@ module _ (w text : List ℕ) (h : ℕ) (r : Row) (own : h ≡ slotOf w) (here : 
   unfolding slotRow rightRow
   row-inside =
       let i = indexOf (λ k. eqb h (slotOf k)) keywords in
-      let p = both (leb (rowAt i .start) (rowAt i .end)) (leb (rowAt i .end) 243) (both _ (eqb (keywordAt (rowText (rowAt i))) i) (right-row h) .0) in
-      rw (here, all-text) (leb-true (rowAt i .start) (rowAt i .end) (p .0), leb-true (rowAt i .end) 243 (p .1))
+      let p = both (leb (rowAt i .start) (rowAt i .end)) (leb (rowAt i .end) (startOf keywordCount)) (both _ (eqb (keywordAt (rowText (rowAt i))) i) (right-row h) .0) in
+      rw (here, all-text) (leb-true (rowAt i .start) (rowAt i .end) (p .0), leb-true (rowAt i .end) (startOf keywordCount) (p .1))
 
-  pub row-most : r .keyword ≤ 43
+  pub row-most : r .keyword ≤ keywordCount
   unfolding slotRow
   row-most = rw here (index-most (λ k. eqb h (slotOf k)) keywords)
 
@@ -142,12 +145,12 @@ module _ (w text : List ℕ) (h : ℕ) (r : Row) (own : h ≡ slotOf w) (here : 
       let n = slotOf w in
       let t = rowText (slotRow n) in
       let i = indexOf (λ k. eqb n (slotOf k)) keywords in
-      let p = both (leb (rowAt i .start) (rowAt i .end) && leb (rowAt i .end) 243) (eqb (keywordAt (rowText (rowAt i))) i) (right-row n) in
+      let p = both (leb (rowAt i .start) (rowAt i .end) && leb (rowAt i .end) (startOf keywordCount)) (eqb (keywordAt (rowText (rowAt i))) i) (right-row n) in
       ap (λ (q : Row). q .keyword) (here ∙ ap slotRow own) ∙ sym (eqb-true (keywordAt t) i (p .1))
       ∙ sym (ap (λ (v : List ℕ). indexOf (λ k. same v (capitals k)) keywords) (same-eq (capitals w) (capitals t) (sym same-text ∙ e)))
 
   -- each keyword is that of its slot
-  pub row-other : alike w (take (r .end - r .start) (drop (r .start) text)) ≡ false → keywordAt w ≡ 43
+  pub row-other : alike w (take (r .end - r .start) (drop (r .start) text)) ≡ false → keywordAt w ≡ keywordCount
   unfolding slotRow all
   row-other e =
       unlike (λ k. alike k (rowText (slotRow (slotOf k)))) (λ v j. same (capitals-again v j) (capitals (rowText (slotRow (slot-capitals v j))))) w
@@ -171,7 +174,7 @@ none-found f (k ∷ ks) e =
     let b = both (not (f k)) (all (λ k. not (f k)) ks) e in
     rw (indexOf, not-true (f k) (b .0)) (ap suc (none-found f ks (b .1)))
 
-pub no-slot : (h : ℕ) → Others Unit h (map slotOf keywords) → slotRow h ≡ record { keyword = 43; start = 243; end = 243 }
+pub no-slot : (h : ℕ) → Others Unit h (map slotOf keywords) → slotRow h ≡ rowAt keywordCount
 unfolding slotRow
 no-slot h x =
     let f : List ℕ → Bool = λ k. eqb h (slotOf k) in
@@ -188,6 +191,6 @@ no-row T i (r ∷ rs) x =
     simp (ne-eqb i (r .0) (others-front U i (map (λ r. r .0) rs) x .1)) (no-row U i rs x)
 
 -- a word that may be no keyword is none
-pub may-not : (w : List ℕ) → mayBe (length w) (firstOf w) ≡ false → keywordAt w ≡ 43
+pub may-not : (w : List ℕ) → mayBe (length w) (firstOf w) ≡ false → keywordAt w ≡ keywordCount
 unfolding all
 may-not w h = unlike (λ v. mayBe (length v) (firstOf v)) (λ v j. mayBe (length-capitals v j) (first-capitals v j)) w h keywords refl

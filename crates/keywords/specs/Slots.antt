@@ -10,6 +10,13 @@ use Rattle.model.specs.Basic.{if_then_else_, indexOf}
 use Rattle.model.specs.Keywords.{keywords}
 use Rattle.keywords.specs.declared.Row.{Row}
 
+-- how many keywords there are, and how long the longest is
+abbrev pub keywordCount : ℕ
+keywordCount = 43
+
+abbrev pub keywordLimit : ℕ
+keywordLimit = 18
+
 -- by the length, the first byte and the last
 abbrev pub slotOf : List ℕ → ℕ
 slotOf w = (length w + 8 * getD w 0 0 + 152 * getD w (length w - 1) 0) % 256

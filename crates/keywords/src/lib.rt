@@ -9,7 +9,7 @@ ghost use lib.Dec.{ltb};
 ghost use lib.ListN.{getD};
 ghost use Rattle.model.specs.Basic.{alike};
 ghost use Rattle.model.specs.Keywords.{keywords, keywordAt};
-ghost use Rattle.keywords.specs.Slots.{slotOf, joined, startOf, slotRow, rows, rowIn, mayBe, Others};
+ghost use Rattle.keywords.specs.Slots.{keywordCount, keywordLimit, slotOf, joined, startOf, slotRow, rows, rowIn, mayBe, Others};
 
 // How many keywords there are, how long the longest is, and a bit for each length that one has.
 pub const COUNT: usize = 43;
@@ -48,7 +48,7 @@ struct Row {
 
 // The row of a keyword of slot h.
 fn keyword_row(h: usize, keyword: u8, start: u8, end: u8) -> Row
-    requires { ⌜ (h ≡ slotOf (getD keywords keyword [])) × (ltb keyword 43 ≡ true) ⌝ }
+    requires { ⌜ (h ≡ slotOf (getD keywords keyword [])) × (ltb keyword keywordCount ≡ true) ⌝ }
     requires place { ⌜ (start ≡ startOf keyword) × (end ≡ startOf (keyword + 1)) ⌝ }
     ensures { λ r. ⌜ r ≡ slotRow h ⌝ }
 {
@@ -126,7 +126,7 @@ fn slot_row(h: usize) -> Row
 // The word of slot h beside the keyword of that slot, which is a part of the text of all of them.
 fn in_slot(w: &[u8], h: usize, text: &[u8]) -> usize
     requires { ⌜ (h ≡ slotOf (now w)) × (now text ≡ joined keywords) ⌝ }
-    ensures { λ r. ⌜ (r ≡ keywordAt (now (w .entry))) × (r ≤ 43) ⌝ }
+    ensures { λ r. ⌜ (r ≡ keywordAt (now (w .entry))) × (r ≤ keywordCount) ⌝ }
 {
     let r = slot_row(h);
     let a = r.start as usize;
@@ -139,7 +139,7 @@ fn in_slot(w: &[u8], h: usize, text: &[u8]) -> usize
 
 // The slot of the words of n bytes that begin with a and end in z.
 fn slot(n: usize, a: u8, z: u8) -> usize
-    requires { ⌜ n ≤ 18 ⌝ }
+    requires { ⌜ n ≤ keywordLimit ⌝ }
     ensures { λ r. ⌜ r ≡ (n + 8 * a + 152 * z) % 256 ⌝ }
 {
     (n + 8 * (a as usize) + 152 * (z as usize)) % 256
@@ -188,7 +188,7 @@ fn lengths(i: usize) -> usize
 
 // Whether a word of n bytes that begins with a may be a keyword; else it is none. Few names may.
 pub fn may_be(n: usize, a: u8) -> bool
-    requires { ⌜ n ≤ 18 ⌝ }
+    requires { ⌜ n ≤ keywordLimit ⌝ }
     ensures { λ r. ⌜ r ≡ mayBe n (a % 32) ⌝ }
 {
     let b = lengths(a as usize % 32);
@@ -198,7 +198,7 @@ pub fn may_be(n: usize, a: u8) -> bool
 // Which keyword the word is; COUNT where it is none.
 pub fn keyword_at(w: &[u8]) -> usize
     ensures { λ r. ⌜ r ≡ keywordAt (now (w .entry)) ⌝ }
-    ensures within { λ r. ⌜ r ≤ 43 ⌝ }
+    ensures within { λ r. ⌜ r ≤ keywordCount ⌝ }
 {
     let n = w.len();
     if LONGEST < n {

@@ -15,7 +15,7 @@ ghost use Rattle.model.specs.Rules.{ruleNumber, concludedTerm, conclusion as co
 ghost use Rattle.cursor.specs.View.{seen, textOf, Fits, left, Step, Moves};
 ghost use Rattle.symbol_table.specs.Symbols.{Symbols, Describes, outputCount};
 ghost use Rattle.condition_text.specs.Pending.{Adds};
-ghost use Rattle.rule_text.specs.Progress.{Kept, Standing, Few, Rows, Concludes, Onward, Ends, Goes, Within, midst};
+ghost use Rattle.rule_text.specs.Progress.{Kept, Standing, FewKept, Rows, Concludes, Onward, EndsRule, Goes, Within, midst};
 use block_tables::CONCLUSION_WIDTH;
 use block_tables::Conclusions;
 use block_tables::RULE_WIDTH;
@@ -264,12 +264,12 @@ fn rule_given(
     number: u32,
     words: u32,
 ) -> Progress
-    requires { ⌜ Fits (now s) (p .cursor) × Symbols (now s) (now names) (now symbols) × Few (p .totals)
+    requires { ⌜ Fits (now s) (p .cursor) × Symbols (now s) (now names) (now symbols) × FewKept (p .totals)
         × (p .totals .rules < ruleLimit) ⌝ }
     ensures { λ r. ⌜ ((b : Block) (rs : List Rule) (q : Rule)
         → Describes (now (s .entry)) (now (names .entry)) (now (symbols .entry)) b
         → length (conclusionsOf (midst b rs q)) ≡ p .totals .conclusions → q .weight ≡ M
-        → Ends (λ y. expect SEMICOLON (weightedOf (listed conclusionOf (expect THEN y))))
+        → EndsRule (λ y. expect SEMICOLON (weightedOf (listed conclusionOf (expect THEN y))))
         (now (s .entry)) b rs q p r number words
         (now (rules .entry)) (now (rules .exit)) (now (conclusions .entry)) (now (conclusions .exit))) ⌝ }
     ensures within { λ r. ⌜ Within (now (s .entry)) p r ⌝ }
@@ -310,7 +310,7 @@ fn rule_from(
     conclusions: &mut Conclusions,
     p: Progress,
 ) -> Progress
-    requires { ⌜ Fits (now s) (p .cursor) × Symbols (now s) (now names) (now symbols) × Few (p .totals)
+    requires { ⌜ Fits (now s) (p .cursor) × Symbols (now s) (now names) (now symbols) × FewKept (p .totals)
         × (p .totals .rules < ruleLimit)
         × Standing (now s) (now names) (now symbols) (now rules) (now words) (now conclusions) (p .totals) ⌝ }
     ensures { λ r. ⌜ ((b : Block) → Describes (now (s .entry)) (now (names .entry)) (now (symbols .entry)) b
@@ -371,7 +371,7 @@ fn rule(
     conclusions: &mut Conclusions,
     p: Progress,
 ) -> Progress
-    requires { ⌜ Fits (now s) (p .cursor) × Symbols (now s) (now names) (now symbols) × Few (p .totals)
+    requires { ⌜ Fits (now s) (p .cursor) × Symbols (now s) (now names) (now symbols) × FewKept (p .totals)
         × Standing (now s) (now names) (now symbols) (now rules) (now words) (now conclusions) (p .totals) ⌝ }
     ensures { λ r. ⌜ ((b : Block) → Describes (now (s .entry)) (now (names .entry)) (now (symbols .entry)) b
         → Kept (b .rules) (now (rules .entry)) (now (words .entry)) (now (conclusions .entry)) (p .totals)
@@ -405,7 +405,7 @@ pub fn rules(
     conclusions: &mut Conclusions,
     p: Progress,
 ) -> Progress
-    requires { ⌜ Fits (now s) (p .cursor) × Symbols (now s) (now names) (now symbols) × Few (p .totals)
+    requires { ⌜ Fits (now s) (p .cursor) × Symbols (now s) (now names) (now symbols) × FewKept (p .totals)
         × Standing (now s) (now names) (now symbols) (now rules) (now words) (now conclusions) (p .totals) ⌝ }
     ensures { λ r. ⌜ ((b : Block) → Describes (now (s .entry)) (now (names .entry)) (now (symbols .entry)) b
         → Kept (b .rules) (now (rules .entry)) (now (words .entry)) (now (conclusions .entry)) (p .totals)
