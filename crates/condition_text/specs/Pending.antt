@@ -1,6 +1,5 @@
 -- A helper: what reading a condition adds: the rules' reading of its text, and its words in postfix order.
--- `ReadsCondition` ties
--- both to the model's `ConditionRead` and `postfix`.
+-- `ReadsCondition` ties both to the model's `ConditionRead` and `postfix`.
 use mathlib.Core.Path.{_≡_}
 use mathlib.Core.List.{List, [], _∷_}
 use Prim.Native.Nat.{ℕ, _+_, _≤_, _<_}
