@@ -5,14 +5,15 @@ use mathlib.Core.List.{List, [], _∷_, map}
 use Prim.Native.Nat.{ℕ, suc, _+_, _-_, _<_}
 use native.Mathlib.Omega.{arith}
 use borrow.Author.Tests.{eq-eqb, ne-eqb, lt-ltb, le-ltb, ltb-true, ltb-false}
-use lib.Dec.{ltb}
+use lib.Dec.{eqb, ltb}
 use lib.ListN.{length, getD, replicate}
 use Rattle.model.specs.Basic.{all, isEmpty}
+use Rattle.model.specs.Bounds.{inputLimit}
 use Rattle.model.specs.Block as block
 use Rattle.model.specs.Block.{Block, termsOf, singletonsOf, emptyBlock}
 use Rattle.model.specs.Image.{tab}
 use Rattle.model.specs.Keywords.{END, END-FUNCTION-BLOCK, END-RULEBLOCK}
-use Rattle.model.specs.Parse.{Parse, Checks, is, refuse, advance, judged, expect}
+use Rattle.model.specs.Parse.{Parse, Part, is, refuse, advance, judged, expect}
 use Rattle.model.specs.Tokens.{tokens}
 use Rattle.model.specs.Reader.{start, partsThere, endOfBlock}
 use Rattle.laws.proofs.Places.{all-start}
@@ -20,11 +21,11 @@ use Rattle.laws.proofs.Arrays.{replicate-at}
 use Rattle.block_tables.specs.declared.Tables.{Tables}
 use Rattle.block_tables.specs.View.{zero-crisp, no-input, no-output, no-point, blockView, Holds}
 use Rattle.cursor.specs.declared.Cursor.{Cursor}
-use Rattle.cursor.specs.View.{seen, Step, fault}
-use Rattle.cursor.proofs.Laws.{kind-seen, block-seen, lost-kind, judged-bad}
+use Rattle.cursor.specs.View.{seen, Fits, Step}
+use Rattle.cursor.proofs.Laws.{kind-seen, block-seen, steps, lost-kind}
 use Rattle.parse_state.specs.Reads.{view}
 use Rattle.symbol_table.specs.Symbols.{Describes, first, inputCount, outputCount}
-use Rattle.block_text.specs.Block.{backText, haveTerms, Ends}
+use Rattle.block_text.specs.Block.{backText, blockEnd, textEnd, backTo, haveTerms, allHaveTerms, Ends}
 
 -- THE EMPTY TABLES
 abbrev pub empty : Tables
@@ -107,73 +108,84 @@ module _ (s names symbols : List ℕ) (b : Block) (d : Describes s names symbols
       ∙ above (first symbols i) (first symbols (i + 1)) ∙ ap (ltb 0) (sym (d .terms i (omega (arith, d .inputs)))))
       ∙ ap (λ (n : ℕ). all (λ k. ltb (first symbols k) (first symbols (k + 1))) (tab (λ k. k) n 0)) (d .inputs)
 
-  outputs-there : all (λ v. not (isEmpty (v .terms))) (b .outputs) ≡ haveTerms symbols 8 (outputCount symbols)
+  outputs-there : all (λ v. not (isEmpty (v .terms))) (b .outputs) ≡ haveTerms symbols inputLimit (outputCount symbols)
   unfolding haveTerms singletonsOf
   outputs-there =
-      parts-by (λ (v : block.Output). v .terms) (λ k. ltb (first symbols k) (first symbols (k + 1))) (b .outputs) 8
-      (λ o h. above (first symbols (8 + o)) (first symbols (8 + o + 1)) ∙ ap (ltb 0) (sym (d .singletons o (omega (arith, d .outputs)))))
-      ∙ ap (λ (n : ℕ). all (λ k. ltb (first symbols k) (first symbols (k + 1))) (tab (λ k. k) n 8)) (d .outputs)
+      parts-by (λ (v : block.Output). v .terms) (λ k. ltb (first symbols k) (first symbols (k + 1))) (b .outputs) inputLimit
+      (λ o h. above (first symbols (inputLimit + o)) (first symbols (inputLimit + o + 1)) ∙ ap (ltb 0) (sym (d .singletons o (omega (arith, d .outputs)))))
+      ∙ ap (λ (n : ℕ). all (λ k. ltb (first symbols k) (first symbols (k + 1))) (tab (λ k. k) n inputLimit)) (d .outputs)
 
-  pub parts-there : partsThere b ≡ haveTerms symbols 0 (inputCount symbols) && haveTerms symbols 8 (outputCount symbols)
-  unfolding partsThere
+  pub parts-there : partsThere b ≡ allHaveTerms symbols
+  unfolding partsThere allHaveTerms
   parts-there = λ j. inputs-there j && outputs-there j
 
 -- THE END
--- advancing changes no outcome
-passed : (q : Parse) → Ends q (advance q)
-unfolding advance
-passed q = record { why = refl; place = refl; block = refl }
+-- a step by another part that reads the same there
+as-step : {f g : Part} {s : List ℕ} {c r : Cursor} → ((b : Block) (n : ℕ) → f (seen s c b n) ≡ g (seen s c b n)) → Step g s c r → Step f s c r
+as-step e x = record { reads = λ b n. x .reads b n ∙ sym (e b n); fewer = x .fewer; fits = x .fits; sticky = x .sticky }
 
-ends-as : {q u v : Parse} → Ends q u → u ≡ v → Ends q v
-ends-as {q} {u} {v} x e = record {
-  why = x .why ∙ ap (λ (z : Parse). z .why) e;
-  place = x .place ∙ ap (λ (z : Parse). z .place) e;
-  block =
-      x .block ∙ ap (λ (z : Parse). z .block) e;
-}
+-- the end of the text stays
+module _ (s : List ℕ) (r : Cursor) where
+  ended : r .kind ≡ END → Fits s r → Step textEnd s r r
+  unfolding textEnd
+  ended h f = record { reads = λ b n. sym (simp (kind-seen s r b n, eq-eqb _ _ h) refl); fewer = omega arith; fits = f; sticky = λ q. q }
 
-module _ (s : List ℕ) (r : Cursor) (b : Block) (n : ℕ) where
-  at-end : r .kind ≡ 0 → Ends (seen s r b n) (expect END (seen s r b n))
-  unfolding expect
-  at-end h = ends-as (passed (seen s r b n)) (sym (simp (kind-seen s r b n, eq-eqb _ _ h) refl))
+  more : (q : Cursor) → (r .kind ≡ END → ⊥) → Step (refuse 2) s r q → Step textEnd s r q
+  unfolding textEnd
+  more q h = as-step {f = textEnd} {g = refuse 2} {s = s} {c = r} {r = q} (λ b n. simp (kind-seen s r b n, ne-eqb _ _ h) refl)
 
-module _ (s : List ℕ) (c d : Cursor) (x : Step (expect END-RULEBLOCK) s c d) (b : Block) (n : ℕ) where
-  abbrev q : Parse
-  q = seen s d b n
-
-  abbrev checks : Checks
-  checks = (is END-FUNCTION-BLOCK q, 2) ∷ (partsThere (q .block), 9) ∷ []
-
-  back-is : (u : Parse) → endOfBlock q ≡ u → expect END u ≡ backText (seen s c b n)
-  unfolding backText
-  back-is u e = ap (expect END) (sym e) ∙ ap (λ (z : Parse). expect END (endOfBlock z)) (x .reads b n)
+module _ (complete : Bool) (s : List ℕ) (c d : Cursor) (x : Step (expect END-RULEBLOCK) s c d) where
+  to-end : (e r : Cursor) → Step (blockEnd complete) s d e → Step textEnd s e r → Step (backTo complete) s c r
+  unfolding backTo
+  to-end e r y z = steps (steps x y) z
 
   -- refused at the end of the block
-  pub back-refused : (w : ℕ) (r : Cursor) → fault checks ≡ w → (w ≡ 0 → ⊥) → (r .why ≡ 0 → ⊥) → Step (refuse w) s d r
-      → Ends (seen s r b n) (backText (seen s c b n))
-  unfolding endOfBlock
-  back-refused w r f h l y =
-      let e : endOfBlock q ≡ seen s r b n = judged-bad q (advance q) w checks [] f h ∙ sym (y .reads b n) in
-      ends-as (at-end s r b n (lost-kind s r (y .fits) l)) (back-is (seen s r b n) e)
+  lost : (w : ℕ) (r : Cursor) → (r .why ≡ 0 → ⊥) → ((b : Block) (n : ℕ) → blockEnd complete (seen s d b n) ≡ refuse w (seen s d b n))
+      → Step (refuse w) s d r → Step (backTo complete) s c r
+  lost w r h e y = to-end r r (as-step e y) (ended s r (lost-kind s r (y .fits) h) (y .fits))
 
-  pub not-end : (d .kind ≡ 140 → ⊥) → fault checks ≡ 2
-  unfolding fault
-  not-end h = simp (kind-seen s d b n, ne-eqb _ _ h) refl
+  pub no-end : (r : Cursor) → (r .why ≡ 0 → ⊥) → (d .kind ≡ END-FUNCTION-BLOCK → ⊥) → Step (refuse 2) s d r → Step (backTo complete) s c r
+  unfolding blockEnd judged
+  no-end r h k = lost 2 r h (λ b n. simp (kind-seen s d b n, ne-eqb _ _ k) refl)
 
-  pub not-all : d .kind ≡ 140 → partsThere b ≡ false → fault checks ≡ 9
-  unfolding fault
-  not-all h p = simp (kind-seen s d b n, block-seen s d b n, eq-eqb _ _ h, p) refl
+  module _ (k : d .kind ≡ END-FUNCTION-BLOCK) where
+    pub part-missing : (r : Cursor) → (r .why ≡ 0 → ⊥) → complete ≡ false → Step (refuse 9) s d r → Step (backTo complete) s c r
+    unfolding blockEnd judged
+    part-missing r h f = lost 9 r h (λ b n. simp (kind-seen s d b n, eq-eqb _ _ k, f) refl)
 
-  module _ (h : d .kind ≡ 140) (p : partsThere b ≡ true) (e : Cursor) (y : Step advance s d e) where
-    ended : endOfBlock q ≡ seen s e b n
-    unfolding endOfBlock judged
-    ended = simp (kind-seen s d b n, block-seen s d b n, eq-eqb _ _ h, p) (sym (y .reads b n))
+    module _ (e : Cursor) (t : complete ≡ true) (y : Step advance s d e) where
+      block-ended : Step (blockEnd complete) s d e
+      unfolding blockEnd judged
+      block-ended = as-step {f = blockEnd complete} {g = advance} {s = s} {c = d} {r = e} (λ b n. simp (kind-seen s d b n, eq-eqb _ _ k, t) refl) y
 
-    pub back-ends : e .kind ≡ 0 → Ends (seen s e b n) (backText (seen s c b n))
-    back-ends k = ends-as (at-end s e b n k) (back-is (seen s e b n) ended)
+      pub at-end : e .kind ≡ END → Step (backTo complete) s c e
+      at-end h = to-end e e block-ended (ended s e h (y .fits))
 
-    pub back-more : (e .kind ≡ 0 → ⊥) → (r : Cursor) → Step (refuse 2) s e r → Ends (seen s r b n) (backText (seen s c b n))
-    unfolding expect
-    back-more k r z =
-        ends-as (record { why = refl; place = refl; block = refl })
-        (z .reads b n ∙ sym (simp (kind-seen s e b n, ne-eqb _ _ k) refl) ∙ back-is (seen s e b n) ended)
+      pub not-at-end : (r : Cursor) → (e .kind ≡ END → ⊥) → Step (refuse 2) s e r → Step (backTo complete) s c r
+      not-at-end r h z = to-end e r block-ended (more s e r h z)
+
+-- `backTo` has the outcome of `backText`
+expect-block : (k : ℕ) (q : Parse) → expect k q .block ≡ q .block
+unfolding expect advance refuse
+expect-block k q = by (is k q) (eqb (q .why) 0) refl refl
+  where
+    by : (t u : Bool) → is k q ≡ t → eqb (q .why) 0 ≡ u → expect k q .block ≡ q .block
+    by true u e f = simp e
+    by false true e f = simp (e, f)
+    by false false e f = simp (e, f)
+
+text-ends : (q : Parse) → Ends (textEnd q) (expect END q)
+unfolding textEnd expect advance
+text-ends q = by (is END q) refl
+  where
+    by : (t : Bool) → is END q ≡ t → Ends (textEnd q) (expect END q)
+    by true e = simp e (record { why = refl; place = refl; block = refl })
+    by false e = simp e (record { why = refl; place = refl; block = refl })
+
+pub back-ends : (complete : Bool) (s : List ℕ) (c r : Cursor) → Step (backTo complete) s c r → (b : Block) (n : ℕ) → partsThere b ≡ complete
+    → Ends (seen s r b n) (backText (seen s c b n))
+unfolding backTo backText endOfBlock blockEnd
+back-ends complete s c r x b n p =
+    let q = expect END-RULEBLOCK (seen s c b n) in
+    let e : partsThere (q .block) ≡ complete = ap partsThere (expect-block END-RULEBLOCK (seen s c b n) ∙ block-seen s c b n) ∙ p in
+    rw (x .reads b n, e) (text-ends (blockEnd complete q))

@@ -1,18 +1,20 @@
--- A helper: the text of a function block before its rule block and behind it. `parts` of reader/proofs/Laws ties both
--- to the model's `functionBlock`.
+-- A helper: the text of a function block before its rule block and behind it. `parts` of reader/proofs/Laws ties
+-- `frontText` and `backText` to the model's `functionBlock`, `back-ends` of proofs/Laws ties `backTo` to `backText`, and
+-- `parts-there` there ties `allHaveTerms` to the model's `partsThere`.
 use mathlib.Core.Path.{_≡_}
-use mathlib.Core.Bool.{Bool}
-use mathlib.Core.List.{List}
+use mathlib.Core.Bool.{Bool, _&&_}
+use mathlib.Core.List.{List, [], _∷_}
 use Prim.Native.Nat.{ℕ, _+_}
 use lib.Dec.{ltb}
+use Rattle.model.specs.Basic.{_▸_, if_then_else_, all}
+use Rattle.model.specs.Bounds.{inputLimit}
 use Rattle.model.specs.Block.{withName}
-use Rattle.model.specs.Basic.{_▸_, all}
-use Rattle.model.specs.Keywords.{END, NAME, DEFUZZIFY, END-RULEBLOCK, END-VAR, FUNCTION-BLOCK, FUZZIFY, VAR-INPUT, VAR-OUTPUT}
-use Rattle.model.specs.Parse.{Parse, Part, expect, repeated, ownName}
+use Rattle.model.specs.Keywords.{END, NAME, DEFUZZIFY, END-FUNCTION-BLOCK, END-RULEBLOCK, END-VAR, FUNCTION-BLOCK, FUZZIFY, VAR-INPUT, VAR-OUTPUT}
+use Rattle.model.specs.Parse.{Parse, Part, is, refuse, advance, judged, expect, repeated, ownName}
 use Rattle.model.specs.Declarations.{inputDeclaration, outputDeclaration, fuzzify, defuzzify}
 use Rattle.model.specs.Image.{tab}
 use Rattle.model.specs.Reader.{endOfBlock}
-use Rattle.symbol_table.specs.Symbols.{first}
+use Rattle.symbol_table.specs.Symbols.{first, inputCount, outputCount}
 
 unfoldable pub variablesText : Part
 variablesText r =
@@ -27,9 +29,25 @@ frontText r =
 unfoldable pub backText : Part
 backText r = r ▸ expect END-RULEBLOCK ▸ endOfBlock ▸ expect END
 
+-- the end of the block, where every variable has its part or not
+unfoldable pub blockEnd : Bool → Part
+blockEnd complete r = judged ((is END-FUNCTION-BLOCK r, 2) ∷ (complete, 9) ∷ []) r (advance r)
+
+-- the end of the text, which stays the current token
+unfoldable pub textEnd : Part
+textEnd r = if is END r then r else refuse 2 r
+
+-- `backText` with no look at the block, up to the end of the text
+unfoldable pub backTo : Bool → Part
+backTo complete r = r ▸ expect END-RULEBLOCK ▸ blockEnd complete ▸ textEnd
+
 -- each of n variables from v on has a term
 unfoldable pub haveTerms : List ℕ → ℕ → ℕ → Bool
 haveTerms symbols v n = all (λ k. ltb (first symbols k) (first symbols (k + 1))) (tab (λ k. k) n v)
+
+-- each input and each output
+unfoldable pub allHaveTerms : List ℕ → Bool
+allHaveTerms symbols = haveTerms symbols 0 (inputCount symbols) && haveTerms symbols inputLimit (outputCount symbols)
 
 -- two readings have the same outcome
 pub record Ends (r q : Parse) : Type 0 where

@@ -3,13 +3,13 @@ ghost use mathlib.Core.Path.{_≡_};
 ghost use mathlib.Core.List.{List};
 ghost use Prim.Native.Nat.{ℕ, _+_, _≤_};
 ghost use Rattle.model.specs.Bounds.{inputLimit, outputLimit, variableLimit};
-ghost use Rattle.model.specs.Block.{Block, emptyBlock};
-ghost use Rattle.model.specs.Reader.{start, partsThere};
+ghost use Rattle.model.specs.Block.{emptyBlock};
+ghost use Rattle.model.specs.Reader.{start};
 ghost use Rattle.block_tables.specs.View.{blockView, Holds};
-ghost use Rattle.cursor.specs.View.{seen, Fits};
+ghost use Rattle.cursor.specs.View.{Fits, Step};
 ghost use Rattle.parse_state.specs.Reads.{view, Good, Reads};
-ghost use Rattle.symbol_table.specs.Symbols.{Describes, inputCount, outputCount};
-ghost use Rattle.block_text.specs.Block.{variablesText, frontText, backText, haveTerms, Ends};
+ghost use Rattle.symbol_table.specs.Symbols.{inputCount, outputCount};
+ghost use Rattle.block_text.specs.Block.{variablesText, frontText, backTo, haveTerms, allHaveTerms};
 use block_tables::Input;
 use block_tables::Output;
 use block_tables::Point;
@@ -114,8 +114,7 @@ fn have_terms(symbols: &SymbolTable, v: usize, n: usize) -> bool
 // Whether every variable has its part.
 pub fn is_complete(symbols: &SymbolTable) -> bool
     requires { ⌜ (inputCount (now symbols) ≤ inputLimit) × (outputCount (now symbols) ≤ outputLimit) ⌝ }
-    ensures { λ r. ⌜ ((s names : List ℕ) (b : Block) → Describes s names (now (symbols .entry)) b → r
-        ≡ partsThere b) ⌝ }
+    ensures { λ r. ⌜ r ≡ allHaveTerms (now (symbols .entry)) ⌝ }
 {
     if have_terms(symbols, 0, symbols[symbol_table::INPUT_COUNT]) {
         return have_terms(symbols, bounds::INPUTS, symbols[symbol_table::OUTPUT_COUNT]);
@@ -126,9 +125,7 @@ pub fn is_complete(symbols: &SymbolTable) -> bool
 // From behind the last rule to the end of the text, where every variable has its part or not.
 pub fn back(s: &[u8], c: Cursor, complete: bool) -> Cursor
     requires { ⌜ Fits (now s) c ⌝ }
-    ensures { λ r. ⌜ ((b : Block) (n : ℕ) → partsThere b ≡ complete
-        → Ends (seen (now (s .entry)) r b n) (backText (seen (now (s .entry)) c b n))) ⌝ }
-    ensures sticky { λ r. ⌜ (r .why ≡ 0 → c .why ≡ 0) ⌝ }
+    ensures { λ r. ⌜ Step (backTo complete) (now (s .entry)) c r ⌝ }
 {
     let d = cursor::expect(s, c, token_kinds::END_RULEBLOCK);
     if d.kind != token_kinds::END_FUNCTION_BLOCK {
@@ -138,8 +135,8 @@ pub fn back(s: &[u8], c: Cursor, complete: bool) -> Cursor
         return cursor::refuse(d, 9);
     }
     let e = cursor::advance(s, d);
-    if e.kind != token_kinds::END {
-        return cursor::refuse(e, 2);
+    if e.kind == token_kinds::END {
+        return e;
     }
-    e
+    cursor::refuse(e, 2)
 }

@@ -9,6 +9,7 @@ use borrow.Author.Tests.{eq-eqb, ne-eqb, lt-ltb, le-ltb}
 use lib.ListN.{length, take, drop, length-append}
 use lib.Seq.{take-take, take-at, length-take-le, sets, sets-eq}
 use Rattle.model.specs.Basic.{if_then_else_}
+use Rattle.model.specs.Bounds.{wordLimit, variableLimit, termLimit}
 use Rattle.model.specs.Block.{Block, Op, Condition, term, two, emptyBlock}
 use Rattle.model.specs.Image.{postfix, opWord}
 use Rattle.model.specs.Keywords.{CLOSE, IS}
@@ -23,7 +24,7 @@ use Rattle.cursor.specs.View.{seen, textOf, Fits, left, Step, fault}
 use Rattle.cursor.proofs.Laws.{enough, kind-seen, text-seen, block-seen, words-seen, lost-kind, lost-refuse, lost-expect, judged-bad, judged-good, numbered}
 use Rattle.symbol_table.specs.Symbols.{Describes, inputCount, termCount, first, among}
 use Rattle.condition_text.specs.declared.Pending.{Pending}
-use Rattle.condition_text.specs.Pending.{Room, Adds, Reads, Within, Stops, Counts, Puts}
+use Rattle.condition_text.specs.Pending.{Room, Adds, ReadsCondition, Balanced, Stops, Counts, Puts}
 
 abbrev pub at : Pending → Cursor → Pending
 at p d = record { cursor = d; words = p .words; put = p .put }
@@ -47,8 +48,8 @@ refused-left s w c d h a =
     simp (eq-eqb _ _ e)
 
 -- WHATEVER THE BLOCK
-pub within-then : {s : List ℕ} {j k : ℕ} {p q r : Pending} {old mid new : List ℕ} → Within s j p q old mid → Within s k q r mid new
-    → Within s (j + k) p r old new
+pub within-then : {s : List ℕ} {j k : ℕ} {p q r : Pending} {old mid new : List ℕ} → Balanced s j p q old mid → Balanced s k q r mid new
+    → Balanced s (j + k) p r old new
 within-then {s} {j} {k} {p} {q} {r} {old} {mid} {new} a b = record {
   fewer = let u = a .fewer in let v = b .fewer in omega arith;
   room = b .room;
@@ -60,8 +61,8 @@ within-then {s} {j} {k} {p} {q} {r} {old} {mid} {new} a b = record {
 }
 
 -- a word that was counted is put
-pub counted-then : {s : List ℕ} {p q r : Pending} {old new : List ℕ} (k : ℕ) → p .cursor .why ≡ 0 → Counts s p q → Within s (k + 1) q r old new
-    → Within s k p r old new
+pub counted-then : {s : List ℕ} {p q r : Pending} {old new : List ℕ} (k : ℕ) → p .cursor .why ≡ 0 → Counts s p q → Balanced s (k + 1) q r old new
+    → Balanced s k p r old new
 counted-then {s} {p} {q} {r} {old} {new} k h a b = record {
   fewer = let u = a .fewer in let v = b .fewer in omega arith;
   room = b .room;
@@ -71,7 +72,7 @@ counted-then {s} {p} {q} {r} {old} {new} k h a b = record {
   stays = rw (a .put) at (b .stays);
 }
 
-pub stepped : {f : Part} {s : List ℕ} {d : Cursor} (p : Pending) (l : List ℕ) → Room s p → Step f s (p .cursor) d → Within s 0 p (at p d) l l
+pub stepped : {f : Part} {s : List ℕ} {d : Cursor} (p : Pending) (l : List ℕ) → Room s p → Step f s (p .cursor) d → Balanced s 0 p (at p d) l l
 stepped p l g a = record {
   fewer = a .fewer;
   room = record { fits = a .fits; put = g .put; words = g .words };
@@ -81,7 +82,7 @@ stepped p l g a = record {
   stays = refl;
 }
 
-pub stopped : {f : Part} {s : List ℕ} {p r : Pending} (k : ℕ) (l : List ℕ) → Room s p → Step f s (p .cursor) (r .cursor) → Stops p r → Within s k p r l l
+pub stopped : {f : Part} {s : List ℕ} {p r : Pending} (k : ℕ) (l : List ℕ) → Room s p → Step f s (p .cursor) (r .cursor) → Stops p r → Balanced s k p r l l
 stopped k l g a z = record {
   fewer = a .fewer;
   room = record {
@@ -96,7 +97,7 @@ stopped k l g a z = record {
   stays = refl;
 }
 
-pub put-within : {s : List ℕ} {p r : Pending} {w : ℕ} {old new : List ℕ} → Room s p → Puts p r w old new → Within s 1 p r old new
+pub put-within : {s : List ℕ} {p r : Pending} {w : ℕ} {old new : List ℕ} → Room s p → Puts p r w old new → Balanced s 1 p r old new
 put-within {s} {p} {r} {w} {old} {new} g a = record {
   fewer = rw (a .cursor) (omega arith);
   room = record { fits = rw (a .cursor) (g .fits); put = a .most; words = let u = a .words in let v = g .words in omega arith };
@@ -111,11 +112,11 @@ pub put-seen : {p r : Pending} {w : ℕ} {old new : List ℕ} (s : List ℕ) (b 
 put-seen s b a = rw (a .cursor, a .words)
 
 -- a token is counted, what follows it read, its word put
-pub turned : {s : List ℕ} {k : ℕ} {p q m r : Pending} {w : ℕ} {old mid new : List ℕ} → p .cursor .why ≡ 0 → Counts s p q → Within s k q m old mid
-    → Puts m r w mid new → Within s k p r old new
+pub turned : {s : List ℕ} {k : ℕ} {p q m r : Pending} {w : ℕ} {old mid new : List ℕ} → p .cursor .why ≡ 0 → Counts s p q → Balanced s k q m old mid
+    → Puts m r w mid new → Balanced s k p r old new
 turned {s} {k} h n a u = counted-then k h n (within-then a (put-within (a .room) u))
 
-pub unmoved : {s : List ℕ} {p : Pending} (l : List ℕ) → Room s p → Within s 0 p p l l
+pub unmoved : {s : List ℕ} {p : Pending} (l : List ℕ) → Room s p → Balanced s 0 p p l l
 unmoved l g = record { fewer = omega arith; room = g; sticky = λ e. e; even = λ e. omega arith; grows = omega arith; stays = refl }
 
 -- WORDS PUT
@@ -133,32 +134,32 @@ words-put {m} {n} {ws} {old} {new} a h =
     ap (λ (l : List ℕ). take n l) (a .said ∙ sets-eq ws old m (omega arith))
     ∙ take-at (take m old ++ ws) (drop (m + length ws) old) n k
 
-pub from : {s : List ℕ} {b : Block} {p q r : Pending} {g : ConditionRead} {old new : List ℕ} → q .put ≡ p .put → Reads s b q r g old new
-    → Reads s b p r g old new
+pub from : {s : List ℕ} {b : Block} {p q r : Pending} {g : ConditionRead} {old new : List ℕ} → q .put ≡ p .put → ReadsCondition s b q r g old new
+    → ReadsCondition s b p r g old new
 from {s} {b} {p} {q} {r} {g} {old} {new} e a = record { seen = a .seen; adds = λ h. rw e at (a .adds h) }
 
 -- nothing is said of the words of a refused reading
 pub refuses : {s : List ℕ} {b : Block} {p r : Pending} {g : ConditionRead} {old new : List ℕ} (w : ℕ) → Stops p r
-    → Step (refuse w) s (p .cursor) (r .cursor) → g .parse ≡ refuse w (seen s (p .cursor) b (p .words)) → Reads s b p r g old new
+    → Step (refuse w) s (p .cursor) (r .cursor) → g .parse ≡ refuse w (seen s (p .cursor) b (p .words)) → ReadsCondition s b p r g old new
 refuses {s} {b} {p} w z a e = record { seen = rw (z .words) (a .reads b (p .words)) ∙ sym e; adds = λ h. absurd (z .why h) }
 
 -- a word behind what was read
-pub negates : {s : List ℕ} {b : Block} {p m r : Pending} {g : ConditionRead} {old mid new : List ℕ} → Reads s b p m g old mid → Puts m r 0 mid new
-    → Reads s b p r (negatedRead g) old new
+pub negates : {s : List ℕ} {b : Block} {p m r : Pending} {g : ConditionRead} {old mid new : List ℕ} → ReadsCondition s b p m g old mid → Puts m r 0 mid new
+    → ReadsCondition s b p r (negatedRead g) old new
 unfolding postfix
 negates {s} {b} a u = record { seen = put-seen s b u ∙ a .seen; adds = λ h. let e = rw (u .cursor) at h in adds (a .adds e) (u .adds e) }
 
-pub closes : {s : List ℕ} {b : Block} {p m : Pending} {d : Cursor} {g : ConditionRead} {old new : List ℕ} → Reads s b p m g old new
-    → Step (expect CLOSE) s (m .cursor) d → Reads s b p (at m d) (closed g) old new
+pub closes : {s : List ℕ} {b : Block} {p m : Pending} {d : Cursor} {g : ConditionRead} {old new : List ℕ} → ReadsCondition s b p m g old new
+    → Step (expect CLOSE) s (m .cursor) d → ReadsCondition s b p (at m d) (closed g) old new
 closes {s} {b} {p} {m} a e = record { seen = e .reads b (m .words) ∙ ap (expect CLOSE) (a .seen); adds = λ h. a .adds (e .sticky h) }
 
 -- THE COUNTED TOKEN
 module _ (s : List ℕ) (c d : Cursor) (n : ℕ) (b : Block) where
-  pub word-more : n < 640 → Step advance s c d → seen s d b (n + 1) ≡ word (seen s c b n)
+  pub word-more : n < wordLimit → Step advance s c d → seen s d b (n + 1) ≡ word (seen s c b n)
   unfolding word seen advance
   word-more h a = simp (lt-ltb _ _ h) (a .reads b (n + 1))
 
-  pub word-full : 640 ≤ n → Step (refuse 6) s c d → seen s d b n ≡ word (seen s c b n)
+  pub word-full : wordLimit ≤ n → Step (refuse 6) s c d → seen s d b n ≡ word (seen s c b n)
   unfolding word
   word-full h a = simp (words-seen, le-ltb _ _ h) (a .reads b n)
 
@@ -204,7 +205,7 @@ module _ (s names symbols : List ℕ) (b : Block) (D : Describes s names symbols
         ∙ ap (λ (j : ℕ). termOrNot j (expect IS (word here))) x)
 
   module _ (e : 0 ≡ fault (aName here [])) (i : ℕ) (g : i < inputCount symbols) (j : ℕ)
-      (f : j ≡ among s names (textOf s c) (termCount symbols i) (14 + i * 7)) where
+      (f : j ≡ among s names (textOf s c) (termCount symbols i) (variableLimit + i * termLimit)) where
     the-term : termOf i (text here) b ≡ j
     the-term = simp text-seen (D .term (textOf s c) i g ∙ sym f)
 
@@ -229,7 +230,7 @@ module _ (s names symbols : List ℕ) (b : Block) (D : Describes s names symbols
 -- the term's word behind those that are put
 pub names-term : {s : List ℕ} {b : Block} {p r : Pending} {d : Cursor} {g : ConditionRead} {w : ℕ} {old new : List ℕ}
     → Step advance s (p .cursor) d → Puts (at p d) r w old new → g .parse ≡ advance (seen s (p .cursor) b (p .words)) → w ∷ [] ≡ postfix (g .tree)
-    → Reads s b p r g old new
+    → ReadsCondition s b p r g old new
 names-term {s} {b} {p} {r} {d} {g} {w} {old} {new} a u e f = record {
   seen = put-seen s b u ∙ a .reads b (p .words) ∙ sym e;
   adds = λ h. rw f at (u .adds (rw (u .cursor) at h));
@@ -264,7 +265,7 @@ module _ (part : Parse → ConditionRead) (k : ℕ) (o : Op) (s : List ℕ) (b :
 
   -- q is p with its token counted, m what part reads from there, r that with the word put
   pub goes : (p₀ p q m r : Pending) (l₀ l mid new : List ℕ) → Going part k o s b p₀ l₀ p l → p .cursor .kind ≡ k → p .cursor .why ≡ 0
-      → view q ≡ word (view p) → q .put ≡ p .put → Reads s b q m (part (view q)) l mid → Puts m r (opWord o) mid new
+      → view q ≡ word (view p) → q .put ≡ p .put → ReadsCondition s b q m (part (view q)) l mid → Puts m r (opWord o) mid new
       → left s (r .cursor) < left s (p .cursor) → Going part k o s b p₀ l₀ r new
   unfolding postfix
   goes p₀ p q m r l₀ l mid new G e z v w a u lt n t₀ h = (tree, again-more (λ f. chainOn f part k o) turn lt (G n t₀ h .1), whole)
@@ -288,12 +289,12 @@ module _ (part : Parse → ConditionRead) (k : ℕ) (o : Op) (s : List ℕ) (b :
           ∙ ap (λ (x : Parse). chainOn f part k o (conditionRead x tree)) (sym (put-seen s b u ∙ a .seen))
 
   pub stops : (e p₀ p : Pending) (old l₀ l : List ℕ) → Going part k o s b p₀ l₀ p l → (p .cursor .kind ≡ k → ⊥)
-      → Reads s b e p₀ (part (view e)) old l₀ → left s (p₀ .cursor) ≤ left s (e .cursor) → Reads s b e p (chain part k o (view e)) old l
+      → ReadsCondition s b e p₀ (part (view e)) old l₀ → left s (p₀ .cursor) ≤ left s (e .cursor) → ReadsCondition s b e p (chain part k o (view e)) old l
   unfolding chain
   stops e p₀ p old l₀ l G n r lt =
       let z = enough s (e .cursor) b (e .words) in
       let g = G (suc (length (view e .rest))) (part (view e) .tree) (omega arith) in
-      subst (λ (x : ConditionRead). Reads s b e p x old l)
+      subst (λ (x : ConditionRead). ReadsCondition s b e p x old l)
       (again-end (λ f. chainOn f part k o) (λ f. no-join k part o f (conditionRead (view p) (g .0))
       (ne-eqb _ _ (λ z. n (sym (kind-seen s (p .cursor) b (p .words)) ∙ z)))) (g .1)
       ∙ ap (λ (x : Parse). chainOn (suc (length (view e .rest))) part k o (conditionRead x (part (view e) .tree))) (r .seen))

@@ -1,5 +1,5 @@
--- A helper: what reading a condition adds: the rules' reading of its text, and its words in postfix order. `Reads` ties
--- both to the model's `ConditionRead` and `postfix`.
+-- A helper: what reading a condition adds: the rules' reading of its text, and its words in postfix order.
+-- `ReadsCondition` ties both to the model's `ConditionRead` and `postfix`.
 use mathlib.Core.Path.{_≡_}
 use mathlib.Core.List.{List, [], _∷_}
 use Prim.Native.Nat.{ℕ, _+_, _≤_, _<_}
@@ -10,7 +10,13 @@ use Rattle.model.specs.Block.{Block}
 use Rattle.model.specs.Rules.{ConditionRead}
 use Rattle.model.specs.Image.{postfix}
 use Rattle.cursor.specs.View.{seen, Fits, left}
+use Rattle.symbol_table.specs.Symbols.{Describes}
 use Rattle.condition_text.specs.declared.Pending.{Pending}
+
+-- names and symbols are those of a block, so that what is said of every such block is said of one
+pub record Declared (s names symbols : List ℕ) : Type 0 where
+  pub block : Block
+  pub describes : Describes s names symbols block
 
 -- no more words are put than counted, and none past the limit
 pub record Room (s : List ℕ) (p : Pending) : Type 0 where
@@ -24,12 +30,12 @@ pub record Adds (m n : ℕ) (ws old new : List ℕ) : Type 0 where
   pub said : new ≡ sets old m ws
 
 -- in block b, the rules read g from p on, and where they do not refuse, its words are put
-pub record Reads (s : List ℕ) (b : Block) (p r : Pending) (g : ConditionRead) (old new : List ℕ) : Type 0 where
+pub record ReadsCondition (s : List ℕ) (b : Block) (p r : Pending) (g : ConditionRead) (old new : List ℕ) : Type 0 where
   pub seen : seen s (r .cursor) b (r .words) ≡ g .parse
   pub adds : r .cursor .why ≡ 0 → Adds (p .put) (r .put) (postfix (g .tree)) old new
 
 -- whatever the block: a refusal stays, the words before p stay, and as many words are put as counted, and k more
-pub record Within (s : List ℕ) (k : ℕ) (p r : Pending) (old new : List ℕ) : Type 0 where
+pub record Balanced (s : List ℕ) (k : ℕ) (p r : Pending) (old new : List ℕ) : Type 0 where
   pub fewer : left s (r .cursor) ≤ left s (p .cursor)
   pub room : Room s r
   pub sticky : r .cursor .why ≡ 0 → p .cursor .why ≡ 0

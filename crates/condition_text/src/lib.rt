@@ -5,16 +5,22 @@ ghost use mathlib.Core.List.{List};
 ghost use Prim.Native.Nat.{ℕ, _≤_, _<_};
 ghost use Rattle.model.specs.Bounds.{wordLimit};
 ghost use Rattle.model.specs.Block.{Block, and};
-ghost use Rattle.model.specs.Keywords.{AND};
+ghost use Rattle.model.specs.Keywords.{AND, END};
 ghost use Rattle.model.specs.Parse.{refuse};
 ghost use Rattle.model.specs.Rules.{word, conditionTerm, termOrNot, subcondition as subconditionOf, chain, plain as plainOf, operand as operandOf, conditionWith, parenthesis};
 ghost use Rattle.cursor.specs.View.{seen, Fits, Step};
 ghost use Rattle.symbol_table.specs.Symbols.{Symbols, Describes, inputCount};
-ghost use Rattle.condition_text.specs.Pending.{Room, Reads, Within, Stops, Counts, Puts};
+ghost use Rattle.condition_text.specs.Pending.{Declared, Room, ReadsCondition, Balanced, Stops, Counts, Puts};
 use block_tables::Words;
 use cursor::Cursor;
 use lookup::Names;
 use symbol_table::SymbolTable;
+
+const NOT_WORD: u32 = stored_conditions::NOT_WORD as u32;
+
+const AND_WORD: u32 = stored_conditions::AND_WORD as u32;
+
+const OR_WORD: u32 = stored_conditions::OR_WORD as u32;
 
 // A reading in the midst of a condition: the words that are counted, and how many of them are put.
 pub struct Pending {
@@ -39,7 +45,7 @@ fn refused(p: Pending, why: u8) -> Pending
 
 // The current token as one condition word more.
 fn count(s: &[u8], p: Pending) -> Pending
-    requires { ⌜ Room (now s) p × (p .cursor .kind ≡ 0 → ⊥) ⌝ }
+    requires { ⌜ Room (now s) p × (p .cursor .kind ≡ END → ⊥) ⌝ }
     ensures { λ r. ⌜ ((b : Block)
         → seen (now (s .entry)) (r .cursor) b (r .words) ≡ word (seen (now (s .entry)) (p .cursor) b (p .words))) ⌝ }
     ensures counts { λ r. ⌜ Counts (now (s .entry)) p r ⌝ }
@@ -86,9 +92,9 @@ fn term_named(
     requires { ⌜ Room (now s) p × Symbols (now s) (now names) (now symbols) × (i < inputCount (now symbols))
         × (p .cursor .why ≡ 0 → p .put < p .words) ⌝ }
     ensures { λ r. ⌜ ((b : Block) → Describes (now (s .entry)) (now (names .entry)) (now (symbols .entry)) b
-        → Reads (now (s .entry)) b p r (conditionTerm i (seen (now (s .entry)) (p .cursor) b (p .words)))
+        → ReadsCondition (now (s .entry)) b p r (conditionTerm i (seen (now (s .entry)) (p .cursor) b (p .words)))
         (now (words .entry)) (now (words .exit))) ⌝ }
-    ensures within { λ r. ⌜ Within (now (s .entry)) 1 p r (now (words .entry)) (now (words .exit)) ⌝ }
+    ensures within { λ r. ⌜ Balanced (now (s .entry)) 1 p r (now (words .entry)) (now (words .exit)) ⌝ }
 {
     let c = p.cursor;
     let w = cursor::name_fault(c);
@@ -107,7 +113,7 @@ fn term_named(
             words: p.words,
             put: p.put,
         },
-        (16 + symbols[i] + j) as u32,
+        (stored_conditions::TERM_WORD + symbols[i] + j) as u32,
     )
 }
 
@@ -123,9 +129,9 @@ fn term_here(
     requires { ⌜ Room (now s) p × Symbols (now s) (now names) (now symbols) × (i < inputCount (now symbols))
         × (p .cursor .why ≡ 0 → p .put < p .words) ⌝ }
     ensures { λ r. ⌜ ((b : Block) → Describes (now (s .entry)) (now (names .entry)) (now (symbols .entry)) b
-        → Reads (now (s .entry)) b p r (termOrNot i (seen (now (s .entry)) (p .cursor) b (p .words)))
+        → ReadsCondition (now (s .entry)) b p r (termOrNot i (seen (now (s .entry)) (p .cursor) b (p .words)))
         (now (words .entry)) (now (words .exit))) ⌝ }
-    ensures within { λ r. ⌜ Within (now (s .entry)) 1 p r (now (words .entry)) (now (words .exit)) ⌝ }
+    ensures within { λ r. ⌜ Balanced (now (s .entry)) 1 p r (now (words .entry)) (now (words .exit)) ⌝ }
 {
     let c = p.cursor;
     if c.kind != token_kinds::NOT {
@@ -133,7 +139,7 @@ fn term_here(
     }
     let q = count(s, p);
     let r = term_named(s, names, symbols, words, q, i);
-    put(words, r, 0)
+    put(words, r, NOT_WORD)
 }
 
 // input IS [NOT] term
@@ -146,9 +152,9 @@ fn subcondition(
 ) -> Pending
     requires { ⌜ Room (now s) p × Symbols (now s) (now names) (now symbols) ⌝ }
     ensures { λ r. ⌜ ((b : Block) → Describes (now (s .entry)) (now (names .entry)) (now (symbols .entry)) b
-        → Reads (now (s .entry)) b p r (subconditionOf (seen (now (s .entry)) (p .cursor) b (p .words)))
+        → ReadsCondition (now (s .entry)) b p r (subconditionOf (seen (now (s .entry)) (p .cursor) b (p .words)))
         (now (words .entry)) (now (words .exit))) ⌝ }
-    ensures within { λ r. ⌜ Within (now (s .entry)) 0 p r (now (words .entry)) (now (words .exit)) ⌝ }
+    ensures within { λ r. ⌜ Balanced (now (s .entry)) 0 p r (now (words .entry)) (now (words .exit)) ⌝ }
 {
     let c = p.cursor;
     let w = cursor::name_fault(c);
@@ -185,11 +191,12 @@ fn plain(
     p: Pending,
     depth: usize,
 ) -> Pending
-    requires { ⌜ Room (now s) p × Symbols (now s) (now names) (now symbols) ⌝ }
+    requires { ⌜ Room (now s) p × Symbols (now s) (now names) (now symbols)
+        × Declared (now s) (now names) (now symbols) ⌝ }
     ensures { λ r. ⌜ ((b : Block) → Describes (now (s .entry)) (now (names .entry)) (now (symbols .entry)) b
-        → Reads (now (s .entry)) b p r (plainOf (parenthesis depth) (seen (now (s .entry)) (p .cursor) b (p .words)))
+        → ReadsCondition (now (s .entry)) b p r (plainOf (parenthesis depth) (seen (now (s .entry)) (p .cursor) b (p .words)))
         (now (words .entry)) (now (words .exit))) ⌝ }
-    ensures within { λ r. ⌜ Within (now (s .entry)) 0 p r (now (words .entry)) (now (words .exit)) ⌝ }
+    ensures within { λ r. ⌜ Balanced (now (s .entry)) 0 p r (now (words .entry)) (now (words .exit)) ⌝ }
 {
     let c = p.cursor;
     if c.kind != token_kinds::OPEN {
@@ -228,11 +235,12 @@ fn operand(
     p: Pending,
     depth: usize,
 ) -> Pending
-    requires { ⌜ Room (now s) p × Symbols (now s) (now names) (now symbols) ⌝ }
+    requires { ⌜ Room (now s) p × Symbols (now s) (now names) (now symbols)
+        × Declared (now s) (now names) (now symbols) ⌝ }
     ensures { λ r. ⌜ ((b : Block) → Describes (now (s .entry)) (now (names .entry)) (now (symbols .entry)) b
-        → Reads (now (s .entry)) b p r (operandOf (parenthesis depth) (seen (now (s .entry)) (p .cursor) b (p .words)))
+        → ReadsCondition (now (s .entry)) b p r (operandOf (parenthesis depth) (seen (now (s .entry)) (p .cursor) b (p .words)))
         (now (words .entry)) (now (words .exit))) ⌝ }
-    ensures within { λ r. ⌜ Within (now (s .entry)) 0 p r (now (words .entry)) (now (words .exit)) ⌝ }
+    ensures within { λ r. ⌜ Balanced (now (s .entry)) 0 p r (now (words .entry)) (now (words .exit)) ⌝ }
 {
     let c = p.cursor;
     if c.kind != token_kinds::NOT {
@@ -240,7 +248,7 @@ fn operand(
     }
     let q = count(s, p);
     let r = plain(s, names, symbols, words, q, depth);
-    put(words, r, 0)
+    put(words, r, NOT_WORD)
 }
 
 // operand {AND operand}
@@ -252,18 +260,19 @@ fn conjunction(
     p: Pending,
     depth: usize,
 ) -> Pending
-    requires { ⌜ Room (now s) p × Symbols (now s) (now names) (now symbols) ⌝ }
+    requires { ⌜ Room (now s) p × Symbols (now s) (now names) (now symbols)
+        × Declared (now s) (now names) (now symbols) ⌝ }
     ensures { λ r. ⌜ ((b : Block) → Describes (now (s .entry)) (now (names .entry)) (now (symbols .entry)) b
-        → Reads (now (s .entry)) b p r
+        → ReadsCondition (now (s .entry)) b p r
         (chain (operandOf (parenthesis depth)) AND and (seen (now (s .entry)) (p .cursor) b (p .words)))
         (now (words .entry)) (now (words .exit))) ⌝ }
-    ensures within { λ r. ⌜ Within (now (s .entry)) 0 p r (now (words .entry)) (now (words .exit)) ⌝ }
+    ensures within { λ r. ⌜ Balanced (now (s .entry)) 0 p r (now (words .entry)) (now (words .exit)) ⌝ }
 {
     let mut q = operand(s, names, symbols, words, p, depth);
     while q.cursor.kind == token_kinds::AND {
         let n = count(s, q);
         let m = operand(s, names, symbols, words, n, depth);
-        q = put(words, m, 1);
+        q = put(words, m, AND_WORD);
     }
     q
 }
@@ -277,18 +286,19 @@ pub fn condition(
     p: Pending,
     depth: usize,
 ) -> Pending
-    requires { ⌜ Room (now s) p × Symbols (now s) (now names) (now symbols) ⌝ }
+    requires { ⌜ Room (now s) p × Symbols (now s) (now names) (now symbols)
+        × Declared (now s) (now names) (now symbols) ⌝ }
     ensures { λ r. ⌜ ((b : Block) → Describes (now (s .entry)) (now (names .entry)) (now (symbols .entry)) b
-        → Reads (now (s .entry)) b p r
+        → ReadsCondition (now (s .entry)) b p r
         (conditionWith (parenthesis depth) (seen (now (s .entry)) (p .cursor) b (p .words)))
         (now (words .entry)) (now (words .exit))) ⌝ }
-    ensures within { λ r. ⌜ Within (now (s .entry)) 0 p r (now (words .entry)) (now (words .exit)) ⌝ }
+    ensures within { λ r. ⌜ Balanced (now (s .entry)) 0 p r (now (words .entry)) (now (words .exit)) ⌝ }
 {
     let mut q = conjunction(s, names, symbols, words, p, depth);
     while q.cursor.kind == token_kinds::OR {
         let n = count(s, q);
         let m = conjunction(s, names, symbols, words, n, depth);
-        q = put(words, m, 2);
+        q = put(words, m, OR_WORD);
     }
     q
 }

@@ -45,10 +45,10 @@ module _ (s : List ℕ) (c : Cursor) (b : Block) (n : ℕ) where
   unfolding change seen
   unchanged f h = simp (ne-eqb _ _ h)
 
-pub begun : (s : List ℕ) (t : Found) (b : Block) (n : ℕ) → tokensFrom s 0 ≡ tokenOf s t ∷ after s t
+pub begun : (s : List ℕ) (t : Found) (b : Block) (n : ℕ) → tokens s ≡ tokenOf s t ∷ after s t
     → seen s (record { kind = t .kind; start = t .start; end = t .end; why = 0; place = 0 }) b n
     ≡ record { rest = tokens s; why = 0; place = 0; block = b; words = n }
-unfolding seen tokens tokensFrom
+unfolding seen
 begun s t b n e = ap (λ (l : List Token). record { rest = l; why = 0; place = 0; block = b; words = n }) (sym e)
 
 -- what a loop has for fuel is enough
@@ -60,12 +60,12 @@ enough s c b n = by (eqb (c .kind) END) refl
     by true q = simp q (omega arith)
     by false q = simp q (omega arith)
 
-pub some-left : (s : List ℕ) (c : Cursor) → (c .kind ≡ 0 → ⊥) → 0 < left s c
+pub some-left : (s : List ℕ) (c : Cursor) → (c .kind ≡ END → ⊥) → 0 < left s c
 unfolding left
 some-left s c h = simp (ne-eqb _ _ h) (omega arith)
 
 abbrev pub halted : Cursor → ℕ → Cursor
-halted c w = record { kind = 0; start = 0; end = 0; why = w; place = c .start }
+halted c w = record { kind = END; start = 0; end = 0; why = w; place = c .start }
 
 pub kept : (s : List ℕ) (c : Cursor) (w : ℕ) → (c .why ≡ 0 → ⊥) → Fits s c → Step (refuse w) s c c
 unfolding refuse seen
@@ -89,7 +89,7 @@ stopped-moves s c w h = simp (ne-eqb _ _ h) (omega arith)
 abbrev pub moved : Cursor → Found → Cursor
 moved c t = record { kind = t .kind; start = t .start; end = t .end; why = c .why; place = c .place }
 
-module _ (s : List ℕ) (c : Cursor) (t : Found) (h : c .kind ≡ 0 → ⊥) (e : tokensFrom s (c .end) ≡ tokenOf s t ∷ after s t) where
+module _ (s : List ℕ) (c : Cursor) (t : Found) (h : c .kind ≡ END → ⊥) (e : tokensFrom s (c .end) ≡ tokenOf s t ∷ after s t) where
   pub follows : after s (current c) ≡ tokenOf s t ∷ after s t
   unfolding after
   follows = simp (ne-eqb _ _ h) e
@@ -136,12 +136,12 @@ steps {f} {g} {s} {a} {b} {c} p q = record {
 
 -- A REFUSED READING stays as it is
 module _ (s : List ℕ) (c : Cursor) (g : Fits s c) (h : c .why ≡ 0 → ⊥) where
-  pub lost-kind : c .kind ≡ 0
-  lost-kind = by (eqb (c .kind) 0) refl
+  pub lost-kind : c .kind ≡ END
+  lost-kind = by (eqb (c .kind) END) refl
     where
-      by : (t : Bool) → eqb (c .kind) 0 ≡ t → c .kind ≡ 0
-      by true q = eqb-true (c .kind) 0 q
-      by false q = absurd (h (g .halted (eqb-false (c .kind) 0 q)))
+      by : (t : Bool) → eqb (c .kind) END ≡ t → c .kind ≡ END
+      by true q = eqb-true (c .kind) END q
+      by false q = absurd (h (g .halted (eqb-false (c .kind) END q)))
 
   module _ (b : Block) (n : ℕ) where
     pub lost-is : (k : ℕ) → (k ≡ 0 → ⊥) → is k (seen s c b n) ≡ false

@@ -2,12 +2,13 @@
 -- ties a move of the cursor to a part of the rules, a `Part` of the model.
 use mathlib.Core.Path.{_≡_}
 use mathlib.Core.List.{List, [], _∷_}
-use Prim.Native.Nat.{ℕ, suc, _≤_, _<_}
-use lib.Dec.{eqb}
+use Prim.Native.Nat.{ℕ, suc, _-_, _≤_, _<_}
+use lib.Dec.{eqb, leb}
 use lib.ListN.{length}
 use lib.Seq.{slice}
 use Rattle.model.specs.Basic.{if_then_else_}
-use Rattle.model.specs.Keywords.{END}
+use Rattle.model.specs.Bounds.{nameLimit}
+use Rattle.model.specs.Keywords.{END, NAME}
 use Rattle.model.specs.Block.{Block}
 use Rattle.model.specs.Parse.{Parse, Part, Checks}
 use Rattle.tokens.specs.Tokens.{tokenOf, after}
@@ -34,7 +35,7 @@ seen s c b n = record {
 pub record Fits (s : List ℕ) (c : Cursor) : Type 0 where
   pub order : c .start ≤ c .end
   pub inside : c .end ≤ length s
-  pub halted : (c .kind ≡ 0 → ⊥) → c .why ≡ 0
+  pub halted : (c .kind ≡ END → ⊥) → c .why ≡ 0
 
 -- how many tokens are left, the end apart
 unfoldable pub left : List ℕ → Cursor → ℕ
@@ -42,7 +43,7 @@ left s c = if eqb (c .kind) END then 0 else suc (length (after s (current c)))
 
 -- before a token, at least one is passed or reading is refused
 abbrev pub Moves : List ℕ → Cursor → Cursor → Type 0
-Moves s c r = (c .kind ≡ 0 → ⊥) → left s r < left s c
+Moves s c r = (c .kind ≡ END → ⊥) → left s r < left s c
 
 -- from c to r a part of the rules was read that looks at no block and at no words
 pub record Step (part : Part) (s : List ℕ) (c r : Cursor) : Type 0 where
@@ -55,3 +56,11 @@ pub record Step (part : Part) (s : List ℕ) (c r : Cursor) : Type 0 where
 unfoldable pub fault : Checks → ℕ
 fault [] = 0
 fault ((ok, n) ∷ cs) = if ok then fault cs else n
+
+-- c refused by w, where it is not refused yet
+unfoldable pub refusedAt : Cursor → ℕ → Cursor
+refusedAt c w = if eqb (c .why) 0 then record { kind = END; start = 0; end = 0; why = w; place = c .start } else c
+
+-- by which number the current token is refused as a name
+unfoldable pub nameFault : Cursor → ℕ
+nameFault c = fault ((eqb (c .kind) NAME, 2) ∷ (leb (c .end - c .start) nameLimit, 4) ∷ [])

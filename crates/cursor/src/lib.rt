@@ -4,9 +4,10 @@ ghost use mathlib.Core.Path.{_≡_};
 ghost use mathlib.Core.List.{List, []};
 ghost use Prim.Native.Nat.{ℕ, _≤_, _<_};
 ghost use Rattle.model.specs.Block.{Block};
+ghost use Rattle.model.specs.Keywords.{NAME, END};
 ghost use Rattle.model.specs.Parse.{refuse as refused, advance as advanced, expect as expected, aName};
 ghost use Rattle.model.specs.Tokens.{tokens};
-ghost use Rattle.cursor.specs.View.{seen, Fits, left, Step, Moves, fault};
+ghost use Rattle.cursor.specs.View.{seen, Fits, left, Step, Moves, fault, refusedAt, nameFault};
 
 // The bytes stand last: a padding between the fields would be copied with them in pieces.
 pub struct Cursor {
@@ -24,7 +25,7 @@ pub fn begin(s: &[u8]) -> Cursor
         ≡ record { rest = tokens (now (s .entry)); why = 0; place = 0; block = b; words = n }) ⌝ }
     ensures fits { λ r. ⌜ Fits (now (s .entry)) r ⌝ }
 {
-    let t = tokens::next(s, 0);
+    let t = tokens::next(s);
     Cursor {
         kind: t.kind,
         start: t.start,
@@ -39,6 +40,7 @@ pub fn refuse(c: Cursor, why: u8) -> Cursor
     ensures { λ r. ⌜ ((s : List ℕ) → Fits s c → Step (refused why) s c r) ⌝ }
     ensures moves { λ r. ⌜ ((s : List ℕ) → Fits s c → Moves s c r) ⌝ }
     ensures halted { λ r. ⌜ (r .why ≡ 0 → ⊥) ⌝ }
+    ensures exact { λ r. ⌜ r ≡ refusedAt c why ⌝ }
 {
     if c.why != 0 {
         return c;
@@ -53,15 +55,16 @@ pub fn refuse(c: Cursor, why: u8) -> Cursor
 }
 
 pub fn advance(s: &[u8], c: Cursor) -> Cursor
-    requires { ⌜ Fits (now s) c × (c .kind ≡ 0 → ⊥) ⌝ }
+    requires { ⌜ Fits (now s) c × (c .kind ≡ END → ⊥) ⌝ }
     ensures { λ r. ⌜ Step advanced (now (s .entry)) c r ⌝ }
     ensures moves { λ r. ⌜ (left (now (s .entry)) r < left (now (s .entry)) c) × (r .why ≡ 0) ⌝ }
 {
-    let t = tokens::next(s, c.end);
+    let at = c.end;
+    let t = tokens::next(&s[at..]);
     Cursor {
         kind: t.kind,
-        start: t.start,
-        end: t.end,
+        start: at + t.start,
+        end: at + t.end,
         why: c.why,
         place: c.place,
     }
@@ -82,7 +85,8 @@ pub fn expect(s: &[u8], c: Cursor, k: u8) -> Cursor
 pub fn name_fault(c: Cursor) -> u8
     requires { ⌜ c .start ≤ c .end ⌝ }
     ensures { λ r. ⌜ ((s : List ℕ) → Fits s c → (b : Block) (n : ℕ) → r ≡ fault (aName (seen s c b n) [])) ⌝ }
-    ensures kind { λ r. ⌜ (r ≡ 0 → c .kind ≡ 2) ⌝ }
+    ensures kind { λ r. ⌜ (r ≡ 0 → c .kind ≡ NAME) ⌝ }
+    ensures exact { λ r. ⌜ r ≡ nameFault c ⌝ }
 {
     if c.kind != token_kinds::NAME {
         return 2;

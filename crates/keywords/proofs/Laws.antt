@@ -6,19 +6,21 @@ use Prim.Native.Nat.{ℕ, zero, suc, _+_, _-_, _*_, _/_, _%_, _^_, _≤_, _<_}
 use native.Mathlib.Nat.{mul-add, mul-add-mod-self-right}
 use native.Mathlib.Numerals.{add-one}
 use native.Mathlib.Omega.{arith}
-use borrow.Author.Tests.{eq-eqb, ne-eqb, eqb-true}
-use lib.Dec.{eqb}
-use lib.ListN.{length, drop, getD}
-use lib.Seq.{drop-cons}
+use borrow.Author.Tests.{eq-eqb, ne-eqb, eqb-true, ltb-true, leb-true, not-true}
+use lib.Dec.{eqb, leb, ltb}
+use lib.ListN.{length, take, drop, getD}
+use lib.Seq.{drop-cons, slice}
 use Rattle.model.specs.Basic.{all, capital, capitals, same, alike, indexOf}
 use Rattle.model.specs.Image.{tab}
 use Rattle.model.specs.Keywords.{keywords, keywordAt}
 use Rattle.laws.proofs.Finding.{all-map}
 use Rattle.laws.proofs.Lists.{all-at}
 use Rattle.laws.proofs.Places.{same-eq}
+use Rattle.laws.proofs.Slices.{part}
 use Rattle.laws.proofs.Tests.{both, clash}
 use Rattle.laws.proofs.Words.{by-case, length-capitals, byte-capitals, capitals-again, low-bits}
-use Rattle.keywords.specs.Slots.{slotOf, firstOf, rowIn, mayBe, Others}
+use Rattle.keywords.specs.Slots.{keywordCount, slotOf, joined, startOf, rowAt, slotRow, firstOf, rowIn, mayBe, Others}
+use Rattle.keywords.specs.declared.Row.{Row}
 
 module _ (w t : List ℕ) (k : ℕ) (hw : k < length w) (ht : k < length t) where
   pub same-more : eqb (capital (getD w k 0)) (capital (getD t k 0)) ≡ true → alike (drop k w) (drop k t) ≡ alike (drop (k + 1) w) (drop (k + 1) t)
@@ -40,13 +42,16 @@ unlike f c w q (k ∷ ks) e = go (both (f k) (all f ks) e) (unlike f c w q ks) (
     go t ih false p = rw (indexOf, p) (ap suc (ih (t .1)))
 
 -- LENGTHS: a bit for each that a keyword has
-pub no-length : (w : List ℕ) → 290556 / 2 ^ length w % 2 ≡ 0 → keywordAt w ≡ 43
+abbrev lengthBits : ℕ
+lengthBits = 290556
+
+pub no-length : (w : List ℕ) → lengthBits / 2 ^ length w % 2 ≡ 0 → keywordAt w ≡ keywordCount
 unfolding all
 no-length w h =
-    unlike (λ k. not (eqb (290556 / 2 ^ length k % 2) 0)) (λ v. ap (λ (n : ℕ). not (eqb (290556 / 2 ^ n % 2) 0)) (length-capitals v)) w
+    unlike (λ k. not (eqb (lengthBits / 2 ^ length k % 2) 0)) (λ v. ap (λ (n : ℕ). not (eqb (lengthBits / 2 ^ n % 2) 0)) (length-capitals v)) w
     (simp (eq-eqb _ _ h)) keywords refl
 
-pub some-length : (n : ℕ) → (290556 / 2 ^ n % 2 ≡ 0 → ⊥) → 0 < n
+pub some-length : (n : ℕ) → (lengthBits / 2 ^ n % 2 ≡ 0 → ⊥) → 0 < n
 some-length zero f = absurd (f refl)
 some-length (suc n) f = omega arith
 
@@ -77,29 +82,79 @@ slot-capitals w =
     slot-by (capitals w) n (capital (getD w 0 0)) (capital (getD w (n - 1) 0)) (length-capitals w) (byte-capitals w 0) (byte-capitals w (n - 1))
     ∙ slot-folded n (getD w 0 0) (getD w (n - 1) 0)
 
--- A KEYWORD'S SLOT: the keyword at i is not found before i, and any other of its slot is itself
-rightSlot : ℕ → Bool
-rightSlot i =
-    eqb (keywordAt (getD keywords i [])) i
-    && all (λ k. not (eqb (slotOf (getD keywords i [])) (slotOf k)) || alike k (getD keywords i [])) keywords
+-- KEYWORDS BY THEIR SLOTS: no two share one
+ownSlot : ℕ → Bool
+ownSlot i = eqb (indexOf (λ k. eqb (slotOf (getD keywords i [])) (slotOf k)) keywords) i
 
-right-slot : (i : ℕ) → i < 43 → rightSlot i ≡ true
-unfolding rightSlot all tab
-right-slot i h = let z : 0 + i ≡ i = omega arith in rw z at (all-at rightSlot (λ i. i) 43 0 i h refl)
+own-slot : (i : ℕ) → i < keywordCount → ownSlot i ≡ true
+unfolding ownSlot all tab
+own-slot i h = let z : 0 + i ≡ i = omega arith in rw z at (all-at ownSlot (λ i. i) keywordCount 0 i h refl)
 
-module _ (w : List ℕ) (i : ℕ) (h : i < 43) where
-  pub slot-keyword : alike w (getD keywords i []) ≡ true → keywordAt w ≡ i
-  unfolding rightSlot
-  slot-keyword e =
-      ap (λ (v : List ℕ). indexOf (λ k. same v (capitals k)) keywords) (same-eq (capitals w) (capitals (getD keywords i [])) e)
-      ∙ eqb-true _ _ (both _ _ (right-slot i h) .0)
+pub row-here : (h i a e : ℕ) → h ≡ slotOf (getD keywords i []) → ltb i keywordCount ≡ true → a ≡ startOf i → e ≡ startOf (i + 1)
+    → record { keyword = i; start = a; end = e } ≡ slotRow h
+unfolding slotRow ownSlot
+row-here h i a e q l p r =
+    let z : indexOf (λ k. eqb h (slotOf k)) keywords ≡ i =
+    ap (λ (n : ℕ). indexOf (λ k. eqb n (slotOf k)) keywords) q ∙ eqb-true _ _ (own-slot i (ltb-true i keywordCount l)) in
+    (λ j. record { keyword = i; start = p j; end = r j }) ∙ ap rowAt (sym z)
 
-  pub slot-other : slotOf w ≡ slotOf (getD keywords i []) → alike w (getD keywords i []) ≡ false → keywordAt w ≡ 43
-  unfolding rightSlot
-  slot-other e n =
-      let t = getD keywords i [] in
-      unlike (λ k. not (eqb (slotOf t) (slotOf k)) || alike k t) (λ v j. not (eqb (slotOf t) (slot-capitals v j)) || same (capitals-again v j) (capitals t)) w
-      (simp (eq-eqb _ _ (sym e), n)) keywords (both (eqb (keywordAt t) i) _ (right-slot i h) .1)
+-- the text of a row
+abbrev pub rowText : Row → List ℕ
+rowText r = slice (r .start) (r .end) (joined keywords)
+
+-- it lies in the text of all keywords, and is the row's keyword
+rightRow : ℕ → Bool
+rightRow i = (leb (rowAt i .start) (rowAt i .end) && leb (rowAt i .end) (startOf keywordCount)) && eqb (keywordAt (rowText (rowAt i))) i
+
+index-most : {A : Type 0} (f : A → Bool) (xs : List A) → indexOf f xs ≤ length xs
+index-most f [] = omega arith
+index-most f (x ∷ xs) = by (f x) refl (index-most f xs)
+  where
+    by : (b : Bool) → f x ≡ b → indexOf f xs ≤ length xs → indexOf f (x ∷ xs) ≤ length (x ∷ xs)
+    by true e h = rw (indexOf, e) (omega arith)
+    by false e h = rw (indexOf, e) (omega arith)
+
+right-row : (h : ℕ) → rightRow (indexOf (λ k. eqb h (slotOf k)) keywords) ≡ true
+unfolding rightRow all tab
+right-row h =
+    let i = indexOf (λ k. eqb h (slotOf k)) keywords in
+    let z : 0 + i ≡ i = omega arith in
+    rw z at (all-at rightRow (λ i. i) (keywordCount + 1) 0 i (omega (arith, index-most (λ k. eqb h (slotOf k)) keywords)) refl)
+
+-- what a word of slot h is beside the row of its slot
+module _ (w text : List ℕ) (h : ℕ) (r : Row) (own : h ≡ slotOf w) (here : r ≡ slotRow h) (all-text : text ≡ joined keywords) where
+  pub row-inside : (r .start ≤ r .end) × (r .end ≤ length text)
+  unfolding slotRow rightRow
+  row-inside =
+      let i = indexOf (λ k. eqb h (slotOf k)) keywords in
+      let p = both (leb (rowAt i .start) (rowAt i .end)) (leb (rowAt i .end) (startOf keywordCount)) (both _ (eqb (keywordAt (rowText (rowAt i))) i) (right-row h) .0) in
+      rw (here, all-text) (leb-true (rowAt i .start) (rowAt i .end) (p .0), leb-true (rowAt i .end) (startOf keywordCount) (p .1))
+
+  pub row-most : r .keyword ≤ keywordCount
+  unfolding slotRow
+  row-most = rw here (index-most (λ k. eqb h (slotOf k)) keywords)
+
+  same-text : alike w (take (r .end - r .start) (drop (r .start) text)) ≡ alike w (rowText (slotRow (slotOf w)))
+  same-text =
+      let q : r ≡ slotRow (slotOf w) = here ∙ ap slotRow own in
+      ap (alike w) (part (r .start) (r .end) text) ∙ (λ j. alike w (slice (q j .start) (q j .end) (all-text j)))
+
+  pub row-same : alike w (take (r .end - r .start) (drop (r .start) text)) ≡ true → r .keyword ≡ keywordAt w
+  unfolding slotRow rightRow
+  row-same e =
+      let n = slotOf w in
+      let t = rowText (slotRow n) in
+      let i = indexOf (λ k. eqb n (slotOf k)) keywords in
+      let p = both (leb (rowAt i .start) (rowAt i .end) && leb (rowAt i .end) (startOf keywordCount)) (eqb (keywordAt (rowText (rowAt i))) i) (right-row n) in
+      ap (λ (q : Row). q .keyword) (here ∙ ap slotRow own) ∙ sym (eqb-true (keywordAt t) i (p .1))
+      ∙ sym (ap (λ (v : List ℕ). indexOf (λ k. same v (capitals k)) keywords) (same-eq (capitals w) (capitals t) (sym same-text ∙ e)))
+
+  -- each keyword is that of its slot
+  pub row-other : alike w (take (r .end - r .start) (drop (r .start) text)) ≡ false → keywordAt w ≡ keywordCount
+  unfolding slotRow all
+  row-other e =
+      unlike (λ k. alike k (rowText (slotRow (slotOf k)))) (λ v j. same (capitals-again v j) (capitals (rowText (slotRow (slot-capitals v j))))) w
+      (sym same-text ∙ e) keywords refl
 
 -- NO KEYWORD'S SLOT, NO KEYWORD'S FIRST LETTER AND LENGTH
 others-front : (T : Type 0) (h : ℕ) (ns : List ℕ) → Others T h ns → T
@@ -112,10 +167,18 @@ others-all T h [] x = refl
 others-all T h (n ∷ ns) x =
     simp (ne-eqb h n (others-front (T × (h ≡ n → ⊥)) h ns x .1)) (others-all (T × (h ≡ n → ⊥)) h ns x)
 
-pub no-slot : (w : List ℕ) (h : ℕ) → h ≡ slotOf w → Others Unit h (map slotOf keywords) → keywordAt w ≡ 43
-no-slot w h e x =
-    unlike (λ k. not (eqb h (slotOf k))) (λ v j. not (eqb h (slot-capitals v j))) w (simp (eq-eqb h (slotOf w) e)) keywords
-    (sym (all-map (λ n. not (eqb h n)) slotOf keywords) ∙ others-all Unit h (map slotOf keywords) x)
+none-found : (f : List ℕ → Bool) (ks : List (List ℕ)) → all (λ k. not (f k)) ks ≡ true → indexOf f ks ≡ length ks
+unfolding all
+none-found f [] e = refl
+none-found f (k ∷ ks) e =
+    let b = both (not (f k)) (all (λ k. not (f k)) ks) e in
+    rw (indexOf, not-true (f k) (b .0)) (ap suc (none-found f ks (b .1)))
+
+pub no-slot : (h : ℕ) → Others Unit h (map slotOf keywords) → slotRow h ≡ rowAt keywordCount
+unfolding slotRow
+no-slot h x =
+    let f : List ℕ → Bool = λ k. eqb h (slotOf k) in
+    ap rowAt (none-found f keywords (sym (all-map (λ n. not (eqb h n)) slotOf keywords) ∙ others-all Unit h (map slotOf keywords) x))
 
 first-capitals : (w : List ℕ) → firstOf (capitals w) ≡ firstOf w
 first-capitals w = ap (λ (c : ℕ). c % 32) (byte-capitals w 0) ∙ low-bits (getD w 0 0)
@@ -128,6 +191,6 @@ no-row T i (r ∷ rs) x =
     simp (ne-eqb i (r .0) (others-front U i (map (λ r. r .0) rs) x .1)) (no-row U i rs x)
 
 -- a word that may be no keyword is none
-pub may-not : (w : List ℕ) → mayBe (length w) (firstOf w) ≡ false → keywordAt w ≡ 43
+pub may-not : (w : List ℕ) → mayBe (length w) (firstOf w) ≡ false → keywordAt w ≡ keywordCount
 unfolding all
 may-not w h = unlike (λ v. mayBe (length v) (firstOf v)) (λ v j. mayBe (length-capitals v j) (first-capitals v j)) w h keywords refl

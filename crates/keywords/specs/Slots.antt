@@ -1,15 +1,41 @@
--- Helpers: the numbers by which keywords are told apart. Case does not count in them.
+-- Helpers: the numbers by which keywords are told apart. Case does not count in them. The contract of `keyword_at` ties
+-- them to the model's `keywordAt`; `may-not` of proofs/Laws says that a word which may be no keyword is none.
 use mathlib.Core.Path.{_≡_}
 use mathlib.Core.Bool.{Bool}
-use mathlib.Core.List.{List, [], _∷_}
+use mathlib.Core.List.{List, [], _∷_, _++_}
 use Prim.Native.Nat.{ℕ, _+_, _-_, _*_, _/_, _%_, _^_}
 use lib.Dec.{eqb}
-use lib.ListN.{length, getD}
-use Rattle.model.specs.Basic.{if_then_else_}
+use lib.ListN.{length, take, getD}
+use Rattle.model.specs.Basic.{if_then_else_, indexOf}
+use Rattle.model.specs.Keywords.{keywords}
+use Rattle.keywords.specs.declared.Row.{Row}
+
+-- how many keywords there are, and how long the longest is
+abbrev pub keywordCount : ℕ
+keywordCount = 43
+
+abbrev pub keywordLimit : ℕ
+keywordLimit = 18
 
 -- by the length, the first byte and the last
 abbrev pub slotOf : List ℕ → ℕ
 slotOf w = (length w + 8 * getD w 0 0 + 152 * getD w (length w - 1) 0) % 256
+
+-- the words, one behind the other
+abbrev pub joined : List (List ℕ) → List ℕ
+joined [] = []
+joined (k ∷ ks) = k ++ joined ks
+
+-- where keyword i begins in the text of all of them
+abbrev pub startOf : ℕ → ℕ
+startOf i = length (joined (take i keywords))
+
+abbrev pub rowAt : ℕ → Row
+rowAt i = record { keyword = i; start = startOf i; end = startOf (i + 1) }
+
+-- the keyword of slot h and its place in that text; where there is none, behind the last, with no bytes
+unfoldable pub slotRow : ℕ → Row
+slotRow h = rowAt (indexOf (λ k. eqb h (slotOf k)) keywords)
 
 -- the first letter, A being 1
 abbrev pub firstOf : List ℕ → ℕ

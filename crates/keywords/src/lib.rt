@@ -9,7 +9,7 @@ ghost use lib.Dec.{ltb};
 ghost use lib.ListN.{getD};
 ghost use Rattle.model.specs.Basic.{alike};
 ghost use Rattle.model.specs.Keywords.{keywords, keywordAt};
-ghost use Rattle.keywords.specs.Slots.{slotOf, rows, rowIn, mayBe, Others};
+ghost use Rattle.keywords.specs.Slots.{keywordCount, keywordLimit, slotOf, joined, startOf, slotRow, rows, rowIn, mayBe, Others};
 
 // How many keywords there are, how long the longest is, and a bit for each length that one has.
 pub const COUNT: usize = 43;
@@ -17,6 +17,9 @@ pub const COUNT: usize = 43;
 const LONGEST: usize = 18;
 
 const LENGTHS: usize = 290556;
+
+// The bytes of all keywords.
+const SIZE: u8 = 243;
 
 // The words are the same but for case.
 fn is_word(w: &[u8], t: &[u8]) -> bool
@@ -35,89 +38,115 @@ fn is_word(w: &[u8], t: &[u8]) -> bool
     true
 }
 
-// The place i of the keyword t, which has the word's slot h, where it is the word.
-fn place(w: &[u8], h: usize, t: &[u8], i: usize) -> usize
-    requires { ⌜ (h ≡ slotOf (now w)) × (h ≡ slotOf (now t)) ⌝ }
-    requires row { ⌜ (now t ≡ getD keywords i []) × (ltb i 43 ≡ true) ⌝ }
-    ensures { λ r. ⌜ (r ≡ keywordAt (now (w .entry))) × (r ≤ 43) ⌝ }
+// The keyword of a slot, and where it begins and ends in the text of all of them. Where no keyword has the slot, it is
+// COUNT, which has no bytes.
+struct Row {
+    keyword: u8,
+    start: u8,
+    end: u8,
+}
+
+// The row of a keyword of slot h.
+fn keyword_row(h: usize, keyword: u8, start: u8, end: u8) -> Row
+    requires { ⌜ (h ≡ slotOf (getD keywords keyword [])) × (ltb keyword keywordCount ≡ true) ⌝ }
+    requires place { ⌜ (start ≡ startOf keyword) × (end ≡ startOf (keyword + 1)) ⌝ }
+    ensures { λ r. ⌜ r ≡ slotRow h ⌝ }
 {
-    if is_word(w, t) {
-        return i;
+    Row {
+        keyword: keyword,
+        start: start,
+        end: end,
     }
-    COUNT
 }
 
-// No keyword is of the word's slot h.
-fn no_place(w: &[u8], h: usize) -> usize
-    requires { ⌜ (h ≡ slotOf (now w)) × Others Unit h (map slotOf keywords) ⌝ }
-    ensures { λ r. ⌜ (r ≡ keywordAt (now (w .entry))) × (r ≤ 43) ⌝ }
+// No keyword is of slot h.
+fn no_row(h: usize) -> Row
+    requires { ⌜ Others Unit h (map slotOf keywords) ⌝ }
+    ensures { λ r. ⌜ r ≡ slotRow h ⌝ }
 {
-    COUNT
+    Row {
+        keyword: COUNT as u8,
+        start: SIZE,
+        end: SIZE,
+    }
 }
 
-// The word of slot h beside the keyword of that slot.
-fn in_slot(w: &[u8], h: usize) -> usize
-    requires { ⌜ h ≡ slotOf (now w) ⌝ }
-    ensures { λ r. ⌜ (r ≡ keywordAt (now (w .entry))) × (r ≤ 43) ⌝ }
+// To the compiler it is a table.
+fn slot_row(h: usize) -> Row
+    ensures { λ r. ⌜ r ≡ slotRow h ⌝ }
 {
     match h {
-        132 => place(w, h, b"ACCU", 0),
-        235 => place(w, h, b"ACT", 1),
-        107 => place(w, h, b"AND", 2),
-        196 => place(w, h, b"ASUM", 3),
-        164 => place(w, h, b"BDIF", 4),
-        204 => place(w, h, b"BSUM", 5),
-        179 => place(w, h, b"CoA", 6),
-        67 => place(w, h, b"CoG", 7),
-        100 => place(w, h, b"CoGS", 8),
-        7 => place(w, h, b"DEFAULT", 9),
-        1 => place(w, h, b"DEFUZZIFY", 10),
-        13 => place(w, h, b"END_DEFUZZIFY", 11),
-        194 => place(w, h, b"END_FUNCTION_BLOCK", 12),
-        11 => place(w, h, b"END_FUZZIFY", 13),
-        123 => place(w, h, b"END_OPTIONS", 14),
-        189 => place(w, h, b"END_RULEBLOCK", 15),
-        223 => place(w, h, b"END_VAR", 16),
-        198 => place(w, h, b"FUNCTION_BLOCK", 17),
-        15 => place(w, h, b"FUZZIFY", 18),
-        218 => place(w, h, b"IF", 19),
-        146 => place(w, h, b"IS", 20),
-        26 => place(w, h, b"LM", 21),
-        171 => place(w, h, b"MAX", 22),
-        206 => place(w, h, b"METHOD", 23),
-        187 => place(w, h, b"MIN", 24),
-        58 => place(w, h, b"NC", 25),
-        83 => place(w, h, b"NOT", 26),
-        44 => place(w, h, b"NSUM", 27),
-        199 => place(w, h, b"OPTIONS", 28),
-        42 => place(w, h, b"OR", 29),
-        228 => place(w, h, b"PROD", 30),
-        141 => place(w, h, b"RANGE", 31),
-        74 => place(w, h, b"RM", 32),
-        140 => place(w, h, b"RULE", 33),
-        33 => place(w, h, b"RULEBLOCK", 34),
-        92 => place(w, h, b"TERM", 35),
-        244 => place(w, h, b"THEN", 36),
-        99 => place(w, h, b"VAR", 37),
-        153 => place(w, h, b"VAR_INPUT", 38),
-        154 => place(w, h, b"VAR_OUTPUT", 39),
-        124 => place(w, h, b"WITH", 40),
-        180 => place(w, h, b"REAL", 41),
-        43 => place(w, h, b"INT", 42),
-        _ => no_place(w, h),
+        132 => keyword_row(h, 0, 0, 4),
+        235 => keyword_row(h, 1, 4, 7),
+        107 => keyword_row(h, 2, 7, 10),
+        196 => keyword_row(h, 3, 10, 14),
+        164 => keyword_row(h, 4, 14, 18),
+        204 => keyword_row(h, 5, 18, 22),
+        179 => keyword_row(h, 6, 22, 25),
+        67 => keyword_row(h, 7, 25, 28),
+        100 => keyword_row(h, 8, 28, 32),
+        7 => keyword_row(h, 9, 32, 39),
+        1 => keyword_row(h, 10, 39, 48),
+        13 => keyword_row(h, 11, 48, 61),
+        194 => keyword_row(h, 12, 61, 79),
+        11 => keyword_row(h, 13, 79, 90),
+        123 => keyword_row(h, 14, 90, 101),
+        189 => keyword_row(h, 15, 101, 114),
+        223 => keyword_row(h, 16, 114, 121),
+        198 => keyword_row(h, 17, 121, 135),
+        15 => keyword_row(h, 18, 135, 142),
+        218 => keyword_row(h, 19, 142, 144),
+        146 => keyword_row(h, 20, 144, 146),
+        26 => keyword_row(h, 21, 146, 148),
+        171 => keyword_row(h, 22, 148, 151),
+        206 => keyword_row(h, 23, 151, 157),
+        187 => keyword_row(h, 24, 157, 160),
+        58 => keyword_row(h, 25, 160, 162),
+        83 => keyword_row(h, 26, 162, 165),
+        44 => keyword_row(h, 27, 165, 169),
+        199 => keyword_row(h, 28, 169, 176),
+        42 => keyword_row(h, 29, 176, 178),
+        228 => keyword_row(h, 30, 178, 182),
+        141 => keyword_row(h, 31, 182, 187),
+        74 => keyword_row(h, 32, 187, 189),
+        140 => keyword_row(h, 33, 189, 193),
+        33 => keyword_row(h, 34, 193, 202),
+        92 => keyword_row(h, 35, 202, 206),
+        244 => keyword_row(h, 36, 206, 210),
+        99 => keyword_row(h, 37, 210, 213),
+        153 => keyword_row(h, 38, 213, 222),
+        154 => keyword_row(h, 39, 222, 232),
+        124 => keyword_row(h, 40, 232, 236),
+        180 => keyword_row(h, 41, 236, 240),
+        43 => keyword_row(h, 42, 240, 243),
+        _ => no_row(h),
     }
+}
+
+// The word of slot h beside the keyword of that slot, which is a part of the text of all of them.
+fn in_slot(w: &[u8], h: usize, text: &[u8]) -> usize
+    requires { ⌜ (h ≡ slotOf (now w)) × (now text ≡ joined keywords) ⌝ }
+    ensures { λ r. ⌜ (r ≡ keywordAt (now (w .entry))) × (r ≤ keywordCount) ⌝ }
+{
+    let r = slot_row(h);
+    let a = r.start as usize;
+    let e = r.end as usize;
+    if is_word(w, &text[a..e]) {
+        return r.keyword as usize;
+    }
+    COUNT
 }
 
 // The slot of the words of n bytes that begin with a and end in z.
 fn slot(n: usize, a: u8, z: u8) -> usize
-    requires { ⌜ n ≤ 18 ⌝ }
+    requires { ⌜ n ≤ keywordLimit ⌝ }
     ensures { λ r. ⌜ r ≡ (n + 8 * a + 152 * z) % 256 ⌝ }
 {
     (n + 8 * (a as usize) + 152 * (z as usize)) % 256
 }
 
-// The row v of letter k, which is i.
-fn row(i: usize, k: usize, v: usize) -> usize
+// The lengths v of letter k, which is i.
+fn lengths_of(i: usize, k: usize, v: usize) -> usize
     requires { ⌜ (i ≡ k) × (rowIn rows k ≡ v) ⌝ }
     ensures { λ r. ⌜ r ≡ rowIn rows i ⌝ }
 {
@@ -125,7 +154,7 @@ fn row(i: usize, k: usize, v: usize) -> usize
 }
 
 // No keyword begins with letter i.
-fn no_row(i: usize) -> usize
+fn no_lengths(i: usize) -> usize
     requires { ⌜ Others Unit i (map (λ r. r .0) rows) ⌝ }
     ensures { λ r. ⌜ r ≡ rowIn rows i ⌝ }
 {
@@ -137,29 +166,29 @@ fn lengths(i: usize) -> usize
     ensures { λ r. ⌜ r ≡ rowIn rows i ⌝ }
 {
     match i {
-        1 => row(i, 1, 24),
-        2 => row(i, 2, 16),
-        3 => row(i, 3, 24),
-        4 => row(i, 4, 640),
-        5 => row(i, 5, 272512),
-        6 => row(i, 6, 16512),
-        9 => row(i, 9, 12),
-        12 => row(i, 12, 4),
-        13 => row(i, 13, 72),
-        14 => row(i, 14, 28),
-        15 => row(i, 15, 132),
-        16 => row(i, 16, 16),
-        18 => row(i, 18, 564),
-        20 => row(i, 20, 16),
-        22 => row(i, 22, 1544),
-        23 => row(i, 23, 16),
-        _ => no_row(i),
+        1 => lengths_of(i, 1, 24),
+        2 => lengths_of(i, 2, 16),
+        3 => lengths_of(i, 3, 24),
+        4 => lengths_of(i, 4, 640),
+        5 => lengths_of(i, 5, 272512),
+        6 => lengths_of(i, 6, 16512),
+        9 => lengths_of(i, 9, 12),
+        12 => lengths_of(i, 12, 4),
+        13 => lengths_of(i, 13, 72),
+        14 => lengths_of(i, 14, 28),
+        15 => lengths_of(i, 15, 132),
+        16 => lengths_of(i, 16, 16),
+        18 => lengths_of(i, 18, 564),
+        20 => lengths_of(i, 20, 16),
+        22 => lengths_of(i, 22, 1544),
+        23 => lengths_of(i, 23, 16),
+        _ => no_lengths(i),
     }
 }
 
 // Whether a word of n bytes that begins with a may be a keyword; else it is none. Few names may.
 pub fn may_be(n: usize, a: u8) -> bool
-    requires { ⌜ n ≤ 18 ⌝ }
+    requires { ⌜ n ≤ keywordLimit ⌝ }
     ensures { λ r. ⌜ r ≡ mayBe n (a % 32) ⌝ }
 {
     let b = lengths(a as usize % 32);
@@ -169,7 +198,7 @@ pub fn may_be(n: usize, a: u8) -> bool
 // Which keyword the word is; COUNT where it is none.
 pub fn keyword_at(w: &[u8]) -> usize
     ensures { λ r. ⌜ r ≡ keywordAt (now (w .entry)) ⌝ }
-    ensures within { λ r. ⌜ r ≤ 43 ⌝ }
+    ensures within { λ r. ⌜ r ≤ keywordCount ⌝ }
 {
     let n = w.len();
     if LONGEST < n {
@@ -181,5 +210,12 @@ pub fn keyword_at(w: &[u8]) -> usize
     if !may_be(n, w[0]) {
         return COUNT;
     }
-    in_slot(w, slot(n, w[0], w[n - 1]))
+    let h = slot(n, w[0], w[n - 1]);
+    in_slot(
+        w,
+        h,
+        b"ACCUACTANDASUMBDIFBSUMCoACoGCoGSDEFAULTDEFUZZIFYEND_DEFUZZIFY\
+        END_FUNCTION_BLOCKEND_FUZZIFYEND_OPTIONSEND_RULEBLOCKEND_VARFUNCTION_BLOCKFUZZIFYIFISLM\
+        MAXMETHODMINNCNOTNSUMOPTIONSORPRODRANGERMRULERULEBLOCKTERMTHENVARVAR_INPUTVAR_OUTPUTWITHREALINT",
+    )
 }

@@ -10,6 +10,7 @@ use lib.Dec.{eqb}
 use lib.ListN.{length, getD, set, length-set}
 use lib.Seq.{slice, slice-cons, slice-empty, length-slice, getD-set-same, getD-set-other}
 use Rattle.model.specs.Basic.{indexOf, capital}
+use Rattle.model.specs.Bounds.{symbolLimit}
 use Rattle.model.specs.Tokens.{sameName}
 use Rattle.model.specs.Image.{tab}
 use Rattle.laws.proofs.Words.{other-word}
@@ -74,38 +75,38 @@ index-tab name f g w e (suc n) i =
 -- ANOTHER NAME IN SLOT k
 module _ (s names : List ℕ) (k a e : ℕ) where
   abbrev changed : List ℕ
-  changed = set (set names k a) (112 + k) e
+  changed = set (set names k a) (symbolLimit + k) e
 
-  start-same : k < 112 → length names ≡ 224 → getD changed k 0 ≡ a
-  start-same h n = getD-set-other (set names k a) (112 + k) k e 0 (λ q. omega arith) ∙ getD-set-same names k a 0 (omega arith)
+  start-same : k < symbolLimit → length names ≡ symbolLimit + symbolLimit → getD changed k 0 ≡ a
+  start-same h n = getD-set-other (set names k a) (symbolLimit + k) k e 0 (λ q. omega arith) ∙ getD-set-same names k a 0 (omega arith)
 
-  end-same : k < 112 → length names ≡ 224 → getD changed (112 + k) 0 ≡ e
-  end-same h n = getD-set-same (set names k a) (112 + k) e 0 (omega (arith, length-set names k a))
+  end-same : k < symbolLimit → length names ≡ symbolLimit + symbolLimit → getD changed (symbolLimit + k) 0 ≡ e
+  end-same h n = getD-set-same (set names k a) (symbolLimit + k) e 0 (omega (arith, length-set names k a))
 
-  place-other : (j : ℕ) → (j ≡ k → ⊥) → (j ≡ 112 + k → ⊥) → getD changed j 0 ≡ getD names j 0
-  place-other j p q = getD-set-other (set names k a) (112 + k) j e 0 q ∙ getD-set-other names k j a 0 p
+  place-other : (j : ℕ) → (j ≡ k → ⊥) → (j ≡ symbolLimit + k → ⊥) → getD changed j 0 ≡ getD names j 0
+  place-other j p q = getD-set-other (set names k a) (symbolLimit + k) j e 0 q ∙ getD-set-other names k j a 0 p
 
-  pub name-same : k < 112 → length names ≡ 224 → nameOf s (set (set names k a) (112 + k) e) k ≡ slice a e s
+  pub name-same : k < symbolLimit → length names ≡ symbolLimit + symbolLimit → nameOf s (set (set names k a) (symbolLimit + k) e) k ≡ slice a e s
   unfolding nameOf
   name-same h n = rw (start-same h n, end-same h n)
 
-  pub name-other : (j : ℕ) → (j ≡ k → ⊥) → j < 112 → k < 112 → nameOf s (set (set names k a) (112 + k) e) j ≡ nameOf s names j
+  pub name-other : (j : ℕ) → (j ≡ k → ⊥) → j < symbolLimit → k < symbolLimit → nameOf s (set (set names k a) (symbolLimit + k) e) j ≡ nameOf s names j
   unfolding nameOf
-  name-other j q hj hk = rw (place-other j q (λ z. omega arith), place-other (112 + j) (λ z. omega arith) (λ z. q (omega arith)))
+  name-other j q hj hk = rw (place-other j q (λ z. omega arith), place-other (symbolLimit + j) (λ z. omega arith) (λ z. q (omega arith)))
 
-  pub placed-set : k < 112 → length names ≡ 224 → a ≤ e → e ≤ length s → Placed s names → Placed s (set (set names k a) (112 + k) e)
+  pub placed-set : k < symbolLimit → length names ≡ symbolLimit + symbolLimit → a ≤ e → e ≤ length s → Placed s names → Placed s (set (set names k a) (symbolLimit + k) e)
   placed-set hk n ae es p = record {
     order = λ j h. order j h (eqb j k) refl;
-    inside = λ j. inside j (eqb j k) (eqb j (112 + k)) refl refl;
+    inside = λ j. inside j (eqb j k) (eqb j (symbolLimit + k)) refl refl;
   }
     where
-      order : (j : ℕ) → j < 112 → (t : Bool) → eqb j k ≡ t → getD changed j 0 ≤ getD changed (112 + j) 0
+      order : (j : ℕ) → j < symbolLimit → (t : Bool) → eqb j k ≡ t → getD changed j 0 ≤ getD changed (symbolLimit + j) 0
       order j h true q = rw (eqb-true j k q, start-same hk n, end-same hk n) ae
       order j h false q =
-          rw (place-other j (eqb-false j k q) (λ z. omega arith), place-other (112 + j) (λ z. omega arith) (λ z. eqb-false j k q (omega arith)))
+          rw (place-other j (eqb-false j k q) (λ z. omega arith), place-other (symbolLimit + j) (λ z. omega arith) (λ z. eqb-false j k q (omega arith)))
           (p .order j h)
 
-      inside : (j : ℕ) (t u : Bool) → eqb j k ≡ t → eqb j (112 + k) ≡ u → getD changed j 0 ≤ length s
+      inside : (j : ℕ) (t u : Bool) → eqb j k ≡ t → eqb j (symbolLimit + k) ≡ u → getD changed j 0 ≤ length s
       inside j true u q r = rw (eqb-true j k q, start-same hk n) (omega arith)
-      inside j false true q r = rw (eqb-true j (112 + k) r, end-same hk n) es
-      inside j false false q r = rw (place-other j (eqb-false j k q) (eqb-false j (112 + k) r)) (p .inside j)
+      inside j false true q r = rw (eqb-true j (symbolLimit + k) r, end-same hk n) es
+      inside j false false q r = rw (place-other j (eqb-false j k q) (eqb-false j (symbolLimit + k) r)) (p .inside j)

@@ -37,14 +37,15 @@ pub fn find(s: &[u8], names: &Names, from: usize, count: usize, start: usize, en
         if e - a == n {
             // From the last byte on: names of one kind differ there.
             let mut j = n;
-            while 0 < j {
+            loop {
+                if j == 0 {
+                    break 'search;
+                }
                 j -= 1;
                 if !characters::is_alike(s[start + j], s[a + j]) {
-                    i += 1;
-                    continue 'search;
+                    break;
                 }
             }
-            break 'search;
         }
         i += 1;
     }

@@ -37,7 +37,7 @@ module _ (s : List ℕ) (c : Cursor) where
   pub piece-is : piece ≡ textOf s c
   piece-is = part (c .start) (c .end) s
 
-  module _ (h : c .kind ≡ 3 → ⊥) (b : Block) (n : ℕ) where
+  module _ (h : c .kind ≡ NUMBER → ⊥) (b : Block) (n : ℕ) where
     pub crisp-none : 2 ≡ fault (aCrisp (seen s c b n) [])
     unfolding fault
     crisp-none = simp (kind-seen, ne-eqb _ _ h)
@@ -50,7 +50,7 @@ module _ (s : List ℕ) (c : Cursor) where
     unfolding fault
     number-none = simp (kind-seen, ne-eqb _ _ h)
 
-  module _ (h : c .kind ≡ 3) (w : ℕ) (b : Block) (n : ℕ) where
+  module _ (h : c .kind ≡ NUMBER) (w : ℕ) (b : Block) (n : ℕ) where
     pub crisp-fault : (t : Bool) → isCrisp piece ≡ t → w ≡ (if t then 0 else 3) → w ≡ fault (aCrisp (seen s c b n) [])
     unfolding fault
     crisp-fault true q e = e ∙ sym (simp (kind-seen, text-seen, eq-eqb _ _ h, sym piece-is, q))

@@ -34,7 +34,7 @@ pub fn crisp_here(s: &[u8], c: Cursor) -> CrispHere
     requires { ⌜ Fits (now s) c ⌝ }
     ensures { λ r. ⌜ ((b : Block) (n : ℕ) → r .fault ≡ fault (aCrisp (seen (now (s .entry)) c b n) [])) ⌝ }
     ensures value { λ r. ⌜ r .value .0 ≡ (if eqb (r .fault) 0 then valueOf (textOf (now (s .entry)) c) else pos 0) ⌝ }
-    ensures kind { λ r. ⌜ (r .fault ≡ 0 → c .kind ≡ 3) ⌝ }
+    ensures kind { λ r. ⌜ (r .fault ≡ 0 → c .kind ≡ NUMBER) ⌝ }
 {
     if c.kind != token_kinds::NUMBER {
         return CrispHere {
@@ -56,7 +56,7 @@ pub fn unit_here(s: &[u8], c: Cursor) -> UnitHere
     requires { ⌜ Fits (now s) c ⌝ }
     ensures { λ r. ⌜ ((b : Block) (n : ℕ) → r .fault ≡ fault (aUnit (seen (now (s .entry)) c b n))) ⌝ }
     ensures value { λ r. ⌜ r .value .0 ≡ (if eqb (r .fault) 0 then unitOf (textOf (now (s .entry)) c) else 0) ⌝ }
-    ensures kind { λ r. ⌜ (r .fault ≡ 0 → c .kind ≡ 3) ⌝ }
+    ensures kind { λ r. ⌜ (r .fault ≡ 0 → c .kind ≡ NUMBER) ⌝ }
 {
     if c.kind != token_kinds::NUMBER {
         return UnitHere {
@@ -81,7 +81,7 @@ pub fn number_here(s: &[u8], c: Cursor) -> NumberHere
         → r .fault ≡ fault ((is NUMBER (seen (now (s .entry)) c b n), 2)
         ∷ (isRuleNumber (text (seen (now (s .entry)) c b n)), 3) ∷ [])) ⌝ }
     ensures value { λ r. ⌜ r .value ≡ (if eqb (r .fault) 0 then decimal (textOf (now (s .entry)) c) else 0) ⌝ }
-    ensures kind { λ r. ⌜ (r .fault ≡ 0 → c .kind ≡ 3) ⌝ }
+    ensures kind { λ r. ⌜ (r .fault ≡ 0 → c .kind ≡ NUMBER) ⌝ }
 {
     if c.kind != token_kinds::NUMBER {
         return NumberHere { fault: 2, value: 0 };

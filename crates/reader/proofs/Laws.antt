@@ -2,11 +2,12 @@
 use mathlib.Core.Path.{_≡_, refl, sym, ap, _∙_}
 use mathlib.Core.List.{List}
 use mathlib.Core.Option.{some}
-use Prim.Native.Nat.{ℕ, zero, suc, _≤_, _<_}
+use Prim.Native.Nat.{ℕ, zero, suc, _*_, _≤_, _<_}
 use native.Mathlib.Omega.{arith}
 use borrow.Author.Tests.{eq-eqb, ne-eqb, lt-ltb}
 use lib.ListN.{length}
 use Rattle.model.specs.Basic.{gather, total}
+use Rattle.model.specs.Bounds.{textLimit, ruleLimit, wordLimit, conclusionLimit}
 use Rattle.model.specs.Block.{Block, Rule}
 use Rattle.model.specs.Keywords.{RULE}
 use Rattle.model.specs.Outcome.{Outcome, accepted, refused, andThen, into}
@@ -32,7 +33,7 @@ unfolding blockView
 bare s t = record { ruleBlock = refl; pair = refl; act = refl; accu = refl }
 
 -- no rules are kept in arrays of these sizes
-pub kept-none : (s : List ℕ) (t : Tables) (h : Heading) (rules ws ks : List ℕ) → length rules ≡ 256 → length ws ≡ 640 → length ks ≡ 256
+pub kept-none : (s : List ℕ) (t : Tables) (h : Heading) (rules ws ks : List ℕ) → length rules ≡ ruleLimit * 4 → length ws ≡ wordLimit → length ks ≡ conclusionLimit * 2
     → Kept (headed s h (blockView s t) .rules) rules ws ks (record { rules = 0; words = 0; conclusions = 0 })
 unfolding blockView gather total
 kept-none s t h rules ws ks a b c = record {
@@ -50,7 +51,7 @@ at-least zero a b = absurd (a refl)
 at-least (suc zero) a b = absurd (b refl)
 at-least (suc (suc w)) a b = omega arith
 
-pub long : (room : ℕ) (s : List ℕ) → 65536 < length s → readsInto room s ≡ refused 1 (some 0)
+pub long : (room : ℕ) (s : List ℕ) → textLimit < length s → readsInto room s ≡ refused 1 (some 0)
 unfolding readsInto reads
 long room s l = simp (lt-ltb _ _ l) refl
 
@@ -110,7 +111,7 @@ module _ (s : List ℕ) (t : Tables) (h : Heading) where
           let m : f .why ≤ 9 = omega (arith, why-is, k .most) in
           (at-least (f .why) z (λ o. k .not-one (sym why-is ∙ o)), m)
 
-      module _ (room : ℕ) (l : length s ≤ 65536) where
+      module _ (room : ℕ) (l : length s ≤ textLimit) where
         pub refused-so : (f .why ≡ 0 → ⊥) → readsInto room s ≡ refused (f .why) (some (f .place))
         unfolding readsInto
         refused-so z =

@@ -4,7 +4,7 @@ ghost use mathlib.Core.List.{List};
 ghost use Prim.Native.Nat.{ℕ, _≤_, _<_};
 ghost use Rattle.model.specs.Basic.{_▸_};
 ghost use Rattle.model.specs.Block.{Block, withRuleBlock};
-ghost use Rattle.model.specs.Keywords.{COLON, SEMICOLON, ACCU};
+ghost use Rattle.model.specs.Keywords.{COLON, SEMICOLON, ACCU, END};
 ghost use Rattle.model.specs.Parse.{refuse, expect, ownName};
 ghost use Rattle.model.specs.Rules.{andPair, orPair, algorithm as algorithmOf, algorithmLine, algorithms as algorithmsOf, activation as activationOf, activationLine, accumulation as accumulationOf};
 ghost use Rattle.cursor.specs.View.{seen, Fits, left};
@@ -112,7 +112,7 @@ fn pair_at(k: u8, w: u8) -> u32
 // The first algorithm sets the pair; the second has to be of it.
 fn algorithm(s: &[u8], p: Opened, second: bool, a: u32) -> Opened
     requires { ⌜ Fits (now s) (p .cursor) × Headed (now s) (p .heading) × (a ≤ 3)
-        × (a < 3 → p .cursor .kind ≡ 0 → ⊥) ⌝ }
+        × (a < 3 → p .cursor .kind ≡ END → ⊥) ⌝ }
     ensures { λ r. ⌜ Opens (algorithmOf second (pairAt a)) (now (s .entry)) p r ⌝ }
 {
     if a == 3 {

@@ -10,7 +10,7 @@ use lib.ListN.{length, drop, getD, set, length-append, drop-of-length-le}
 use lib.Seq.{getD-take, drop-cons, sets, length-sets}
 use Rattle.model.specs.Basic.{if_then_else_, all, gather}
 use Rattle.model.specs.Block.{Block, Rule, Condition, Conclusion, size, term, inputFirst, outputFirst, termsOf, singletonsOf, conclusions, withConclusion, withWeight}
-use Rattle.model.specs.Bounds.{M}
+use Rattle.model.specs.Bounds.{M, ruleLimit, conclusionLimit, depthLimit, inputLimit, variableLimit, termLimit}
 use Rattle.model.specs.Image.{postfix, conclusionWords}
 use Rattle.model.specs.Keywords.{NUMBER, NAME, COMMA, SEMICOLON, IS, IF, COLON, RULE, THEN, WITH}
 use Rattle.model.specs.Parse.{Parse, Part, kind, text, is, refuse, advance, change, judged, expect, repeatOn, repeated, listed, aName, aUnit}
@@ -32,7 +32,7 @@ use Rattle.condition_text.specs.Pending.{Adds}
 use Rattle.condition_text.proofs.Laws.{adds, words-put}
 use Rattle.rule_text.specs.declared.Concluded.{Concluded}
 use Rattle.rule_text.specs.declared.Progress.{Progress}
-use Rattle.rule_text.specs.Progress.{Kept, Few, Rows, Concludes, Onward, Goes, Within, holding, midst, gives}
+use Rattle.rule_text.specs.Progress.{Kept, FewKept, Rows, Concludes, Onward, Goes, Within, holding, midst, gives}
 
 -- OTHER RULES: the names are declared as before
 pub describes : {s names symbols : List ℕ} {b : Block} (rs : List Rule) → Describes s names symbols b → Describes s names symbols (holding rs b)
@@ -168,7 +168,7 @@ concludes-none {part} {s} {b} {rs} {q} {m} {p} {r} w l a e f = record {
   put = record { put = omega arith; said = refl };
 }
 
-pub onward-none : {s : List ℕ} {p r : Concluded} (w : ℕ) → Step (refuse w) s (p .cursor) (r .cursor) → r .count ≡ p .count → p .count ≤ 128 → Onward s p r
+pub onward-none : {s : List ℕ} {p r : Concluded} (w : ℕ) → Step (refuse w) s (p .cursor) (r .cursor) → r .count ≡ p .count → p .count ≤ conclusionLimit → Onward s p r
 onward-none w a e h = record { fewer = a .fewer; fits = a .fits; grows = omega arith; count = omega arith }
 
 pub concludes-then : {f g : Part} {s : List ℕ} {b : Block} {rs : List Rule} {q : Rule} {m : ℕ} {p o r : Concluded} {old mid new : List ℕ}
@@ -222,18 +222,18 @@ module _ (s names symbols : List ℕ) (b : Block) (D : Describes s names symbols
     unfolding conclusion
     output-fault =
         judged-bad here (concludedTerm (outputOf (text here) (here .block)) (expect IS (advance here)))
-        w (aName here []) ((isOutput (text here) (here .block), 5) ∷ (ltb (length (conclusions (here .block))) 128, 6) ∷ []) (sym e) h
+        w (aName here []) ((isOutput (text here) (here .block), 5) ∷ (ltb (length (conclusions (here .block))) conclusionLimit, 6) ∷ []) (sym e) h
 
-  module _ (e : 0 ≡ fault (aName here [])) (o : ℕ) (f : o ≡ among s names (textOf s c) (outputCount symbols) 8) where
+  module _ (e : 0 ≡ fault (aName here [])) (o : ℕ) (f : o ≡ among s names (textOf s c) (outputCount symbols) inputLimit) where
     the-output : outputOf (text here) (here .block) ≡ o
     the-output = simp (text-seen, block-seen) (D′ .output (textOf s c) ∙ sym f)
 
-    output-named : conclusion here ≡ judged ((ltb o (outputCount symbols), 5) ∷ (ltb (length (conclusions (here .block))) 128, 6) ∷ []) here
+    output-named : conclusion here ≡ judged ((ltb o (outputCount symbols), 5) ∷ (ltb (length (conclusions (here .block))) conclusionLimit, 6) ∷ []) here
         (concludedTerm o (expect IS (advance here)))
     unfolding conclusion numbered
     output-named =
         judged-good here (concludedTerm (outputOf (text here) (here .block)) (expect IS (advance here)))
-        (aName here []) ((isOutput (text here) (here .block), 5) ∷ (ltb (length (conclusions (here .block))) 128, 6) ∷ []) refl (sym e)
+        (aName here []) ((isOutput (text here) (here .block), 5) ∷ (ltb (length (conclusions (here .block))) conclusionLimit, 6) ∷ []) refl (sym e)
         ∙ simp (the-output, ap (λ (y : Block). length (y .outputs)) (block-seen s c (midst b rs q) m) ∙ D′ .outputs)
 
     pub output-unknown : outputCount symbols ≤ o → conclusion here ≡ refuse 5 here
@@ -244,23 +244,23 @@ module _ (s names symbols : List ℕ) (b : Block) (D : Describes s names symbols
       how-many : length (conclusions (here .block)) ≡ n
       how-many = ap (λ (y : Block). length (conclusions y)) (block-seen s c (midst b rs q) m) ∙ k
 
-      pub output-full : 128 ≤ n → conclusion here ≡ refuse 6 here
+      pub output-full : conclusionLimit ≤ n → conclusion here ≡ refuse 6 here
       unfolding judged
       output-full h = output-named ∙ simp (lt-ltb _ _ g, how-many, le-ltb _ _ h)
 
-      pub output-known : n < 128 → conclusion here ≡ concludedTerm o (expect IS (advance here))
+      pub output-known : n < conclusionLimit → conclusion here ≡ concludedTerm o (expect IS (advance here))
       unfolding judged
       output-known h = output-named ∙ simp (lt-ltb _ _ g, how-many, lt-ltb _ _ h)
 
   module _ (e : 0 ≡ fault (aName here [])) (o : ℕ) (g : o < outputCount symbols) (j : ℕ)
-      (f : j ≡ among s names (textOf s c) (termCount symbols (8 + o)) (14 + (8 + o) * 7)) where
+      (f : j ≡ among s names (textOf s c) (termCount symbols (inputLimit + o)) (variableLimit + (inputLimit + o) * termLimit)) where
     the-term : singletonOf o (text here) (here .block) ≡ j
     the-term = simp (text-seen, block-seen) (D′ .singleton (textOf s c) o g ∙ sym f)
 
     abbrev its : Conclusion
-    its = record { output = o; term = first symbols (8 + o) + j }
+    its = record { output = o; term = first symbols (inputLimit + o) + j }
 
-    term-named : concludedTerm o here ≡ (if ltb j (termCount symbols (8 + o)) then advance (change (changeRule (withConclusion its)) here) else refuse 5 here)
+    term-named : concludedTerm o here ≡ (if ltb j (termCount symbols (inputLimit + o)) then advance (change (changeRule (withConclusion its)) here) else refuse 5 here)
     unfolding concludedTerm judged numbered
     term-named =
         judged-good here
@@ -273,10 +273,10 @@ module _ (s names symbols : List ℕ) (b : Block) (D : Describes s names symbols
           ap (outputFirst o) (block-seen s c (midst b rs q) m) ∙ D′ .outputFirst o g,
         )
 
-    pub term-unknown : termCount symbols (8 + o) ≤ j → concludedTerm o here ≡ refuse 5 here
+    pub term-unknown : termCount symbols (inputLimit + o) ≤ j → concludedTerm o here ≡ refuse 5 here
     term-unknown h = term-named ∙ simp (le-ltb _ _ h)
 
-    pub term-known : j < termCount symbols (8 + o) → c .why ≡ 0 → concludedTerm o here ≡ advance (seen s c (midst b rs (gives (its ∷ []) q)) m)
+    pub term-known : j < termCount symbols (inputLimit + o) → c .why ≡ 0 → concludedTerm o here ≡ advance (seen s c (midst b rs (gives (its ∷ []) q)) m)
     unfolding changeRule
     term-known h z =
         term-named ∙ simp (lt-ltb _ _ h)
@@ -360,10 +360,10 @@ module _ (s : List ℕ) (b : Block) (rs : List Rule) (q : Rule) (m : ℕ) (c : C
   abbrev whole : Block
   whole = midst b rs q
 
-  unweighed : (d : Cursor) → q .weight ≡ M → seen s d (midst b rs (withWeight 1000000 q)) m ≡ seen s d whole m
+  unweighed : (d : Cursor) → q .weight ≡ M → seen s d (midst b rs (withWeight M q)) m ≡ seen s d whole m
   unweighed d h = ap (λ (w : ℕ). seen s d (midst b rs (withWeight w q)) m) (sym h)
 
-  pub weight-none : (c .kind ≡ WITH → ⊥) → q .weight ≡ M → seen s c (midst b rs (withWeight 1000000 q)) m ≡ weighted (seen s c whole m)
+  pub weight-none : (c .kind ≡ WITH → ⊥) → q .weight ≡ M → seen s c (midst b rs (withWeight M q)) m ≡ weighted (seen s c whole m)
   unfolding weighted
   weight-none k h = unweighed c h ∙ sym (simp (kind-seen, ne-eqb _ _ k))
 
@@ -373,7 +373,7 @@ module _ (s : List ℕ) (b : Block) (rs : List Rule) (q : Rule) (m : ℕ) (c : C
     weight-follows = simp (kind-seen, eq-eqb _ _ k) (ap weight (sym (a .reads whole m)))
 
     pub weight-fault : (w : ℕ) (e : Cursor) → w ≡ fault (aUnit (seen s d whole m)) → (w ≡ 0 → ⊥) → Step (refuse w) s d e → q .weight ≡ M
-        → seen s e (midst b rs (withWeight 1000000 q)) m ≡ weighted (seen s c whole m)
+        → seen s e (midst b rs (withWeight M q)) m ≡ weighted (seen s c whole m)
     unfolding weight
     weight-fault w e f z x h =
         unweighed e h ∙ x .reads whole m
@@ -411,7 +411,7 @@ given-lost s d b m n g f h e =
     lost-weighted = simp (lost-is s d f h b m WITH (λ z. omega arith))
 
 pub from-number : (s : List ℕ) (c f : Cursor) (b : Block) (m : ℕ) → seen s f b m ≡ expect IF (expect COLON (ruleNumber (seen s c b m)))
-    → ruleFrom (seen s c b m) ≡ ruleGiven (decimal (textOf s c)) (conditionWith (parenthesis 8) (seen s f b m))
+    → ruleFrom (seen s c b m) ≡ ruleGiven (decimal (textOf s c)) (conditionWith (parenthesis depthLimit) (seen s f b m))
 unfolding ruleFrom condition
 from-number s c f b m e =
     ap (λ (w : List ℕ). ruleGiven (decimal w) (condition (expect IF (expect COLON (ruleNumber (seen s c b m)))))) (text-seen s c b m)
@@ -433,7 +433,7 @@ pub begun-count : (rs : List Rule) (n k : ℕ) (t : Condition) → length (gathe
 begun-count rs n k t e = ap length (gather-last (λ r. r .conclusions) rs (begun n t) ∙ append-nil (gather (λ r. r .conclusions) rs)) ∙ e
 
 module _ (rs : List Rule) (rows ws ks rows′ ws′ ks′ : List ℕ) (n n′ : Totals) (K : Kept rs rows ws ks n) where
-  pub keeps : (x w v : ℕ) (t : Condition) (more : List Conclusion) → Few n′ → n′ .rules ≡ n .rules + 1 → n′ .conclusions ≡ n .conclusions + length more
+  pub keeps : (x w v : ℕ) (t : Condition) (more : List Conclusion) → FewKept n′ → n′ .rules ≡ n .rules + 1 → n′ .conclusions ≡ n .conclusions + length more
       → Adds (n .rules * 4) (n′ .rules * 4) (x ∷ w ∷ length more ∷ v ∷ []) rows rows′ → w ≡ n′ .words - n .words
       → Adds (n .words) (n′ .words) (postfix t) ws ws′
       → Adds (n .conclusions * 2) (n′ .conclusions * 2) (gather conclusionWords more) ks ks′
@@ -481,11 +481,11 @@ module _ (s : List ℕ) (b : Block) (c : Cursor) (m : ℕ) where
     how-many-rules : length (seen s c b m .block .rules) ≡ n
     how-many-rules = ap (λ (y : Block). length (y .rules)) (block-seen s c b m) ∙ l
 
-    pub rule-full : 64 ≤ n → rule (seen s c b m) ≡ refuse 6 (seen s c b m)
+    pub rule-full : ruleLimit ≤ n → rule (seen s c b m) ≡ refuse 6 (seen s c b m)
     unfolding rule judged
     rule-full h = simp (kind-seen, eq-eqb _ _ k, how-many-rules, le-ltb _ _ h)
 
-    pub rule-room : n < 64 → rule (seen s c b m) ≡ ruleFrom (advance (seen s c b m))
+    pub rule-room : n < ruleLimit → rule (seen s c b m) ≡ ruleFrom (advance (seen s c b m))
     unfolding rule judged
     rule-room h = simp (kind-seen, eq-eqb _ _ k, how-many-rules, lt-ltb _ _ h)
 
@@ -498,8 +498,8 @@ goes-none {part} {s} {b} {p} {r} w a e z f = record {
   kept = λ h. absurd (z h);
 }
 
-pub within-none : {s : List ℕ} {p r : Progress} (w : ℕ) → Step (refuse w) s (p .cursor) (r .cursor) → r .totals ≡ p .totals → Few (p .totals) → Within s p r
-within-none w a e f = record { fewer = a .fewer; fits = a .fits; few = subst Few (sym e) f }
+pub within-none : {s : List ℕ} {p r : Progress} (w : ℕ) → Step (refuse w) s (p .cursor) (r .cursor) → r .totals ≡ p .totals → FewKept (p .totals) → Within s p r
+within-none w a e f = record { fewer = a .fewer; fits = a .fits; few = subst FewKept (sym e) f }
 
 pub within-then : {s : List ℕ} {p q r : Progress} → Within s p q → Within s q r → Within s p r
 within-then {s} {p} {q} {r} x y = record { fewer = let u = x .fewer in let v = y .fewer in omega arith; fits = y .fits; few = y .few }

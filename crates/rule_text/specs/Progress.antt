@@ -12,6 +12,7 @@ use Rattle.model.specs.Parse.{Part}
 use Rattle.cursor.specs.View.{seen, Fits, left}
 use Rattle.block_tables.specs.declared.Totals.{Totals}
 use Rattle.block_tables.specs.Stored.{Stored, ruleRow}
+use Rattle.symbol_table.specs.Symbols.{Describes}
 use Rattle.condition_text.specs.Pending.{Adds}
 use Rattle.rule_text.specs.declared.Concluded.{Concluded}
 use Rattle.rule_text.specs.declared.Progress.{Progress}
@@ -26,8 +27,14 @@ pub record Kept (rs : List Rule) (rules ws ks : List ℕ) (n : Totals) : Type 0 
   pub words-count : total (λ r. size (r .condition)) rs ≡ n .words
   pub conclusions-count : length (gather (λ r. r .conclusions) rs) ≡ n .conclusions
 
+-- names and symbols are those of a block whose rules are kept, so that what is said of every such block is said of one
+pub record Standing (s names symbols rules ws ks : List ℕ) (n : Totals) : Type 0 where
+  pub block : Block
+  pub describes : Describes s names symbols block
+  pub kept : Kept (block .rules) rules ws ks n
+
 -- no more than the limits
-pub record Few (n : Totals) : Type 0 where
+pub record FewKept (n : Totals) : Type 0 where
   pub rules : n .rules ≤ ruleLimit
   pub words : n .words ≤ wordLimit
   pub conclusions : n .conclusions ≤ conclusionLimit
@@ -71,7 +78,7 @@ pub record Onward (s : List ℕ) (p r : Concluded) : Type 0 where
   pub count : r .count ≤ conclusionLimit
 
 -- part reads the rest of the rule q, and its conclusions and its row are put
-pub record Ends (part : Part) (s : List ℕ) (b : Block) (rs : List Rule) (q : Rule) (p r : Progress) (n w : ℕ)
+pub record EndsRule (part : Part) (s : List ℕ) (b : Block) (rs : List Rule) (q : Rule) (p r : Progress) (n w : ℕ)
     (rows rows′ ks ks′ : List ℕ) : Type 0 where
   pub more : List Conclusion
   pub weight : ℕ
@@ -93,4 +100,4 @@ pub record Goes (part : Part) (s : List ℕ) (b : Block) (p r : Progress) (rules
 pub record Within (s : List ℕ) (p r : Progress) : Type 0 where
   pub fewer : left s (r .cursor) ≤ left s (p .cursor)
   pub fits : Fits s (r .cursor)
-  pub few : Few (r .totals)
+  pub few : FewKept (r .totals)

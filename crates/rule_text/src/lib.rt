@@ -15,7 +15,7 @@ ghost use Rattle.model.specs.Rules.{ruleNumber, concludedTerm, conclusion as co
 ghost use Rattle.cursor.specs.View.{seen, textOf, Fits, left, Step, Moves};
 ghost use Rattle.symbol_table.specs.Symbols.{Symbols, Describes, outputCount};
 ghost use Rattle.condition_text.specs.Pending.{Adds};
-ghost use Rattle.rule_text.specs.Progress.{Kept, Few, Rows, Concludes, Onward, Ends, Goes, Within, midst};
+ghost use Rattle.rule_text.specs.Progress.{Kept, Standing, FewKept, Rows, Concludes, Onward, EndsRule, Goes, Within, midst};
 use block_tables::CONCLUSION_WIDTH;
 use block_tables::Conclusions;
 use block_tables::RULE_WIDTH;
@@ -27,6 +27,9 @@ use cursor::Cursor;
 use lookup::Names;
 use model::Degree;
 use symbol_table::SymbolTable;
+
+// The weight of a rule that gives none.
+const ONE: u32 = bounds::M as u32;
 
 // A reading among rules, beside how many are kept.
 pub struct Progress {
@@ -219,7 +222,7 @@ fn weighted(s: &[u8], c: Cursor) -> Weighed
     if c.kind != token_kinds::WITH {
         return Weighed {
             cursor: c,
-            weight: Degree(1000000),
+            weight: Degree(ONE),
         };
     }
     let d = cursor::advance(s, c);
@@ -227,7 +230,7 @@ fn weighted(s: &[u8], c: Cursor) -> Weighed
     if x.fault != 0 {
         return Weighed {
             cursor: cursor::refuse(d, x.fault),
-            weight: Degree(1000000),
+            weight: Degree(ONE),
         };
     }
     let e = cursor::advance(s, d);
@@ -239,15 +242,15 @@ fn weighted(s: &[u8], c: Cursor) -> Weighed
 }
 
 // The row of rule k.
-fn put_row(rules: &mut Rules, k: usize, number: u32, words: u32, conclusions: u32, weight: u32)
+fn put_row(rules: &mut Rules, k: usize, number: u32, words: u32, conclusions: u32, weight: Degree)
     requires { ⌜ k < ruleLimit ⌝ }
-    ensures { λ r. ⌜ Adds (k * 4) ((k + 1) * 4) (number ∷ words ∷ conclusions ∷ weight ∷ [])
+    ensures { λ r. ⌜ Adds (k * 4) ((k + 1) * 4) (number ∷ words ∷ conclusions ∷ weight .0 ∷ [])
         (now (rules .entry)) (now (rules .exit)) ⌝ }
 {
     rules[k * RULE_WIDTH] = number;
     rules[k * RULE_WIDTH + 1] = words;
     rules[k * RULE_WIDTH + 2] = conclusions;
-    rules[k * RULE_WIDTH + 3] = weight;
+    rules[k * RULE_WIDTH + 3] = weight.0;
 }
 
 // From THEN on, for the rule of this number and with so many condition words.
@@ -261,12 +264,12 @@ fn rule_given(
     number: u32,
     words: u32,
 ) -> Progress
-    requires { ⌜ Fits (now s) (p .cursor) × Symbols (now s) (now names) (now symbols) × Few (p .totals)
+    requires { ⌜ Fits (now s) (p .cursor) × Symbols (now s) (now names) (now symbols) × FewKept (p .totals)
         × (p .totals .rules < ruleLimit) ⌝ }
     ensures { λ r. ⌜ ((b : Block) (rs : List Rule) (q : Rule)
         → Describes (now (s .entry)) (now (names .entry)) (now (symbols .entry)) b
         → length (conclusionsOf (midst b rs q)) ≡ p .totals .conclusions → q .weight ≡ M
-        → Ends (λ y. expect SEMICOLON (weightedOf (listed conclusionOf (expect THEN y))))
+        → EndsRule (λ y. expect SEMICOLON (weightedOf (listed conclusionOf (expect THEN y))))
         (now (s .entry)) b rs q p r number words
         (now (rules .entry)) (now (rules .exit)) (now (conclusions .entry)) (now (conclusions .exit))) ⌝ }
     ensures within { λ r. ⌜ Within (now (s .entry)) p r ⌝ }
@@ -285,7 +288,7 @@ fn rule_given(
     let g = cursor::expect(s, f, token_kinds::SEMICOLON);
     let w = x.weight;
     let k = (q.count - t.conclusions) as u32;
-    put_row(rules, t.rules, number, words, k, w.0);
+    put_row(rules, t.rules, number, words, k, w);
     let u = Totals {
         rules: t.rules + 1,
         words: t.words,
@@ -307,8 +310,9 @@ fn rule_from(
     conclusions: &mut Conclusions,
     p: Progress,
 ) -> Progress
-    requires { ⌜ Fits (now s) (p .cursor) × Symbols (now s) (now names) (now symbols) × Few (p .totals)
-        × (p .totals .rules < ruleLimit) ⌝ }
+    requires { ⌜ Fits (now s) (p .cursor) × Symbols (now s) (now names) (now symbols) × FewKept (p .totals)
+        × (p .totals .rules < ruleLimit)
+        × Standing (now s) (now names) (now symbols) (now rules) (now words) (now conclusions) (p .totals) ⌝ }
     ensures { λ r. ⌜ ((b : Block) → Describes (now (s .entry)) (now (names .entry)) (now (symbols .entry)) b
         → Kept (b .rules) (now (rules .entry)) (now (words .entry)) (now (conclusions .entry)) (p .totals)
         → Goes ruleFrom (now (s .entry)) b p r (now (rules .exit)) (now (words .exit)) (now (conclusions .exit))) ⌝ }
@@ -367,7 +371,8 @@ fn rule(
     conclusions: &mut Conclusions,
     p: Progress,
 ) -> Progress
-    requires { ⌜ Fits (now s) (p .cursor) × Symbols (now s) (now names) (now symbols) × Few (p .totals) ⌝ }
+    requires { ⌜ Fits (now s) (p .cursor) × Symbols (now s) (now names) (now symbols) × FewKept (p .totals)
+        × Standing (now s) (now names) (now symbols) (now rules) (now words) (now conclusions) (p .totals) ⌝ }
     ensures { λ r. ⌜ ((b : Block) → Describes (now (s .entry)) (now (names .entry)) (now (symbols .entry)) b
         → Kept (b .rules) (now (rules .entry)) (now (words .entry)) (now (conclusions .entry)) (p .totals)
         → Goes ruleOf (now (s .entry)) b p r (now (rules .exit)) (now (words .exit)) (now (conclusions .exit))) ⌝ }
@@ -400,7 +405,8 @@ pub fn rules(
     conclusions: &mut Conclusions,
     p: Progress,
 ) -> Progress
-    requires { ⌜ Fits (now s) (p .cursor) × Symbols (now s) (now names) (now symbols) × Few (p .totals) ⌝ }
+    requires { ⌜ Fits (now s) (p .cursor) × Symbols (now s) (now names) (now symbols) × FewKept (p .totals)
+        × Standing (now s) (now names) (now symbols) (now rules) (now words) (now conclusions) (p .totals) ⌝ }
     ensures { λ r. ⌜ ((b : Block) → Describes (now (s .entry)) (now (names .entry)) (now (symbols .entry)) b
         → Kept (b .rules) (now (rules .entry)) (now (words .entry)) (now (conclusions .entry)) (p .totals)
         → Goes (λ y. repeated RULE ruleOf (ruleOf y)) (now (s .entry)) b p r

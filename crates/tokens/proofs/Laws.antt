@@ -1,6 +1,6 @@
 -- One step of each definition that walks over a text, at a place of it.
 use mathlib.Core.Path.{_≡_, refl, sym, ap, _∙_}
-use mathlib.Core.List.{List, [], _∷_}
+use mathlib.Core.List.{List, [], _∷_, map}
 use mathlib.Core.Bool.{Bool, true, false, _&&_, _||_, not, and-false, false≢true}
 use mathlib.Core.Option.{Option, none, some}
 use Prim.Native.Nat.{ℕ, zero, suc, _+_, _-_, _≤_, _<_}
@@ -12,11 +12,12 @@ use lib.ListN.{length, take, drop, getD, drop-of-length-le, length-drop}
 use lib.Seq.{drop-cons, drop-drop, slice, slice-empty}
 use Rattle.model.specs.Basic.{if_then_else_, run}
 use Rattle.model.specs.Keywords.{END, WRONG, BLANK}
-use Rattle.model.specs.Tokens.{isUnderscore, isDigit, startsName, isNameByte, isMark, starts, tidy, wordKind, pointPart, numberPart, commentPart, commentPiece, piece, wordPiece, pieceAt, token, placed, scan}
+use Rattle.model.specs.Tokens.{isUnderscore, isDigit, startsName, isNameByte, isMark, starts, tidy, wordKind, pointPart, numberPart, commentPart, commentPiece, piece, wordPiece, pieceAt, Piece, Token as ModelToken, token, placed, scan, tokens}
 use Rattle.laws.proofs.Slices.{cut}
 use Rattle.laws.proofs.Tests.{clash}
 use Rattle.characters.proofs.Laws.{tidy-cons, run-in, run-out, run-more, run-stop, run-end}
-use Rattle.tokens.specs.Tokens.{isPlain, goesOn, tidyWord, tokensFrom, after}
+use Rattle.tokens.specs.Tokens.{isPlain, goesOn, tidyWord, tokensFrom, tokenOf, behind, after}
+use Rattle.tokens.specs.declared.Token.{Token}
 
 -- WORDS
 -- what `goesOn` tells by the tests of the first byte, n and u, and of the next, p
@@ -239,3 +240,41 @@ module _ (s : List ℕ) (i k m : ℕ) (h : m < length (drop i s)) (e : piece k m
 pub last : (s : List ℕ) (i : ℕ) → length s ≤ i → tokensFrom s i ≡ token END (slice i i s) i ∷ after s (record { kind = END; start = i; end = i })
 unfolding tokensFrom scan after
 last s i h = rw (drop-of-length-le s h, slice-empty i s)
+
+-- A PART OF THE TEXT: its tokens stand p bytes further on in the text
+abbrev further : ℕ → ModelToken → ModelToken
+further p t = token (t .kind) (t .text) (p + t .place)
+
+placed-further : (q : ℕ) (x : Piece) (p : ℕ) (s : List ℕ) (ts : List ModelToken) → placed x (q + p) s (map (further q) ts) ≡ map (further q) (placed x p s ts)
+placed-further q x p s ts = by (eqb (x .kind) BLANK) refl
+  where
+    by : (b : Bool) → eqb (x .kind) BLANK ≡ b → placed x (q + p) s (map (further q) ts) ≡ map (further q) (placed x p s ts)
+    by true e = simp e
+    by false e = simp e
+
+scan-further : (q n p : ℕ) (s : List ℕ) → scan n (q + p) s ≡ map (further q) (scan n p s)
+unfolding scan
+scan-further q n p [] = refl
+scan-further q (suc n) p (c ∷ s) = let z : suc (q + p) ≡ q + suc p = omega arith in rw z (scan-further q n (suc p) s)
+scan-further q zero p (c ∷ s) =
+    let z : suc (q + p) ≡ q + suc p = omega arith in
+    rw (z, scan-further q (pieceAt c s .more) (suc p) s) (placed-further q (pieceAt c s) p (c ∷ s) (scan (pieceAt c s .more) (suc p) s))
+
+slice-further : (p a e : ℕ) (s : List ℕ) → slice a e (drop p s) ≡ slice (p + a) (p + e) s
+slice-further p a e s = ap (drop a) (cut p e s) ∙ drop-drop a p (take (p + e) s)
+
+after-further : (s : List ℕ) (p : ℕ) (t : Token) → map (further p) (after (drop p s) t) ≡ after s (behind p t)
+unfolding after tokensFrom
+after-further s p t = by (eqb (t .kind) END) refl
+  where
+    by : (b : Bool) → eqb (t .kind) END ≡ b → map (further p) (after (drop p s) t) ≡ after s (behind p t)
+    by true e = simp e
+    by false e = simp e (sym (scan-further p 0 (t .end) (drop (t .end) (drop p s))) ∙ ap (scan 0 (p + t .end)) (drop-drop (t .end) p s))
+
+pub carried : (s : List ℕ) (p : ℕ) (t : Token) → tokens (drop p s) ≡ tokenOf (drop p s) t ∷ after (drop p s) t
+    → tokensFrom s p ≡ tokenOf s (behind p t) ∷ after s (behind p t)
+unfolding tokensFrom tokens
+carried s p t e =
+    let z : p ≡ p + 0 = omega arith in
+    ap (λ (q : ℕ). scan 0 q (drop p s)) z ∙ scan-further p 0 0 (drop p s) ∙ ap (map (further p)) e
+    ∙ (λ j. token (t .kind) (slice-further p (t .start) (t .end) s j) (p + t .start) ∷ after-further s p t j)

@@ -1,9 +1,8 @@
--- Helpers: a word byte by byte; the tokens of a text from a place on, by the model's `scan`, and the first of them as the
--- scanner gives it.
--- `begun` of cursor/proofs/Laws ties those from 0 on to the model's `tokens`.
+-- Helpers: a word byte by byte; the first token of a text as the scanner gives it, and the tokens from a place on. The
+-- contract of `next` ties both to the model's `tokens`, and the contract of `word_of` a word to its `tidy`.
 use mathlib.Core.Bool.{Bool, false, _&&_, _||_, not}
 use mathlib.Core.List.{List, [], _∷_}
-use Prim.Native.Nat.{ℕ}
+use Prim.Native.Nat.{ℕ, _+_}
 use lib.Dec.{eqb}
 use lib.ListN.{take, drop}
 use lib.Seq.{slice}
@@ -31,6 +30,10 @@ tokensFrom s at = scan 0 at (drop at s)
 
 abbrev pub tokenOf : List ℕ → Token → ModelToken
 tokenOf s t = token (t .kind) (slice (t .start) (t .end) s) (t .start)
+
+-- a token of the part from p on, as one of the text
+abbrev pub behind : ℕ → Token → Token
+behind p t = record { kind = t .kind; start = p + t .start; end = p + t .end }
 
 -- the tokens behind t
 unfoldable pub after : List ℕ → Token → List ModelToken

@@ -1,4 +1,4 @@
-// Tokens of a text: kind and place of the first one from a place on.
+// Tokens of a text: kind and place of its first one.
 ghost use mathlib.Core.Path.{_≡_};
 ghost use mathlib.Core.List.{_∷_};
 ghost use mathlib.Core.Bool.{true, false, _&&_};
@@ -6,10 +6,10 @@ ghost use Prim.Native.Nat.{suc, _+_, _≤_, _<_};
 ghost use lib.Dec.{eqb};
 ghost use lib.ListN.{length, drop, getD};
 ghost use Rattle.model.specs.Basic.{if_then_else_, run};
-ghost use Rattle.model.specs.Tokens.{isBlank, isDigit, startsName, isNameByte, isSign, starts, tidy, wordKind, pointPart, numberPart, commentPart, commentPiece, wordPiece, pieceAt};
-ghost use Rattle.tokens.specs.Tokens.{goesOn, tidyWord, pieceOf, tokensFrom, tokenOf, after};
+ghost use Rattle.model.specs.Tokens.{isBlank, isDigit, startsName, isNameByte, isSign, starts, tidy, wordKind, pointPart, numberPart, commentPart, commentPiece, wordPiece, pieceAt, tokens};
+ghost use Rattle.tokens.specs.Tokens.{goesOn, tidyWord, pieceOf, tokenOf, after};
 
-// A token of the text: its kind, and where it starts and ends.
+// A token of a text: its kind, and where it starts and ends.
 pub struct Token {
     pub kind: u8,
     pub start: usize,
@@ -234,15 +234,14 @@ fn first_piece(rest: &[u8]) -> Piece
     mark_piece(rest)
 }
 
-// The first token from `at` on.
-pub fn next(s: &[u8], at: usize) -> Token
-    requires { ⌜ at ≤ length (now s) ⌝ }
-    ensures { λ r. ⌜ tokensFrom (now (s .entry)) at ≡ tokenOf (now (s .entry)) r ∷ after (now (s .entry)) r ⌝ }
-    ensures within { λ r. ⌜ (at ≤ r .start) × (r .start ≤ r .end) × (r .end ≤ length (now (s .entry))) ⌝ }
+// The first token of what is left of the text, and where it stands in that.
+pub fn next(rest: &[u8]) -> Token
+    ensures { λ r. ⌜ tokens (now (rest .entry)) ≡ tokenOf (now (rest .entry)) r ∷ after (now (rest .entry)) r ⌝ }
+    ensures within { λ r. ⌜ (r .start ≤ r .end) × (r .end ≤ length (now (rest .entry))) ⌝ }
 {
-    let mut i = at;
-    while i < s.len() {
-        let p = first_piece(&s[i..]);
+    let mut i = 0;
+    while i < rest.len() {
+        let p = first_piece(&rest[i..]);
         let e = i + 1 + p.more;
         if p.kind != token_kinds::BLANK {
             return Token {

@@ -5,6 +5,7 @@ use Prim.Native.Nat.{_+_, _-_, _≤_}
 use borrow.Author.Tests.{lt-ltb, le-ltb}
 use lib.Dec.{ltb}
 use Rattle.model.specs.Basic.{all}
+use Rattle.model.specs.Bounds.{variableLimit}
 use Rattle.model.specs.Image.{tab}
 use Rattle.laws.proofs.Places.{all-more, all-stop, all-end}
 use Rattle.symbol_table.specs.Symbols.{first}
@@ -13,7 +14,7 @@ use Rattle.block_text.proofs.have_terms.Statement.{statement}
 use Rattle.block_text.proofs.have_terms.Tie as tie
 
 abbrev Inv-loop : tie.InvT-loop
-Inv-loop symbols v n e k₀ k = (e ≡ v + n) × (e ≤ 14)
+Inv-loop symbols v n e k₀ k = (e ≡ v + n) × (e ≤ variableLimit)
     × (all (λ j. ltb (first symbols j) (first symbols (j + 1))) (tab (λ j. j) (e - k) k) ≡ haveTerms symbols v n)
 
 abbrev μ-loop : tie.MeasureT-loop

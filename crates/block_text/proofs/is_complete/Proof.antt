@@ -1,6 +1,6 @@
 use mathlib.Core.Path.{refl, sym, _∙_}
 use borrow.Author.Needs.{needs}
-use Rattle.block_text.proofs.Laws as laws
+use Rattle.block_text.specs.Block.{allHaveTerms}
 use Rattle.block_text.proofs.is_complete.Statement.{statement}
 use Rattle.block_text.proofs.is_complete.Tie as tie
 
@@ -17,12 +17,14 @@ have-terms-requires-2 : tie.Need-have-terms-requires-2
 have-terms-requires-2 c κs = search needs
 
 returns : tie.Need-returns
+unfolding allHaveTerms
 returns c =
     let c3 = c .before .before .before in
-    λ s names b d. c .have-terms2 .ensures ∙ sym (laws.parts-there s names _ b d ∙ simp (sym (c3 .have-terms .ensures) ∙ c .before .before .if1 .taken) refl)
+    c .have-terms2 .ensures ∙ sym (simp (sym (c3 .have-terms .ensures) ∙ c .before .before .if1 .taken) refl)
 
 returns-2 : tie.Need-returns-2
-returns-2 c = λ s names b d. sym (laws.parts-there s names _ b d ∙ simp (sym (c .before .have-terms .ensures) ∙ c .if1 .left) refl)
+unfolding allHaveTerms
+returns-2 c = sym (simp (sym (c .before .have-terms .ensures) ∙ c .if1 .left) refl)
 
 pub is-complete-spec : {M : Type 1} → statement M
 is-complete-spec =

@@ -9,7 +9,7 @@ use Rattle.model.specs.Rules.{chain, plain as plainOf, operand as operandOf, co
 use Rattle.cursor.specs.View.{left}
 use Rattle.cursor.proofs.Laws.{kind-seen}
 use Rattle.symbol_table.specs.Symbols.{Describes}
-use Rattle.condition_text.specs.Pending.{Within}
+use Rattle.condition_text.specs.Pending.{Balanced}
 use Rattle.condition_text.proofs.Laws as laws
 use borrow.Fn.Kinds.{In}
 use borrow.Fn.PlainCycle.{Measures, is, falls, and}
@@ -75,7 +75,7 @@ plain-below t = and 4 plain-kinds.ps (falls 4 plain-kinds.ps _<_ μ-plain t) pla
 
 abbrev condition-Inv-loop : condition-lts.InvT-loop
 condition-Inv-loop s names symbols words₀ depth q₀ words q =
-    Within s 0 q₀ q words₀ words × ((b : Block) → Describes s names symbols b
+    Balanced s 0 q₀ q words₀ words × ((b : Block) → Describes s names symbols b
     → laws.Going (chain (operandOf (parenthesis depth)) AND andOf) OR orOf s b q₀ words₀ q words)
 
 abbrev condition-μ-loop : condition-lts.MeasureT-loop
@@ -190,7 +190,7 @@ condition-returns t c =
 
 abbrev conjunction-Inv-loop : conjunction-lts.InvT-loop
 conjunction-Inv-loop s names symbols words₀ depth q₀ words q =
-    Within s 0 q₀ q words₀ words × ((b : Block) → Describes s names symbols b → laws.Going (operandOf (parenthesis depth)) AND andOf s b q₀ words₀ q words)
+    Balanced s 0 q₀ q words₀ words × ((b : Block) → Describes s names symbols b → laws.Going (operandOf (parenthesis depth)) AND andOf s b q₀ words₀ q words)
 
 abbrev conjunction-μ-loop : conjunction-lts.MeasureT-loop
 conjunction-μ-loop s names symbols words₀ depth q₀ words q = left s (q .cursor)

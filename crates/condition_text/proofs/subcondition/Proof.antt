@@ -56,7 +56,7 @@ count-requires c κs =
     let c3 = c .before .before .before in
     let c4 = c3 .before in
     let c7 = c4 .before .before .before in
-    (c7 .pre .0, λ z. let k = c4 .name-fault .ensures .1 (c3 .if1 .left) in omega arith)
+    (c7 .pre .0, λ z. let k = c4 .name-fault .ensures .1 .0 (c3 .if1 .left) in omega arith)
 
 expect-requires : tie.Need-expect-requires
 expect-requires c κs = search needs
@@ -80,7 +80,7 @@ returns-3 c =
     let s = t .args .s .now in
     let n = c4 .count .ensures .1 in
     let a = c .before .before .expect .ensures .0 in
-    let z = g .0 .fits .halted (λ z. let k = c9 .name-fault .ensures .1 (c8 .if1 .left) in omega arith) in (
+    let z = g .0 .fits .halted (λ z. let k = c9 .name-fault .ensures .1 .0 (c8 .if1 .left) in omega arith) in (
       (λ b d. simp (
         sym (laws.input-known s _ _ b d (p .cursor) (p .words) (sym (c8 .if1 .left) ∙ c9 .name-fault .ensures .0 s (g .0 .fits) b (p .words)) _
             (c7 .input-of .ensures .0) (search needs)),

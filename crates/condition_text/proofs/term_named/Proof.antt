@@ -70,7 +70,7 @@ advance-requires c κs =
     let c4 = c .before .before .before .before in
     let c5 = c4 .before in
     let c8 = c5 .before .before .before in
-    (c8 .pre .0 .fits, λ z. let k = c5 .name-fault .ensures .1 (c4 .if1 .left) in omega arith)
+    (c8 .pre .0 .fits, λ z. let k = c5 .name-fault .ensures .1 .0 (c4 .if1 .left) in omega arith)
 
 mul-put : tie.Need-mul-put
 mul-put c = search needs

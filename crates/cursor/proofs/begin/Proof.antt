@@ -10,7 +10,7 @@ next-requires c κs = search needs
 returns : tie.Need-returns
 returns c =
     let e = c .next .ensures in
-    ((λ b n. laws.begun _ (c .next .result) b n (e .0)), record { order = e .1 .1; inside = e .1 .2; halted = λ q. refl })
+    ((λ b n. laws.begun _ (c .next .result) b n (e .0)), record { order = e .1 .0; inside = e .1 .1; halted = λ q. refl })
 
 pub begin-spec : {M : Type 1} → statement M
 begin-spec = tie.close (tie.spec next-requires returns)

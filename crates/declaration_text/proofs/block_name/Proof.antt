@@ -26,7 +26,7 @@ advance-requires : tie.Need-advance-requires
 advance-requires c κs =
     let c3 = c .before .before .before in
     let c6 = c3 .before .before .before in
-    (c6 .pre .fits, λ q. omega (arith, c3 .name-fault .ensures .1 (c .before .before .if1 .left)))
+    (c6 .pre .fits, λ q. omega (arith, c3 .name-fault .ensures .1 .0 (c .before .before .if1 .left)))
 
 returns-2 : tie.Need-returns-2
 returns-2 c =
@@ -38,7 +38,7 @@ returns-2 c =
     let e = c4 .name-fault .ensures in
     let z = c3 .if1 .left in
     laws.name-good (a .s .now) (a .p .cursor) (a .p .tables) (c .advance .result) (c .before .set-name .result) (sym z ∙ e .0 _ (g .fits) _ 0)
-    (g .fits) (λ q. omega (arith, e .1 z))
+    (g .fits) (λ q. omega (arith, e .1 .0 z))
     (c .before .set-name .ensures _ (g .holds) (g .fits .order) (g .fits .inside)) (c .advance .ensures .0)
 
 pub block-name-spec : {M : Type 1} → statement M

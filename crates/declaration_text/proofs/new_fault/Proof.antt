@@ -54,7 +54,7 @@ returns-4 c =
       (λ b n d. rw (c .if4 .taken) (sym (laws.a-new _ _ _ _ _ b n d true (sym (c5 .if1 .left) ∙ c6 .name-fault .ensures .0 _ (g .0) b n) _
           (c4 .find .ensures .0 ∙ sym (d .input _)) (c3 .if2 .left)
           _ (c .before .before .find2 .ensures .0 ∙ sym (d .output _)) (c .before .if3 .left)))),
-      λ h. (c6 .name-fault .ensures .1 (c5 .if1 .left), c .if4 .taken),
+      λ h. (c6 .name-fault .ensures .1 .0 (c5 .if1 .left), c .if4 .taken),
     )
 
 returns-5 : tie.Need-returns-5

@@ -74,7 +74,7 @@ advance-requires c κs =
     let c6 = c .before .before .before .before .before .before in
     let c7 = c6 .before in
     let c10 = c7 .before .before .before in
-    (c10 .pre .good .fits, λ q. omega (arith, c7 .name-fault .ensures .1 (c6 .if1 .left)))
+    (c10 .pre .good .fits, λ q. omega (arith, c7 .name-fault .ensures .1 .0 (c6 .if1 .left)))
 
 output-part-requires : tie.Need-output-part-requires
 output-part-requires c κs =

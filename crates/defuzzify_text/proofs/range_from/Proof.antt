@@ -20,7 +20,7 @@ returns c =
     let c5 = c .before .before .before .before .before in
     let a = c5 .args in (
       λ names t g. laws.range-lost (a .s .now) (a .p .cursor) (c .refuse .result) (withOutputs names (a .p) t .tables) (a .o) _ (c .before .before .crisp-here .ensures .0 _ 0)
-          (c .before .if1 .taken) (g .holds) (c .refuse .ensures .1 .1) (c .refuse .ensures .0 _ (g .fits)),
+          (c .before .if1 .taken) (g .holds) (c .refuse .ensures .1 .1 .0) (c .refuse .ensures .0 _ (g .fits)),
       refl,
     )
 

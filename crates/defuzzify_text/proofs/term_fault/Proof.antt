@@ -41,7 +41,7 @@ returns-3 c =
       (λ b n h. sym (laws.term-judged (c5 .args .s .now) _ (c5 .args .c) _ _ b n h _ false
           (sym (c .before .before .if1 .left) ∙ c3 .name-fault .ensures .0 _ (c5 .pre .0) b n) (laws.found-at _ _ _ _ _ _ b h (c .before .find .ensures .0))
           (le-ltb _ _ (c .if2 .left)))),
-      λ h. c3 .name-fault .ensures .1 (c .before .before .if1 .left),
+      λ h. c3 .name-fault .ensures .1 .0 (c .before .before .if1 .left),
     )
 
 pub term-fault-spec : {M : Type 1} → statement M

@@ -20,7 +20,7 @@ returns c =
     let a = c .before .before .before .before .before .before .args in
     let g = c .before .before .before .before .before .before .pre in
     λ n last. laws.degree-bad (a .s .now) (a .c) (c .refuse .result) n last _ (a .x .0) _ (w .ensures .0) (c .before .if1 .taken)
-    (c .refuse .ensures .0 _ g) (c .refuse .ensures .1 .1)
+    (c .refuse .ensures .0 _ g) (c .refuse .ensures .1 .1 .0)
 
 advance-requires : tie.Need-advance-requires
 advance-requires c κs = (c .before .before .before .before .before .pre, λ z. omega (arith, c .before .before .before .unit-here .ensures .1 .1 (c .if1 .left)))

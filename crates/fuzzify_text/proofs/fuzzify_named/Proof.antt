@@ -62,7 +62,7 @@ advance-requires c κs =
     let c7 = c .before .before .before .before .before .before .before in
     let c8 = c7 .before in
     let c12 = c8 .before .before .before .before in
-    (c12 .pre .fits, λ z. omega (arith, c8 .name-fault .ensures .1 (c7 .if1 .left)))
+    (c12 .pre .fits, λ z. omega (arith, c8 .name-fault .ensures .1 .0 (c7 .if1 .left)))
 
 input-terms-requires : tie.Need-input-terms-requires
 input-terms-requires c κs =

@@ -21,7 +21,7 @@ returns : tie.Need-returns Inv-loop μ-loop
 returns c =
     let a = c .before .before .before .before .before .before .args in
     let g = c .before .before .before .before .before .before .pre in
-    laws.terms-none (a .s .now) (a .p .cursor) (a .p .tables) (c .refuse .result) (a .i) (g .0 .holds) (c .before .if1 .taken) (c .refuse .ensures .1 .1)
+    laws.terms-none (a .s .now) (a .p .cursor) (a .p .tables) (c .refuse .result) (a .i) (g .0 .holds) (c .before .if1 .taken) (c .refuse .ensures .1 .1 .0)
     (c .refuse .ensures .0 _ (g .0 .fits))
 
 loop-holds : tie.Need-loop-holds Inv-loop μ-loop

@@ -13,7 +13,7 @@ returns c =
     let a = c .before .before .before .before .args in
     let g = c .before .before .before .before .pre in (
       laws.point-none (a .s .now) (a .c) (c .refuse .result) (a .n) (a .last) _ (c .before .if1 .taken) (c .refuse .ensures .0 _ g)
-          (c .refuse .ensures .1 .1),
+          (c .refuse .ensures .1 .1 .0),
       λ z. absurd (true≢false (sym z)),
     )
 
@@ -25,7 +25,7 @@ returns-2 c =
     let a = c .before .before .before .before .before .args in
     let g = c .before .before .before .before .before .pre in (
       laws.point-full (a .s .now) (a .c) (c .refuse2 .result) (a .n) (a .last) (c .before .before .if1 .left) _ (c .before .if2 .taken)
-          (c .refuse2 .ensures .0 _ g) (c .refuse2 .ensures .1 .1),
+          (c .refuse2 .ensures .0 _ g) (c .refuse2 .ensures .1 .1 .0),
       λ z. absurd (true≢false (sym z)),
     )
 

@@ -24,7 +24,7 @@ returns c =
     let g = c6 .pre in (
       laws.position-none (a .s .now) (a .c) (c .refuse .result) (a .n) (a .last) _ (c4 .crisp-here .ensures .0) (c .before .if1 .taken)
           (c .refuse .ensures .0 _ g),
-      λ z. absurd (c .refuse .ensures .1 .1 z),
+      λ z. absurd (c .refuse .ensures .1 .1 .0 z),
     )
 
 may-stand-requires : tie.Need-may-stand-requires

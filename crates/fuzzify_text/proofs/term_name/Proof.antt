@@ -14,13 +14,13 @@ returns c =
     let a = c .before .before .before .args in
     let g = c .before .before .before .pre in
     let f = g .0 in (
-      λ b t. record { named = λ z. absurd (c .refuse .ensures .1 .1 z); lost = λ z. laws.term-full (a .s .now) (a .names .now) (a .i) (a .n) b t (a .c) (c .refuse .result) (g .1) (c .before .if1 .taken) (c .refuse .ensures .0 _ f) },
+      λ b t. record { named = λ z. absurd (c .refuse .ensures .1 .1 .0 z); lost = λ z. laws.term-full (a .s .now) (a .names .now) (a .i) (a .n) b t (a .c) (c .refuse .result) (g .1) (c .before .if1 .taken) (c .refuse .ensures .0 _ f) },
       record {
         fewer = c .refuse .ensures .1 .0 _ f (λ z. omega (arith, g .1));
         fits = c .refuse .ensures .0 _ f .fits;
         order = omega arith;
         inside = omega arith;
-        room = λ z. absurd (c .refuse .ensures .1 .1 z);
+        room = λ z. absurd (c .refuse .ensures .1 .1 .0 z);
       },
     )
 
@@ -42,19 +42,19 @@ returns-2 c =
     let f = d .ensures .0 .fits in
     let e = c .refuse2 in (
       λ b t. record {
-        named = λ z. absurd (c .refuse2 .ensures .1 .1 z);
+        named = λ z. absurd (c .refuse2 .ensures .1 .1 .0 z);
         lost = λ z. laws.term-lost (a .s .now) (a .i) b (a .c) (d .result) (e .result)
             (laws.term-then (a .s .now) (a .names .now) (a .i) (a .n) b t (a .c) (d .result) (g .1) (c3 .before .if1 .left) (d .ensures .0))
             (laws.name-bad (a .s .now) (a .names .now) (a .i) (a .n) b t (d .result) (e .result) _
             (c .before .before .name-fault .ensures .0 _ f b 0) (c .before .if2 .taken) (e .ensures .0 _ f))
-            (e .ensures .0 _ f .fits) (e .ensures .1 .1);
+            (e .ensures .0 _ f .fits) (e .ensures .1 .1 .0);
       },
       record {
         fewer = omega (arith, e .ensures .0 _ f .fewer, d .ensures .1 .0);
         fits = c .refuse2 .ensures .0 _ f .fits;
         order = omega arith;
         inside = omega arith;
-        room = λ z. absurd (c .refuse2 .ensures .1 .1 z);
+        room = λ z. absurd (c .refuse2 .ensures .1 .1 .0 z);
       },
     )
 
@@ -80,26 +80,26 @@ returns-3 c =
     let f = d .ensures .0 .fits in
     let e = c .refuse3 in (
       λ b t. record {
-        named = λ z. absurd (c .refuse3 .ensures .1 .1 z);
+        named = λ z. absurd (c .refuse3 .ensures .1 .1 .0 z);
         lost = λ z. laws.term-lost (a .s .now) (a .i) b (a .c) (d .result) (e .result)
             (laws.term-then (a .s .now) (a .names .now) (a .i) (a .n) b t (a .c) (d .result) (g .1) (c5 .before .if1 .left) (d .ensures .0))
             (laws.name-taken (a .s .now) (a .names .now) (a .i) (a .n) b t (d .result) (e .result)
             (sym (c3 .if2 .left) ∙ c3 .before .name-fault .ensures .0 _ f b 0) _ (c .before .before .find .ensures .0) (c .before .if3 .taken) (e .ensures .0 _ f))
-            (e .ensures .0 _ f .fits) (e .ensures .1 .1);
+            (e .ensures .0 _ f .fits) (e .ensures .1 .1 .0);
       },
       record {
         fewer = omega (arith, e .ensures .0 _ f .fewer, d .ensures .1 .0);
         fits = c .refuse3 .ensures .0 _ f .fits;
         order = omega arith;
         inside = omega arith;
-        room = λ z. absurd (c .refuse3 .ensures .1 .1 z);
+        room = λ z. absurd (c .refuse3 .ensures .1 .1 .0 z);
       },
     )
 
 advance-requires-2 : tie.Need-advance-requires-2
 advance-requires-2 c κs =
     let c4 = c .before .before .before in
-    (c4 .before .advance .ensures .0 .fits, λ z. omega (arith, c4 .name-fault .ensures .1 (c .before .before .if2 .left)))
+    (c4 .before .advance .ensures .0 .fits, λ z. omega (arith, c4 .name-fault .ensures .1 .0 (c .before .before .if2 .left)))
 
 returns-4 : tie.Need-returns-4
 returns-4 c =

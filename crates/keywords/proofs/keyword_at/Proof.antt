@@ -8,6 +8,7 @@ use borrow.Author.Tests.{lt-leb, not-true}
 use Rattle.model.specs.Basic.{all}
 use Rattle.model.specs.Keywords.{keywords}
 use Rattle.laws.proofs.Words.{length-capitals}
+use Rattle.keywords.specs.Slots.{keywordLimit}
 use Rattle.keywords.proofs.Laws.{unlike, no-length, some-length, may-not}
 use Rattle.keywords.proofs.keyword_at.Statement.{statement}
 use Rattle.keywords.proofs.keyword_at.Tie as tie
@@ -16,7 +17,7 @@ returns : tie.Need-returns
 unfolding all
 returns c =
     let w = c .before .before .args .w .now in
-    (sym (unlike (λ k. leb (length k) 18) (λ v. ap (λ (n : ℕ). leb n 18) (length-capitals v)) w (lt-leb _ _ (c .if1 .taken)) keywords refl), search needs)
+    (sym (unlike (λ k. leb (length k) keywordLimit) (λ v. ap (λ (n : ℕ). leb n keywordLimit) (length-capitals v)) w (lt-leb _ _ (c .if1 .taken)) keywords refl), search needs)
 
 shr-if2 : tie.Need-shr-if2
 shr-if2 c = search needs
@@ -47,6 +48,9 @@ shared-slice-read-slot-2 c = omega (arith, some-length _ (c .before .before .bef
 slot-requires : tie.Need-slot-requires
 slot-requires c κs = search needs
 
+slice-aggregate-in-slot : tie.Need-slice-aggregate-in-slot
+slice-aggregate-in-slot c = search needs
+
 in-slot-requires : tie.Need-in-slot-requires
 in-slot-requires c κs = search needs
 
@@ -67,5 +71,6 @@ keyword-at-spec =
     sub-slot
     shared-slice-read-slot-2
     slot-requires
+    slice-aggregate-in-slot
     in-slot-requires
     returns-4)

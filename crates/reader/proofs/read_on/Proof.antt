@@ -7,6 +7,7 @@ use Rattle.model.specs.Outcome.{lengthIn, bufferAfter}
 use Rattle.block_tables.specs.View.{blockView}
 use Rattle.rule_heading.specs.Opening.{headed}
 use Rattle.rule_text.specs.Progress.{holding}
+use Rattle.block_text.proofs.Laws.{parts-there, back-ends}
 use Rattle.reader.proofs.read_on.Statement.{statement}
 use Rattle.reader.proofs.read_on.Tie as tie
 
@@ -20,10 +21,20 @@ rules-requires : tie.Need-rules-requires
 rules-requires c κs =
     let c7 = c .before .before .before .before .before .before .before in
     let c9 = c7 .before .before in
-    let c13 = c9 .before .before .before .before in (
+    let c13 = c9 .before .before .before .before in
+    let s = c13 .args .s .now in
+    let t = c13 .args .p .tables in
+    let h = c7 .rule-heading .result .heading in
+    let g = c13 .pre .0 .holds in
+    let b = headed s h (blockView s t) in (
       c7 .rule-heading .ensures .1 .1,
-      c9 .symbols-of .ensures .0 _ (c13 .pre .0 .holds),
+      c9 .symbols-of .ensures .0 _ g,
       record { rules = omega arith; words = omega arith; conclusions = omega arith },
+      record {
+        block = b;
+        describes = c9 .symbols-of .ensures .1 s b g (laws.inputs-headed s t h) (laws.outputs-headed s t h);
+        kept = laws.kept-none s t h _ _ _ refl refl refl;
+      },
     )
 
 is-complete-requires : tie.Need-is-complete-requires
@@ -52,8 +63,8 @@ refusal-of-requires c κs =
     let b = headed s h (blockView s t) in
     let G = c6 .rules2 .ensures .0 b (k .1 s b g (laws.inputs-headed s t h) (laws.outputs-headed s t h)) (laws.kept-none s t h _ _ _ refl refl refl) in
     let w = holding (G .rules) b in
-    let x = c .before .before .back .ensures .0 w (c6 .rules2 .result .totals .words)
-    (sym (c3 .is-complete .ensures s _ w (k .1 s w g (laws.inputs-whole s t h (G .rules)) (laws.outputs-whole s t h (G .rules))))) in
+    let x = back-ends _ s _ _ (c .before .before .back .ensures) w (c6 .rules2 .result .totals .words)
+    (parts-there s _ _ w (k .1 s w g (laws.inputs-whole s t h (G .rules)) (laws.outputs-whole s t h (G .rules))) ∙ sym (c3 .is-complete .ensures)) in
     laws.number s t h (p .cursor) (c14 .rule-heading .result .cursor) (c6 .rules2 .result .cursor) (G .rules) (c6 .rules2 .result .totals .words)
     (c20 .pre .1) (c14 .rule-heading .ensures .0 (blockView s t) 0 (laws.bare s t)) (G .reads) (c .before .before .back .result) x (c .if1 .taken)
 
@@ -74,8 +85,8 @@ returns c =
     let b = headed s h (blockView s t) in
     let G = c7 .rules2 .ensures .0 b (k .1 s b g (laws.inputs-headed s t h) (laws.outputs-headed s t h)) (laws.kept-none s t h _ _ _ refl refl refl) in
     let w = holding (G .rules) b in
-    let x = c3 .back .ensures .0 w (c7 .rules2 .result .totals .words)
-    (sym (c4 .is-complete .ensures s _ w (k .1 s w g (laws.inputs-whole s t h (G .rules)) (laws.outputs-whole s t h (G .rules))))) in
+    let x = back-ends _ s _ _ (c3 .back .ensures) w (c7 .rules2 .result .totals .words)
+    (parts-there s _ _ w (k .1 s w g (laws.inputs-whole s t h (G .rules)) (laws.outputs-whole s t h (G .rules))) ∙ sym (c4 .is-complete .ensures)) in
     let e = laws.refused-so s t h (p .cursor) (c15 .rule-heading .result .cursor) (c7 .rules2 .result .cursor) (G .rules)
     (c7 .rules2 .result .totals .words) (c21 .pre .1) (c15 .rule-heading .ensures .0 (blockView s t) 0 (laws.bare s t)) (G .reads) (c3 .back .result)
     x (length (c21 .args .out .now)) (c21 .pre .2) (c .before .if1 .taken) in
@@ -110,12 +121,12 @@ returns-2 c =
     let b = headed s h (blockView s t) in
     let G = c15 .rules2 .ensures .0 b (k .1 s b g (laws.inputs-headed s t h) (laws.outputs-headed s t h)) (laws.kept-none s t h _ _ _ refl refl refl) in
     let w = holding (G .rules) b in
-    let x = c11 .back .ensures .0 w (c15 .rules2 .result .totals .words)
-    (sym (c12 .is-complete .ensures s _ w (k .1 s w g (laws.inputs-whole s t h (G .rules)) (laws.outputs-whole s t h (G .rules))))) in
+    let x = back-ends _ s _ _ (c11 .back .ensures) w (c15 .rules2 .result .totals .words)
+    (parts-there s _ _ w (k .1 s w g (laws.inputs-whole s t h (G .rules)) (laws.outputs-whole s t h (G .rules))) ∙ sym (c12 .is-complete .ensures)) in
     let e = laws.accepted-so s t h (p .cursor) (c23 .rule-heading .result .cursor) (c15 .rules2 .result .cursor) (G .rules)
     (c15 .rules2 .result .totals .words) (c29 .pre .1) (c23 .rule-heading .ensures .0 (blockView s t) 0 (laws.bare s t)) (G .reads)
     (c11 .back .result) x (length (c29 .args .out .now)) (c29 .pre .2) (c9 .if1 .left) in
-    let y = c .before .before .store .ensures (G .rules) (G .kept (c11 .back .ensures .1 (c9 .if1 .left)) .stored) in
+    let y = c .before .before .store .ensures (G .rules) (G .kept (c11 .back .ensures .sticky (c9 .if1 .left)) .stored) in
     (y .0 ∙ ap lengthIn (sym e), y .1 ∙ ap (bufferAfter (c29 .args .out .now)) (sym e))
 
 pub read-on-spec : {M : Type 1} → statement M

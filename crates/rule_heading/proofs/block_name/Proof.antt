@@ -23,7 +23,7 @@ returns c =
 advance-requires : tie.Need-advance-requires
 advance-requires c κs =
     let c5 = c .before .before .before .before .before in
-    (c5 .pre .0, λ z. let k = c .before .before .name-fault .ensures .1 (c .before .if1 .left) in omega arith)
+    (c5 .pre .0, λ z. let k = c .before .before .name-fault .ensures .1 .0 (c .before .if1 .left) in omega arith)
 
 returns-2 : tie.Need-returns-2
 returns-2 c =
@@ -32,7 +32,7 @@ returns-2 c =
     let s = t .args .s .now in
     let p = t .args .p in
     let e = c .before .before .if1 .left in
-    let k = c3 .name-fault .ensures .1 e in
+    let k = c3 .name-fault .ensures .1 .0 e in
     laws.passed p _ (c .advance .ensures .0) (laws.name-headed s p (t .pre .0) (t .pre .1))
     (λ b n. laws.name-given s p b n (sym e ∙ c3 .name-fault .ensures .0 s (t .pre .0) (headed s (p .heading) b) n) (t .pre .0 .halted (λ z. omega (arith, k))))
 

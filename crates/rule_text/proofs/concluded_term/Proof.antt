@@ -2,6 +2,7 @@ use mathlib.Core.Path.{sym, _∙_}
 use Prim.Native.Nat.{_+_, _*_}
 use lib.ListN.{getD}
 use native.Mathlib.Omega.{arith}
+use Rattle.model.specs.Bounds.{inputLimit}
 use Rattle.rule_text.specs.Progress.{midst}
 use Rattle.rule_text.proofs.Laws as laws
 use borrow.Author.Needs.{needs}
@@ -50,7 +51,7 @@ element-copy-out-if2-2 c = search needs
 sub-if2 : tie.Need-sub-if2
 sub-if2 c =
     let t = c .before .before .before .before .before .before .before in
-    omega (arith, t .pre .1 .rises (8 + t .args .o) (omega (arith, t .pre .1 .outputs)))
+    omega (arith, t .pre .1 .rises (inputLimit + t .args .o) (omega (arith, t .pre .1 .outputs)))
 
 not-concluded-requires-2 : tie.Need-not-concluded-requires-2
 not-concluded-requires-2 c κs = search needs
@@ -77,7 +78,7 @@ advance-requires c κs =
     let c4 = c .before .before .before .before in
     let c5 = c4 .before in
     let c8 = c5 .before .before .before in
-    (c8 .pre .0, λ z. let k = c5 .name-fault .ensures .1 (c4 .if1 .left) in omega arith)
+    (c8 .pre .0, λ z. let k = c5 .name-fault .ensures .1 .0 (c4 .if1 .left) in omega arith)
 
 cast-conclusions : tie.Need-cast-conclusions
 cast-conclusions c = search needs
@@ -100,12 +101,12 @@ element-copy-out-conclusions c = search needs
 add-conclusions : tie.Need-add-conclusions
 add-conclusions c =
     let t = c .before .before .before .before .before .before .before .before .before .before in
-    omega (arith, t .pre .1 .small (8 + t .args .o) (omega (arith, t .pre .1 .outputs)))
+    omega (arith, t .pre .1 .small (inputLimit + t .args .o) (omega (arith, t .pre .1 .outputs)))
 
 cast-conclusions-2 : tie.Need-cast-conclusions-2
 cast-conclusions-2 c =
     let t = c .before .before .before .before .before .before .before .before .before .before in
-    omega (arith, t .pre .1 .small (8 + t .args .o) (omega (arith, t .pre .1 .outputs)))
+    omega (arith, t .pre .1 .small (inputLimit + t .args .o) (omega (arith, t .pre .1 .outputs)))
 
 mul-conclusions-4 : tie.Need-mul-conclusions-4
 mul-conclusions-4 c = search needs
@@ -113,7 +114,7 @@ mul-conclusions-4 c = search needs
 add-conclusions-2 : tie.Need-add-conclusions-2
 add-conclusions-2 c =
     let t = c .before .before .before .before .before .before .before .before .before .before in
-    omega (arith, t .pre .1 .small (8 + t .args .o) (omega (arith, t .pre .1 .outputs)))
+    omega (arith, t .pre .1 .small (inputLimit + t .args .o) (omega (arith, t .pre .1 .outputs)))
 
 mul-conclusions-5 : tie.Need-mul-conclusions-5
 mul-conclusions-5 c = search needs
@@ -134,11 +135,11 @@ returns-3 c =
     let g = t .pre in
     let s = t .args .s .now in
     let a = c .before .advance .ensures .0 in
-    let k = c7 .name-fault .ensures .1 (c6 .if1 .left) in (
+    let k = c7 .name-fault .ensures .1 .0 (c6 .if1 .left) in (
       (λ b rs q m d. laws.concludes-one m _ _ p _ a
           (laws.term-known s _ _ b d rs q (p .cursor) m (sym (c6 .if1 .left) ∙ c7 .name-fault .ensures .0 s (g .0) (midst b rs q) m) _ (g .2) _
           (c5 .term-of .ensures .0) (c .before .before .if2 .left) (g .0 .halted (λ z. omega (arith, k)))) _
-          (laws.two-put (t .args .conclusions .now) (p .count * 2) (t .args .o) (getD (t .args .symbols .now) (8 + t .args .o) 0 + c5 .term-of .result))),
+          (laws.two-put (t .args .conclusions .now) (p .count * 2) (t .args .o) (getD (t .args .symbols .now) (inputLimit + t .args .o) 0 + c5 .term-of .result))),
       record { fewer = a .fewer; fits = a .fits; grows = search needs; count = search needs },
     )
 

@@ -80,7 +80,7 @@ advance-requires c κs =
     let c5 = c .before .before .before .before .before in
     let c6 = c5 .before in
     let c9 = c6 .before .before .before in
-    (c9 .pre .0, λ z. let k = c6 .name-fault .ensures .1 (c5 .if1 .left) in omega arith)
+    (c9 .pre .0, λ z. let k = c6 .name-fault .ensures .1 .0 (c5 .if1 .left) in omega arith)
 
 expect-requires : tie.Need-expect-requires
 expect-requires c κs = search needs

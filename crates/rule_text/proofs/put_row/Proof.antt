@@ -51,7 +51,7 @@ element-write-rules-4 : tie.Need-element-write-rules-4
 element-write-rules-4 c = search needs
 
 returns : tie.Need-returns
-returns c = record { put = omega arith; said = let a = c .args in laws.four-put (a .rules .now) (a .k * 4) (a .number) (a .words) (a .conclusions) (a .weight) }
+returns c = record { put = omega arith; said = let a = c .args in laws.four-put (a .rules .now) (a .k * 4) (a .number) (a .words) (a .conclusions) (a .weight .0) }
 
 pub put-row-spec : {M : Type 1} → statement M
 put-row-spec =

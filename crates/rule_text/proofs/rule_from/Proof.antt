@@ -3,6 +3,7 @@ use mathlib.Core.List.{[], _∷_, _++_}
 use Prim.Native.Nat.{ℕ, _-_}
 use lib.ListN.{length}
 use native.Mathlib.Omega.{arith}
+use Rattle.model.specs.Bounds.{depthLimit}
 use Rattle.model.specs.Block.{withWeight}
 use Rattle.model.specs.Keywords.{COLON, IF}
 use Rattle.model.specs.Parse.{expect}
@@ -90,7 +91,7 @@ returns-2 c =
     let r = c .rule-given .result in (
       (λ b d k.
           let f = a .reads b m ∙ ap (λ y. expect IF (expect COLON y)) (n .0 b m (record { rows = k .stored .rows; count = k .rules-count })) in
-          let g = conditionWith (parenthesis 8) (seen s (c10 .expect2 .result) b m) in
+          let g = conditionWith (parenthesis depthLimit) (seen s (c10 .expect2 .result) b m) in
           let e = c .rule-given .ensures .0 b (b .rules) (laws.begun x (g .tree)) d (laws.begun-count (b .rules) x _ (g .tree) (k .conclusions-count)) refl in
           let v : c8 .condition .result .put ≡ r .totals .words = let i = q .1 .even h in let j = e .words in omega arith in
           record {

@@ -19,7 +19,7 @@ returns c =
     let s = c5 .args .s .now in
     let a = c .refuse .ensures .0 s (c5 .pre .0) in (
       (λ b m w. a .reads b m ∙ sym (laws.number-fault s _ b m _ (c3 .number-here .ensures .0 b m) (c .before .if1 .taken))),
-      (a .fewer, a .fits, λ h. absurd (c .refuse .ensures .1 .1 h)),
+      (a .fewer, a .fits, λ h. absurd (c .refuse .ensures .1 .1 .0 h)),
     )
 
 is-used-requires : tie.Need-is-used-requires
@@ -38,7 +38,7 @@ returns-2 c =
     let v = simp (eq-eqb _ _ (c3 .if1 .left)) at (c5 .number-here .ensures .1 .0) in (
       (λ b m w. a .reads b m ∙ sym (laws.number-used s _ b m (sym (c3 .if1 .left) ∙ c5 .number-here .ensures .0 b m) _ v
           (sym (c .before .if2 .taken) ∙ c .before .before .is-used .ensures (b .rules) w))),
-      (a .fewer, a .fits, λ h. absurd (c .refuse2 .ensures .1 .1 h)),
+      (a .fewer, a .fits, λ h. absurd (c .refuse2 .ensures .1 .1 .0 h)),
     )
 
 advance-requires : tie.Need-advance-requires

@@ -30,10 +30,18 @@ loop-holds c =
 
 rule-requires-2 : tie.Need-rule-requires-2 Inv-loop μ-loop
 rule-requires-2 c κs =
-    let c5 = c .before .before .before .before .before in
-    let c11 = c5 .before .before .before .before .before .before in
-    let w = c5 .loop .inv .0 in
-    (w .fits, c11 .pre .1, w .few)
+    let c3 = c .before .before .before in
+    let c5 = c3 .before .before in
+    let c6 = c5 .before in
+    let c11 = c6 .before .before .before .before .before in
+    let l = c5 .loop in
+    let w = l .inv .0 in
+    let t = c11 .pre .3 in
+    let b = t .block in
+    let g = c6 .rule .ensures .0 b (t .describes) (t .kept) in
+    let y = l .inv .1 b (t .describes) (g .rules) (g .kept) _ (enough (c11 .args .s .now) (c6 .rule .result .cursor) (holding (g .rules) b) 0) in
+    let z = w .fits .halted (λ e. omega (arith, c3 .if1 .taken)) in
+    (w .fits, c11 .pre .1, w .few, record { block = holding (y .rules) b; describes = laws.describes (y .rules) (t .describes); kept = y .kept z })
 
 loop-less : tie.Need-loop-less Inv-loop μ-loop
 loop-less c = c .rule2 .ensures .1 .1 (λ k. omega (arith, c .before .before .before .before .if1 .taken))

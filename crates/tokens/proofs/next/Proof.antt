@@ -3,19 +3,21 @@ use native.Mathlib.Omega.{arith}
 use mathlib.Core.Path.{_≡_, refl, sym, _∙_}
 use Prim.Native.Nat.{_-_, _≤_}
 use lib.ListN.{length, length-drop}
+use Rattle.model.specs.Tokens.{tokens}
 use Rattle.tokens.specs.Tokens.{tokensFrom}
-use Rattle.laws.proofs.Slices.{rest}
+use Rattle.laws.proofs.Slices.{rest as part}
 use Rattle.tokens.proofs.Laws.{pass, answer, last}
 use Rattle.tokens.proofs.next.Statement.{statement}
 use Rattle.tokens.proofs.next.Tie as tie
 
 abbrev Inv-loop : tie.InvT-loop
-Inv-loop s at i₀ i = ((at ≤ i) × (i ≤ length s)) × (tokensFrom s i ≡ tokensFrom s at)
+Inv-loop s i₀ i = (i ≤ length s) × (tokensFrom s i ≡ tokens s)
 
 abbrev μ-loop : tie.MeasureT-loop
-μ-loop s at i₀ i = length s - i
+μ-loop s i₀ i = length s - i
 
 loop-holds : tie.Need-loop-holds Inv-loop μ-loop
+unfolding tokensFrom tokens
 loop-holds c = (search needs, refl)
 
 sub-first-piece : tie.Need-sub-first-piece Inv-loop μ-loop
@@ -43,10 +45,10 @@ returns c =
     let c8 = c6 .before .before in
     let l = c6 .loop in
     let p = c3 .first-piece in
-    let h = simp rest at (p .ensures .1 .1) in (
-      sym (l .inv .1) ∙ answer (c8 .args .s .now) (l .i) (p .result .kind) (p .result .more) h (simp rest at (p .ensures .0)) (c .if1 .taken)
+    let h = simp part at (p .ensures .1 .1) in (
+      sym (l .inv .1) ∙ answer (c8 .args .rest .now) (l .i) (p .result .kind) (p .result .more) h (simp part at (p .ensures .0)) (c .if1 .taken)
           (p .ensures .1 .0),
-      omega (arith, h, length-drop (l .i) (c8 .args .s .now)),
+      omega (arith, h, length-drop (l .i) (c8 .args .rest .now)),
     )
 
 loop-less : tie.Need-loop-less Inv-loop μ-loop
@@ -59,15 +61,15 @@ loop-again c =
     let c8 = c6 .before .before in
     let l = c6 .loop in
     let p = c3 .first-piece in
-    let h = simp rest at (p .ensures .1 .1) in (
-      omega (arith, h, length-drop (l .i) (c8 .args .s .now)),
-      sym (pass (c8 .args .s .now) (l .i) (p .result .kind) (p .result .more) h (simp rest at (p .ensures .0)) (c .if1 .left)) ∙ l .inv .1,
+    let h = simp part at (p .ensures .1 .1) in (
+      omega (arith, h, length-drop (l .i) (c8 .args .rest .now)),
+      sym (pass (c8 .args .rest .now) (l .i) (p .result .kind) (p .result .more) h (simp part at (p .ensures .0)) (c .if1 .left)) ∙ l .inv .1,
     )
 
 returns-2 : tie.Need-returns-2 Inv-loop μ-loop
 returns-2 c =
     let l = c .before .loop in
-    (sym (l .inv .1) ∙ last (c .before .before .before .args .s .now) (l .i) (search needs), search needs)
+    (sym (l .inv .1) ∙ last (c .before .before .before .args .rest .now) (l .i) (search needs), search needs)
 
 pub next-spec : {M : Type 1} → statement M
 next-spec =
