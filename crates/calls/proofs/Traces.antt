@@ -21,7 +21,7 @@ use Rattle.model.specs.declared.Reading.{Reading}
 use Rattle.model.specs.declared.Refusal.the-variants.{ImageNotAccepted, WrongCount, WrongHeld, WrongReading}
 use Rattle.model.specs.declared.Verdict.{Verdict}
 use Rattle.model.specs.declared.Verdict.the-variants.{Accepted, Refused}
-use Rattle.model.specs.Calls.{Call, Made, evaluated, daily, callOf, resultOf, Link, Trace}
+use Rattle.demand_3.specs.Calls.{Call, Made, evaluated, daily, callOf, resultOf, Link, Trace}
 
 -- VERDICTS: an outcome that some verdict tells
 abbrev pub Told : {A : Type 0} → Outcome A → Type 0

@@ -11,7 +11,7 @@ use Rattle.model.specs.declared.Mark.the-variants.{Fired}
 use Rattle.model.specs.declared.Reading.the-variants.{Real, Int, Absent}
 use Rattle.model.specs.declared.Refusal.the-variants.{WrongReading}
 use Rattle.model.specs.declared.Verdict.the-variants.{Accepted, Refused}
-use Rattle.model.specs.Calls.{evaluated, daily}
+use Rattle.demand_3.specs.Calls.{evaluated, daily}
 use Rattle.crossing.specs.declared.GrillenhelmAnswer.{GrillenhelmAnswer}
 use Rattle.crossing.specs.declared.GrillenhelmOutcome.{GrillenhelmOutcome}
 use Rattle.crossing.specs.declared.GrillenhelmReading.{GrillenhelmReading}

@@ -10,7 +10,7 @@ use Rattle.model.specs.Image.{loads}
 use Rattle.model.specs.Buffers.{readsTo}
 use Rattle.model.specs.Evaluation.{evaluate, starting, fresh}
 use Rattle.model.specs.declared.Held.{Held}
-use Rattle.model.specs.Calls.{Call, Made, evaluated, daily, resultOf, CallsHold}
+use Rattle.demand_3.specs.Calls.{Call, Made, evaluated, daily, resultOf, CallsHold}
 use Rattle.crossing.specs.Crossing.{bareOutcome, readingOf, evaluationOf, freshIn, evaluationIn, leaving}
 use Rattle.crossing.specs.Back.{evaluationBack, replyBack}
 use Rattle.crossing.specs.declared.GrillenhelmEvaluation.{GrillenhelmEvaluation}
