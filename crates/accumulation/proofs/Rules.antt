@@ -7,7 +7,7 @@ use native.Mathlib.Omega.{arith}
 use borrow.Author.Tests.{leb-true, ltb-true, ne-eqb}
 use lib.Dec.{leb, eqb}
 use lib.ListN.{length, take, getD}
-use Rattle.model.specs.Basic.{all, total}
+use Rattle.model.specs.Basic.{all, total, tab}
 use Rattle.model.specs.Bounds.{M}
 use Rattle.model.specs.declared.Pair.{Pair}
 use Rattle.model.specs.declared.Pair.the-variants.{BdifBsum}
@@ -15,7 +15,7 @@ use Rattle.model.specs.declared.Accumulation.the-variants.{Bsum}
 use Rattle.model.specs.Block.{Output, inputTerms, outputFirst, singletonsOf}
 use Rattle.model.specs.Degrees.{prodOf, conditionDegree}
 use Rattle.model.specs.Evaluation.{ruleDegree}
-use Rattle.model.specs.Image.{tab, treeOf, pairOf, accuOf, decode, rulePlace, ruleAt, conclusionPlace, conclusionAt}
+use Rattle.model.specs.Image.{treeOf, pairOf, accuOf, decode, rulePlace, ruleAt, conclusionPlace, conclusionAt}
 use Rattle.model.specs.WellFormed.{unitOk, outputOk, conditionOk, conclusionOk}
 use Rattle.laws.proofs.Tests.{both, and-i, passed}
 use Rattle.laws.proofs.Places.{tab-from}

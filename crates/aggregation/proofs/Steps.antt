@@ -8,10 +8,11 @@ use native.Mathlib.Omega.{arith}
 use borrow.Author.Tests.{le-leb, lt-leb, le-ltb, lt-ltb, ne-eqb, eqb-true}
 use lib.Dec.{eqb}
 use lib.ListN.{length, getD, set}
+use Rattle.model.specs.Basic.{tab}
 use Rattle.model.specs.declared.Pair.{Pair}
 use Rattle.model.specs.Block.{Op, and, or, Condition, term, neg, two}
 use Rattle.model.specs.Degrees.{notOf, pairs, conditionDegree}
-use Rattle.model.specs.Image.{opWord, treeOf, tab}
+use Rattle.model.specs.Image.{opWord, treeOf}
 use Rattle.stored_conditions.specs.Machine.{Meaning, room, added, unary, binary, step, turn, stackOf}
 use Rattle.stored_conditions.specs.Stored.{conditionStored}
 use Rattle.stored_conditions.proofs.Passes.{none-some, fold, pass, Allowed, pass-postfix, Left, left-start, left-turn, left-end, left-none}

@@ -6,13 +6,12 @@ use mathlib.Core.Bool.{Bool, _&&_}
 use mathlib.Core.List.{List, [], _∷_}
 use Prim.Native.Nat.{ℕ, _+_}
 use lib.Dec.{ltb}
-use Rattle.model.specs.Basic.{_▸_, if_then_else_, all}
+use Rattle.model.specs.Basic.{_▸_, if_then_else_, all, tab}
 use Rattle.model.specs.Bounds.{inputLimit}
 use Rattle.model.specs.Block.{withName}
 use Rattle.model.specs.Keywords.{END, NAME, DEFUZZIFY, END-FUNCTION-BLOCK, END-RULEBLOCK, END-VAR, FUNCTION-BLOCK, FUZZIFY, VAR-INPUT, VAR-OUTPUT}
 use Rattle.model.specs.Parse.{Parse, Part, is, refuse, advance, judged, expect, repeated, ownName}
 use Rattle.model.specs.Declarations.{inputDeclaration, outputDeclaration, fuzzify, defuzzify}
-use Rattle.model.specs.Image.{tab}
 use Rattle.model.specs.Reader.{endOfBlock}
 use Rattle.symbol_table.specs.Symbols.{first, inputCount, outputCount}
 

@@ -9,8 +9,8 @@ use borrow.Author.Tests.{ne-eqb}
 use lib.IntN.{ℤ}
 use lib.ListN.{length, getD, replicate}
 use mir.Val.{boolByte}
+use Rattle.model.specs.Basic.{tab}
 use Rattle.model.specs.Block.{Input}
-use Rattle.model.specs.Image.{tab}
 use Rattle.model.specs.Outcome.{Outcome, accepted, refused, andThen, verdictIn}
 use Rattle.model.specs.Refusals.{verdictOf}
 use Rattle.model.specs.Readings.{taken, valueIn}

@@ -10,14 +10,14 @@ use lib.Ieee.{Float, nan, inf, fin}
 use lib.IntN.{ℤ, pos}
 use lib.ListN.{length, take, drop, getD}
 use lib.Signed.{leZ, _≤ℤ_}
-use Rattle.model.specs.Basic.{if_then_else_, isEmpty, gather, Each}
+use Rattle.model.specs.Basic.{if_then_else_, isEmpty, gather, Each, tab}
 use Rattle.model.specs.Bounds.{M}
 use Rattle.model.specs.Block.{Input, Singleton, Output, Condition, term, neg, two, Block, inputTerms, outputTerms, outputFirst}
 use Rattle.model.specs.declared.InputType.{InputType}
 use Rattle.model.specs.declared.InputType.the-variants.{Real as real, Int as int}
 use Rattle.model.specs.Outcome.{Outcome, accepted, refused, verdictIn}
 use Rattle.model.specs.Refusals.{verdictOf}
-use Rattle.model.specs.Image.{tab, points, loads}
+use Rattle.model.specs.Image.{points, loads}
 use Rattle.model.specs.Buffers.{readsTo}
 use Rattle.model.specs.Degrees.{conditionDegree}
 use Rattle.model.specs.Evaluation.{termDegrees, ruleDegree, subconclusions, height, blockAnswers, noAnswer, padded, figures, heldOf, starting, valuesOf, evaluate, Tells, leaving, fresh, recordIn}

@@ -69,6 +69,7 @@ host-reads-iff s img old r after told left bytes enough =
     let number = told-iff o (length img) (numbered (length old) s) in
     let why : r .refusal ≡ outcomeOf length o .refusal = ap (λ (x : GrillenhelmOutcome). x .refusal) told in
     let long : r .length ≡ outcomeOf length o .length = ap (λ (x : GrillenhelmOutcome). x .length) told in
-    let front : take (length img) after ≡ take (length img) (bufferAfter old o) = ap (λ (l : List ℕ). take (length img) l) left in
-    ( λ t. let h = reads-to .0 t in let n = number .0 (h .0) in (why ∙ n .0, long ∙ n .1, front ∙ h .1),
-      λ h. reads-to .1 (number .1 (sym why ∙ h .0, sym long ∙ h .1), sym front ∙ h .2) )
+    let front : take (length img) after ≡ take (length img) (bufferAfter old o) = ap (λ (l : List ℕ). take (length img) l) left in (
+      λ t. let h = reads-to .0 t in let n = number .0 (h .0) in (why ∙ n .0, long ∙ n .1, front ∙ h .1),
+      λ h. reads-to .1 (number .1 (sym why ∙ h .0, sym long ∙ h .1), sym front ∙ h .2),
+    )

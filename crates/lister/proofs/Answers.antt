@@ -5,6 +5,7 @@ use mathlib.Core.List.{List, _++_}
 use mathlib.Core.Option.{none}
 use Prim.Native.Nat.{ℕ, _≤_}
 use lib.ListN.{length}
+use Rattle.model.specs.Bounds.{listingLimit}
 use Rattle.model.specs.Block.{Block}
 use Rattle.model.specs.Basic.{bytes, gather, same}
 use Rattle.model.specs.Image.{wordAt, image, nameAt, decode, isImageOf, loads, BLOCK-NAME}
@@ -28,7 +29,7 @@ module _ (img : List ℕ) where
     unfolding listsInto loads
     listed room = simp h
 
-    pub short : length (listing block) ≤ 31421
+    pub short : length (listing block) ≤ listingLimit
     unfolding isImageOf
     short = listing-short block (both (wellFormed block) (same img (image block)) h .0)
 

@@ -16,9 +16,6 @@ use load::examine;
 use model::Refusal;
 use model::Written;
 
-// No listing is longer.
-pub const LONGEST: usize = 31_421;
-
 // The text of an accepted image.
 fn block(out: &mut [u8], k: usize, img: &[u8], h: Header) -> usize
     requires { ⌜ Sound (wordAt (now img)) × Heads (wordAt (now img)) h × Holds (now img) h ⌝ }
@@ -47,12 +44,12 @@ pub fn list(img: &[u8], out: &mut [u8]) -> Written
         return Written::Refused(Refusal::ImageNotAccepted);
     };
     let h = a.header;
-    let mut text = [0u8; LONGEST];
+    let mut text = [0u8; bounds::LISTING];
     let n = block(&mut text, 0, img, h);
     if out.len() < n {
         return Written::Refused(Refusal::BufferTooShort(n));
     }
-    let first = LONGEST - n;
+    let first = bounds::LISTING - n;
     bytes::copy(&text[first..], out);
     Written::Bytes(n)
 }

@@ -8,7 +8,7 @@ use borrow.Author.Tests.{leb-true, ltb-true}
 use lib.Dec.{leb, eqb}
 use lib.ListN.{length, getD, length-append}
 use Rattle.model.specs.Basic.{all, total, gather}
-use Rattle.model.specs.Bounds.{M, ruleNumberLeast, ruleNumberLimit}
+use Rattle.model.specs.Bounds.{M, ruleNumberLeast, ruleNumberLimit, listingLimit, ruleLimit, wordLimit, conclusionLimit}
 use Rattle.model.specs.Block.{Conclusion, Rule, Block, inputTerms, size}
 use Rattle.model.specs.declared.Pair.{Pair}
 use Rattle.model.specs.declared.Pair.the-variants.{MinMax as min-max, ProdAsum as prod-asum, BdifBsum as bdif-bsum}
@@ -67,6 +67,10 @@ unfolding all
 accu-room by-max = record { small = refl; short = omega arith }
 accu-room by-bsum = record { small = refl; short = omega arith }
 
+-- of all rules, and of what stands before and behind them
+abbrev ruleBlockRoom : ℕ
+ruleBlockRoom = (893 * ruleLimit + 385 * wordLimit + 684 * conclusionLimit) / 18 + 97
+
 module _ (b : Block) (h : wellFormed b ≡ true) where
   conclusion-room : (k : Conclusion) → conclusionOk b k ≡ true → Fits 36 (conclusionText b k)
   unfolding all conclusionText
@@ -88,7 +92,7 @@ module _ (b : Block) (h : wellFormed b ≡ true) where
         short = simp length-append (omega (arith, n .short, t, k .short, w .short, not-empty (r .conclusions) (f .some)));
       }
 
-  rule-block-room : Fits 21825 (ruleBlockText b)
+  rule-block-room : Fits ruleBlockRoom (ruleBlockText b)
   unfolding all wellFormed ruleBlockText
   rule-block-room =
       let f = block-facts b h in
@@ -105,7 +109,7 @@ module _ (b : Block) (h : wellFormed b ≡ true) where
             (omega (arith, n .short, p .short, q .short, a .short, c .short, r .short, rules-size (b .rules), f .rules .1, f .words, f .conclusions));
       }
 
-  listing-room : Fits 31421 (listing b)
+  listing-room : Fits listingLimit (listing b)
   unfolding all wellFormed listing
   listing-room =
       let f = block-facts b h in
@@ -123,7 +127,7 @@ module _ (b : Block) (h : wellFormed b ≡ true) where
   pub listing-bytes : all isByte (listing b) ≡ true
   listing-bytes = listing-room .small
 
-  pub listing-short : length (listing b) ≤ 31421
+  pub listing-short : length (listing b) ≤ listingLimit
   listing-short = listing-room .short
 
 -- each byte by its place

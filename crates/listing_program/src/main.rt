@@ -1,8 +1,9 @@
 // The listing program: reads a text from standard input and prints its listing, or `refused N at P`. It reads one byte
-// more than a text may have, so a longer text is refused too. What it prints is `listing_report::print`.
+// more than a text may have, so that a longer text is refused too. What it prints is `listing_report::print`.
 ghost use mathlib.Core.Path.{_≡_};
 ghost use lib.ListN.{length};
 ghost use Rattle.io.specs.Counts.{Counts};
+ghost use Rattle.model.specs.Bounds.{listingLimit};
 use libc::STDERR_FILENO;
 use libc::STDIN_FILENO;
 use libc::STDOUT_FILENO;
@@ -13,16 +14,19 @@ struct Input {
     len: usize,
 }
 
-fn text_buffer() -> [u8; bounds::TEXT + 1]
+// The program takes texts of at most so many bytes.
+const TEXT: usize = 65_536;
+
+fn text_buffer() -> [u8; TEXT + 1]
     ensures { λ r. ⌜ 65537 ≡ length r ⌝ }
 {
-    [0; bounds::TEXT + 1]
+    [0; TEXT + 1]
 }
 
-fn listing_buffer() -> [u8; lister::LONGEST]
-    ensures { λ r. ⌜ 31421 ≡ length r ⌝ }
+fn listing_buffer() -> [u8; bounds::LISTING]
+    ensures { λ r. ⌜ listingLimit ≡ length r ⌝ }
 {
-    [0; lister::LONGEST]
+    [0; bounds::LISTING]
 }
 
 fn read_input(buf: &mut [u8]) -> Input

@@ -6,6 +6,7 @@ use Prim.Native.Nat.{ℕ, _≤_}
 use native.Mathlib.Omega.{arith}
 use lib.ListN.{length, take, drop, length-append}
 use lib.Seq.{take-append-seam, length-take-le}
+use Rattle.model.specs.Bounds.{listingLimit, imageLimit}
 use Rattle.model.specs.Block.{Block}
 use Rattle.model.specs.Image.{image, loads}
 use Rattle.model.specs.Listing.{listing}
@@ -26,7 +27,7 @@ different : {X A : Type 0} {a : A} {n : ℕ} {p : Option ℕ} → _≡_ {A = Out
 different e = let z : _≡_ {A = ℕ} 0 1 = cc in absurd (omega arith)
 
 -- LISTED: there is room for every listing
-module _ (img : List ℕ) (b : Block) (room : ℕ) (h : loads img ≡ accepted b) (large : 31421 ≤ room) where
+module _ (img : List ℕ) (b : Block) (room : ℕ) (h : loads img ≡ accepted b) (large : listingLimit ≤ room) where
   lists : listsInto room img ≡ accepted (listing b)
   unfolding listsInto
   lists =
@@ -51,7 +52,7 @@ pub record Read (s : List ℕ) (n : ℕ) (new : List ℕ) : Type 0 where
   pub taken : take n new ≡ image block
   pub within : n ≤ length new
 
-module _ (s : List ℕ) (room : ℕ) (large : room ≡ 10200) where
+module _ (s : List ℕ) (room : ℕ) (large : room ≡ imageLimit) where
   readInto : (b : Block) → reads s ≡ accepted b → readsInto room s ≡ accepted (image b)
   unfolding readsInto
   readInto b h =
@@ -92,10 +93,10 @@ module _ (s : List ℕ) (room : ℕ) (large : room ≡ 10200) where
           ap outcomeText h ∙ (λ i. refusedLine (sym number i) (sym place i))
 
 pub was-read : (s : List ℕ) (room n : ℕ) (old new : List ℕ) → accepted n ≡ lengthIn (readsInto room s)
-    → new ≡ bufferAfter old (readsInto room s) → room ≡ 10200 → Read s n new
+    → new ≡ bufferAfter old (readsInto room s) → room ≡ imageLimit → Read s n new
 was-read s room n old new e f large = image-read s room large n old new e f
 
-pub not-read : (s : List ℕ) (room : ℕ) {n : ℕ} {p : Option ℕ} → refused n p ≡ lengthIn (readsInto room s) → room ≡ 10200
+pub not-read : (s : List ℕ) (room : ℕ) {n : ℕ} {p : Option ℕ} → refused n p ≡ lengthIn (readsInto room s) → room ≡ imageLimit
     → printed s ≡ refusedLine n p
 not-read s room e large = refusal-read s room large e
 

@@ -6,6 +6,7 @@ use Prim.Native.Nat.{ℕ, _*_, _≤_, _<_}
 use native.Mathlib.Nat.{suc-mul}
 use native.Mathlib.Omega.{arith}
 use lib.ListN.{length, length-append, length-map}
+use Rattle.model.specs.Bounds.{imageLimit}
 use Rattle.model.specs.Basic.{all, gather}
 use Rattle.model.specs.Block.{Singleton, Input, Block, inputTerms, outputTerms, conclusions}
 use Rattle.model.specs.Image.{image, words, terms, points, endOf, singletonTerm}
@@ -57,7 +58,7 @@ unfolding gather
 one-point [] = refl
 one-point (s ∷ ss) = omega (arith, one-point ss)
 
-pub image-short : (b : Block) → wellFormed b ≡ true → length (image b) ≤ 10200
+pub image-short : (b : Block) → wellFormed b ≡ true → length (image b) ≤ imageLimit
 unfolding image endOf
 image-short b h =
     let f = block-facts b h in

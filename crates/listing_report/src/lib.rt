@@ -3,6 +3,7 @@ ghost use mathlib.Core.Path.{_≡_};
 ghost use Prim.Native.Nat.{_≤_};
 ghost use lib.ListN.{length};
 ghost use Rattle.io.specs.Counts.{Counts};
+ghost use Rattle.model.specs.Bounds.{listingLimit};
 ghost use Rattle.model.specs.Block.{Block};
 ghost use Rattle.model.specs.Image.{loads};
 ghost use Rattle.model.specs.Listing.{listing};
@@ -15,9 +16,6 @@ use listing_writer::puts;
 use model::Refusal;
 use model::Written;
 use refusals::Told;
-
-// No image is longer.
-const IMAGE: usize = 10_200;
 
 // No line of a refusal is longer.
 const LINE: usize = 64;
@@ -58,7 +56,7 @@ fn refused(why: Refusal, out: &mut [u8]) -> usize
 
 // The listing of an accepted image.
 fn listed(img: &[u8], out: &mut [u8]) -> usize
-    requires { ⌜ 31421 ≤ length (now out) ⌝ }
+    requires { ⌜ listingLimit ≤ length (now out) ⌝ }
     ensures { λ r. ⌜ ((b : Block) → loads (now (img .entry)) ≡ accepted b
         → Shows (listing b) r (now (out .entry)) (now (out .exit))) ⌝ }
 {
@@ -69,11 +67,11 @@ fn listed(img: &[u8], out: &mut [u8]) -> usize
 }
 
 pub fn print(s: &[u8], out: &mut [u8]) -> usize
-    requires { ⌜ 31421 ≤ length (now out) ⌝ }
+    requires { ⌜ listingLimit ≤ length (now out) ⌝ }
     ensures { λ r. ⌜ Shows (printed (now (s .entry))) r (now (out .entry)) (now (out .exit)) ⌝ }
     ensures counts { λ r. ⌜ Counts r (now (out .exit)) ⌝ }
 {
-    let mut image = [0u8; IMAGE];
+    let mut image = [0u8; bounds::IMAGE];
     match reader::read(s, &mut image) {
         Written::Bytes(n) => listed(&image[..n], out),
         Written::Refused(why) => refused(why, out),

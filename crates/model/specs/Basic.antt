@@ -52,6 +52,11 @@ unfoldable pub gather : {A B : Type 0} → (A → List B) → List A → List B
 gather f [] = []
 gather f (x ∷ xs) = f x ++ gather f xs
 
+-- n values of f from i on
+unfoldable pub tab : {A : Type 0} → (ℕ → A) → ℕ → ℕ → List A
+tab f zero i = []
+tab f (suc n) i = f i ∷ tab f n (suc i)
+
 -- how many elements stand before the first that passes; all of them where none does
 abbrev pub indexOf : {A : Type 0} → (A → Bool) → List A → ℕ
 indexOf f [] = 0

@@ -79,3 +79,10 @@ symbolLimit = variableLimit + allTermLimit
 -- points of all input terms
 abbrev pub inputPointLimit : ℕ
 inputPointLimit = inputTermLimit * pointLimit
+
+-- bytes of the longest image and of the longest listing
+abbrev pub imageLimit : ℕ
+imageLimit = 10200
+
+abbrev pub listingLimit : ℕ
+listingLimit = 31421

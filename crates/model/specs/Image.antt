@@ -2,11 +2,11 @@
 use mathlib.Core.Bool.{Bool, _&&_, not}
 use mathlib.Core.List.{List, [], _∷_, _++_, map}
 use mathlib.Core.Option.{Option, none, some}
-use Prim.Native.Nat.{ℕ, zero, suc, _+_, _*_, _-_, _/_, _%_}
+use Prim.Native.Nat.{ℕ, suc, _+_, _*_, _-_, _/_, _%_}
 use lib.Dec.{leb, ltb, eqb}
 use lib.IntN.{ℤ, pos, negsuc}
 use lib.ListN.{length, take, getD}
-use Rattle.model.specs.Basic.{if_then_else_, total, gather, run, same}
+use Rattle.model.specs.Basic.{if_then_else_, total, gather, tab, run, same}
 use Rattle.model.specs.Bounds.{M}
 use Rattle.model.specs.Block.{Point, Term, Singleton, InputType, real, int, Input, Range, Output, Op, and, or, Condition, term, neg, two, Conclusion, Rule, Pair, min-max, prod-asum, bdif-bsum, Accumulation, by-max, by-bsum, Activation, by-min, by-prod, Block, inputTerms, outputTerms, outputFirst, conclusions, size}
 use Rattle.model.specs.Outcome.{Outcome, accepted, refused}
@@ -184,11 +184,6 @@ unfoldable pub image : Block → List ℕ
 image b = bytesOf (words b)
 
 -- THE BLOCK THAT WORDS STAND FOR, w giving the word at each place
--- n values of f from i on
-unfoldable pub tab : {A : Type 0} → (ℕ → A) → ℕ → ℕ → List A
-tab f zero i = []
-tab f (suc n) i = f i ∷ tab f n (suc i)
-
 -- which word of the header holds what: the counts, the offsets of the tables, the algorithms, the two names
 abbrev pub INPUTS : ℕ
 INPUTS = 2

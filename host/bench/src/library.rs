@@ -1,5 +1,10 @@
 //! The static library, by `host/grillenhelm.h`.
 
+/// Bytes of the longest text, image and listing.
+pub const TEXT: usize = 65_536;
+pub const IMAGE: usize = 10_200;
+pub const LISTING: usize = 31_421;
+
 #[repr(C)]
 #[derive(Clone, Copy, Default)]
 pub struct Outcome {

@@ -24,7 +24,7 @@ const SPAN: [(i32, i32); 1] = [(-10, 70)];
 
 /// Our four operations on a block.
 fn ours(subject: &Subject) -> [Timed<'_>; 4] {
-    let (mut image, mut listing) = (vec![0; 10_200], vec![0; 31_421]);
+    let (mut image, mut listing) = (vec![0; library::IMAGE], vec![0; library::LISTING]);
     let (readings, held) = (subject.our_readings(), library::Held { figures: subject.fresh });
     [
         Timed::new(move |_| library::read(black_box(&subject.text), &mut image)),
@@ -36,7 +36,7 @@ fn ours(subject: &Subject) -> [Timed<'_>; 4] {
 
 /// The reference's, and its evaluation below the check.
 fn references(subject: &Subject) -> [Timed<'_>; 5] {
-    let (mut image, mut listing) = (vec![0; 10_200], vec![0; 31_421]);
+    let (mut image, mut listing) = (vec![0; library::IMAGE], vec![0; library::LISTING]);
     let (readings, same_readings) = (subject.reference_readings(), subject.reference_readings());
     let accepted = Stored::new(&subject.image).unwrap();
     let (inputs, held) = (subject.inputs, subject.fresh);
@@ -118,7 +118,7 @@ fn all_bounds() -> Subject {
 
 fn compare_sides(clock: &mut Clock) {
     let subjects = [Subject::new("worked example", TRUST.to_vec(), &[(0, 80)]), crane(), all_bounds()];
-    assert_eq!(subjects[2].image.len(), 10_200, "not all bounds are reached");
+    assert_eq!(subjects[2].image.len(), library::IMAGE, "not all bounds are reached");
     let their_texts = [
         include_str!("../fuzzylite/trust.fcl").to_string(),
         include_str!("../fuzzylite/crane.fcl").to_string(),
@@ -190,7 +190,7 @@ fn followed(kilobytes: usize, comment: bool) -> (String, Vec<u8>) {
 
 /// Our reading at once and in chunks.
 fn compare_chunks(clock: &mut Clock) {
-    let (mut store, mut image) = (vec![0; 65_536], vec![0; 10_200]);
+    let (mut store, mut image) = (vec![0; library::TEXT], vec![0; library::IMAGE]);
     clock.say(&format!("\n| block | chunks of {CHUNK} bytes | read at once, ns | in chunks, ns | more a chunk, ns |"));
     clock.say("|---|---|---|---|---|");
     for subject in [crane(), all_bounds()] {

@@ -33,7 +33,7 @@ fn number_at(image: &[u8], word: usize) -> usize {
 impl Subject {
     /// The text read and listed by us and by the reference, which must agree; the spans of the inputs are repeated.
     pub fn new(name: &'static str, text: Vec<u8>, spans: &[(i32, i32)]) -> Subject {
-        let (mut image, mut listing) = (vec![0; 10_200], vec![0; 31_421]);
+        let (mut image, mut listing) = (vec![0; library::IMAGE], vec![0; library::LISTING]);
         let read = library::read(&text, &mut image);
         assert_eq!(read.refusal, 0, "{name}: refused at {}", read.place);
         image.truncate(read.length);
