@@ -12,15 +12,15 @@ import tempfile
 top = os.path.join(os.path.dirname(os.path.abspath(__file__)), "..")
 
 
-def binary(name):
-    return os.path.join(top, "target", "bin", name)
+program = os.path.join(top, "target", "bin", "vector_cases")
 
 
 def valgrind(name, data, *options):
+    """the program on this one file"""
     with tempfile.TemporaryDirectory() as folder:
-        with open(os.path.join(folder, name.split("_")[0] + "s"), "wb") as f:
+        with open(os.path.join(folder, name), "wb") as f:
             f.write(data)
-        run = subprocess.run(["valgrind", *options, binary(name)], cwd=folder, capture_output=True)
+        run = subprocess.run(["valgrind", *options, program], cwd=folder, capture_output=True)
         out = os.path.join(folder, "out")
         return run.stderr.decode(), open(out).read() if os.path.exists(out) else ""
 
@@ -32,20 +32,20 @@ def instructions(name, cases):
 
 
 def peak(name):
-    data = open(os.path.join(top, "crates", name, "data", name.split("_")[0] + "s"), "rb").read()
+    data = open(os.path.join(top, "crates", "vector_cases", "data", name), "rb").read()
     _, out = valgrind(name, data, "--tool=massif", "--stacks=yes", "--massif-out-file=out")
     return max(int(n) for n in re.findall(r"mem_stacks_B=(\d+)", out))
 
 
-def growth(title, name, sizes, case):
-    empty = instructions(name, [])
-    costs = [instructions(name, [case(n)]) - empty for n in sizes]
+def growth(title, sizes, case):
+    empty = instructions("texts", [])
+    costs = [instructions("texts", [case(n)]) - empty for n in sizes]
     print(f"{title}: " + ", ".join(f"{n} {c / costs[0]:.2f}" for n, c in zip(sizes, costs)))
 
 
-def frames(name, least):
+def frames(least):
     """the bytes that each function takes from the stack; large frames are taken page by page, unrolled or up to %r11"""
-    listing = subprocess.run(["objdump", "-d", "--no-show-raw-insn", binary(name)], capture_output=True, text=True).stdout
+    listing = subprocess.run(["objdump", "-d", "--no-show-raw-insn", program], capture_output=True, text=True).stdout
     taken, function = {}, None
     for line in listing.splitlines():
         start = re.match(r"[0-9a-f]+ <(.*)>:$", line)
@@ -73,16 +73,17 @@ def block(rules, words):
     return (HEAD + "".join(f"RULE {i + 1}: IF {condition} THEN y IS k; " for i in range(rules)) + TAIL).encode()
 
 
-if not os.path.exists(binary("text_vectors")):
+if not os.path.exists(program):
     sys.exit("costs.py: run `rt check` first")
 sizes = [8192, 16384, 32768, 65536]
 print("reading, by bytes of text")
-growth("  a short block and blanks", "text_vectors", sizes, lambda n: block(1, 1).ljust(n))
-growth("  a short block and a comment", "text_vectors", sizes, lambda n: (block(1, 1) + b"(*").ljust(n - 2) + b"*)")
-growth("  a run of digits", "text_vectors", sizes, lambda n: b"7" * n)
-growth("  a run of letters", "text_vectors", sizes, lambda n: b"a" * n)
+growth("  a short block and blanks", sizes, lambda n: block(1, 1).ljust(n))
+growth("  a short block and a comment", sizes, lambda n: (block(1, 1) + b"(*").ljust(n - 2) + b"*)")
+growth("  a run of digits", sizes, lambda n: b"7" * n)
+growth("  a run of letters", sizes, lambda n: b"a" * n)
 print("reading, by rules of nine condition words")
-growth("  rules", "text_vectors", [8, 16, 32, 64], lambda n: block(n, 9))
-for name in ["text_vectors", "image_vectors"]:
-    print(f"{name}: peak of the stack {peak(name)} bytes; frames of 300 bytes and more")
-    frames(name, 300)
+growth("  rules", [8, 16, 32, 64], lambda n: block(n, 9))
+for name in ["texts", "images"]:
+    print(f"{name}: peak of the stack {peak(name)} bytes")
+print("frames of 300 bytes and more")
+frames(300)

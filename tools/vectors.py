@@ -1,12 +1,14 @@
 #!/usr/bin/env python3
-"""vectors.py FOLDER: from the vectors of FOLDER, writes what the programs text_vectors, listing_vectors, image_vectors,
-call_vectors and chunk_vectors read and must write. A file that FOLDER does not have leaves its programs as they are."""
+"""vectors.py FOLDER: from the vectors of FOLDER, writes the files that the program vector_cases reads, and what it must
+write of each. A file that FOLDER does not have leaves its part as it is."""
 import json
 import os
 import sys
 
 source = sys.argv[1]
-crates = os.path.join(os.path.dirname(os.path.abspath(__file__)), "..", "crates")
+crate = os.path.join(os.path.dirname(os.path.abspath(__file__)), "..", "crates", "vector_cases")
+# the files, in the order in which the program runs them
+FILES = ["texts", "chunks", "images", "listings", "calls"]
 
 
 def word(n):
@@ -17,13 +19,26 @@ def with_length(data):
     return word(len(data)) + data
 
 
-def write(crate, data, lines):
-    folder = os.path.join(crates, crate)
-    os.makedirs(os.path.join(folder, "data"), exist_ok=True)
-    with open(os.path.join(folder, "data", crate.split("_")[0] + "s"), "wb") as f:
+def expected():
+    """what the program must write of each file, behind a line with the file's name"""
+    with open(os.path.join(crate, "stdout")) as f:
+        parts = {}
+        for line in f:
+            if line.startswith("= "):
+                name = line[2:-1]
+                parts[name] = ""
+            else:
+                parts[name] += line
+        return parts
+
+
+def write(name, data, lines):
+    parts = expected()
+    parts[name] = "".join(line + "\n" for line in lines)
+    with open(os.path.join(crate, "data", name), "wb") as f:
         f.write(b"".join(data))
-    with open(os.path.join(folder, "stdout"), "w") as f:
-        f.write("".join(line + "\n" for line in lines))
+    with open(os.path.join(crate, "stdout"), "w") as f:
+        f.write("".join(f"= {name}\n{parts[name]}" for name in FILES))
 
 
 def reading(r):
@@ -67,7 +82,7 @@ def texts(cases):
     # the longest text and one byte more, by document 01: no token in it, and too long
     data += [with_length(b" " * 65536), with_length(b" " * 65537)]
     lines += [refusal(2, 65536), refusal(1, 0)]
-    write("text_vectors", data, lines)
+    write("texts", data, lines)
 
 
 def listings(cases):
@@ -77,11 +92,11 @@ def listings(cases):
             data.append(with_length(case["text"].encode("latin-1")))
             # a listing ends its own last line
             lines += [case["listing"] + "again", refusal(10, len(case["listing"]))]
-    write("listing_vectors", data, lines)
+    write("listings", data, lines)
 
 
 def images(cases):
-    # of a refused image a fresh record, all zero; a call, which leaves the record that image_vectors lends it; no listing
+    # of a refused image a fresh record, all zero; a call, which leaves the record that the program lends it; no listing
     lent = [1, -2, 30, -400, 5000, -60000]
     refused = [refusal(11, None), refusal(11, None) + figures([0] * 6), outcome({"refused": [11, None], "held": lent})]
     refused.append(refusal(11, None))
@@ -89,7 +104,7 @@ def images(cases):
     for case in cases:
         data.append(with_length(bytes.fromhex(case["image"])))
         lines += [refusal(0, None)] if case["accepted"] else refused
-    write("image_vectors", data, lines)
+    write("images", data, lines)
 
 
 def calls(blocks):
@@ -105,7 +120,7 @@ def calls(blocks):
             lines += [outcome(call)] * 2
         # an empty case behind the calls
         data.append(with_length(b""))
-    write("call_vectors", data, lines)
+    write("calls", data, lines)
 
 
 def chunks(cases):
@@ -121,7 +136,7 @@ def chunks(cases):
                 made.append(word(0) + word(10200 if call["end"] is None else call["end"]))
             lines.append(call["image"] if "image" in call else refusal(*call.get("refused", [0, None])))
         data += [with_length(text.encode("latin-1")), with_length(b"".join(made))]
-    write("chunk_vectors", data, lines)
+    write("chunks", data, lines)
 
 
 for name, programs in {

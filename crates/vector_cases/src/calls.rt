@@ -4,6 +4,7 @@ ghost use Prim.Native.Nat.{_≤_};
 use model::Crisp;
 use model::Held;
 use model::Reading;
+use vectors::Case;
 use vectors::next_case;
 use vectors::write_evaluation;
 use vectors::write_fresh;
@@ -83,11 +84,16 @@ fn run_words(img: &[u8], call: &[u8]) {
 // False behind the last call, which an empty case marks.
 fn run_call(fd: i32, img: &[u8]) -> bool {
     let mut call = [0u8; 92];
-    if next_case(fd, &mut call) != 92 {
-        return false;
+    match next_case(fd, &mut call) {
+        Case::End => false,
+        Case::Bytes(n) => {
+            if n != 92 {
+                return false;
+            }
+            run_words(img, &call);
+            true
+        }
     }
-    run_words(img, &call);
-    true
 }
 
 fn run_calls(fd: i32, img: &[u8]) {
@@ -105,10 +111,11 @@ fn run_image(fd: i32, img: &[u8]) {
 // An image and its calls. False at the end of the file.
 pub fn run_case(fd: i32) -> bool {
     let mut img = io::large_buffer();
-    let n = next_case(fd, &mut img);
-    if n > 65536 {
-        return false;
+    match next_case(fd, &mut img) {
+        Case::End => false,
+        Case::Bytes(n) => {
+            run_image(fd, &img[..n]);
+            true
+        }
     }
-    run_image(fd, &img[..n]);
-    true
 }

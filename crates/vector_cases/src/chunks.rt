@@ -2,6 +2,7 @@
 // the end the image in hex or the refusal. A byte of the image buffer that changed and should not have adds "changed".
 ghost use mathlib.Core.Path.{_≡_};
 ghost use lib.ListN.{length};
+use vectors::Case;
 use vectors::FILL;
 use vectors::image_buffer;
 use vectors::next_case;
@@ -70,18 +71,23 @@ fn run_calls(text: &[u8], calls: &[u8]) {
     }
 }
 
+// The calls on a text, which follow it.
+fn run_on(fd: i32, text: &[u8]) -> bool {
+    let mut calls = io::large_buffer();
+    match next_case(fd, &mut calls) {
+        Case::End => false,
+        Case::Bytes(m) => {
+            run_calls(text, &calls[..m]);
+            true
+        }
+    }
+}
+
 // A text and the calls on it. False at the end of the file.
 pub fn run_case(fd: i32) -> bool {
     let mut text = text_buffer();
-    let n = next_case(fd, &mut text);
-    if n > 80000 {
-        return false;
+    match next_case(fd, &mut text) {
+        Case::End => false,
+        Case::Bytes(n) => run_on(fd, &text[..n]),
     }
-    let mut calls = io::large_buffer();
-    let m = next_case(fd, &mut calls);
-    if m > 65536 {
-        return false;
-    }
-    run_calls(&text[..n], &calls[..m]);
-    true
 }

@@ -1,12 +1,11 @@
 // Runs the load check on each image of data/images and writes a line for each: the number of the refusal, or 0. Of an
 // image that is refused, lines for its fresh record, for a call on it and for its listing follow.
-ghost use mathlib.Core.Path.{_≡_};
-ghost use lib.ListN.{length};
 use model::Crisp;
 use model::Held;
 use model::Reading;
 use model::Verdict;
-use vectors::FILL;
+use vectors::Case;
+use vectors::listing_buffer;
 use vectors::next_case;
 use vectors::write_evaluation;
 use vectors::write_fresh;
@@ -27,20 +26,13 @@ fn lent_record() -> Held {
     }
 }
 
-// A buffer that no refusal may change.
-fn filled() -> [u8; 40000]
-    ensures { λ r. ⌜ 40000 ≡ length r ⌝ }
-{
-    [FILL; 40000]
-}
-
 fn run_refused(img: &[u8]) {
     write_fresh(evaluation::fresh_of(img));
     let none = Reading::Absent;
     let readings = [none, none, none, none, none, none, none, none];
     let held = lent_record();
     write_evaluation(evaluation::evaluate(img, readings, 9, held));
-    let mut out = filled();
+    let mut out = listing_buffer();
     let w = lister::list(img, &mut out);
     write_refused(w, &out);
 }
@@ -58,10 +50,11 @@ fn run_image(img: &[u8]) {
 // False at the end of the file.
 pub fn run_case(fd: i32) -> bool {
     let mut img = io::large_buffer();
-    let n = next_case(fd, &mut img);
-    if n > 65536 {
-        return false;
+    match next_case(fd, &mut img) {
+        Case::End => false,
+        Case::Bytes(n) => {
+            run_image(&img[..n]);
+            true
+        }
     }
-    run_image(&img[..n]);
-    true
 }

@@ -1,26 +1,14 @@
 // Reads each text of data/listings to its image and writes the listing of that, then two lines: whether the listing
 // read again gives the image byte for byte, and what one byte less room gives, which is a refusal. A byte of the buffer
 // that changed and should not have adds "changed".
-ghost use mathlib.Core.Path.{_≡_};
-ghost use lib.ListN.{length};
 use model::Written;
-use vectors::FILL;
+use vectors::Case;
 use vectors::end_line;
+use vectors::image_buffer;
+use vectors::listing_buffer;
 use vectors::next_case;
 use vectors::write_refusal;
 use vectors::write_refused;
-
-fn filled() -> [u8; 40000]
-    ensures { λ r. ⌜ 40000 ≡ length r ⌝ }
-{
-    [FILL; 40000]
-}
-
-fn image_buffer() -> [u8; 16384]
-    ensures { λ r. ⌜ 16384 ≡ length r ⌝ }
-{
-    [0; 16384]
-}
 
 // Whether the text reads to the image.
 fn reads_to(text: &[u8], img: &[u8]) -> bool {
@@ -50,13 +38,13 @@ fn run_short(img: &[u8], out: &mut [u8]) {
 // Into the first n bytes of a buffer.
 fn run_room(img: &[u8], n: usize) {
     if n <= 40000 {
-        let mut out = filled();
+        let mut out = listing_buffer();
         run_short(img, &mut out[..n]);
     }
 }
 
 fn run_image(img: &[u8]) {
-    let mut out = filled();
+    let mut out = listing_buffer();
     match lister::list(img, &mut out) {
         Written::Bytes(n) => {
             if n <= 40000 {
@@ -92,10 +80,11 @@ fn run_text(text: &[u8]) {
 // False at the end of the file.
 pub fn run_case(fd: i32) -> bool {
     let mut text = io::large_buffer();
-    let n = next_case(fd, &mut text);
-    if n > 65536 {
-        return false;
+    match next_case(fd, &mut text) {
+        Case::End => false,
+        Case::Bytes(n) => {
+            run_text(&text[..n]);
+            true
+        }
     }
-    run_text(&text[..n]);
-    true
 }

@@ -1,5 +1,5 @@
-// Runs the cases of the files in data/, which were worked out elsewhere, and writes lines for each: stdout has what
-// they must be.
+// Runs the cases of the files in data/, which were worked out elsewhere, and writes lines for each, behind one with the
+// name of the file.
 mod calls;
 mod chunks;
 mod images;
@@ -31,6 +31,9 @@ fn run_case(kind: u8, fd: i32) -> bool {
 }
 
 fn run_file(name: &[u8], kind: u8) {
+    io::write_all(1, b"= ");
+    io::write_all(1, name);
+    io::write_all(1, b"\n");
     let fd = os::open_read(name);
     if fd < 0 {
         return;

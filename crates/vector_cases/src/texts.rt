@@ -4,6 +4,7 @@
 ghost use mathlib.Core.Path.{_≡_};
 ghost use lib.ListN.{length};
 use model::Written;
+use vectors::Case;
 use vectors::image_buffer;
 use vectors::next_case;
 use vectors::write_image;
@@ -45,10 +46,11 @@ fn run_text(text: &[u8]) {
 // False at the end of the file.
 pub fn run_case(fd: i32) -> bool {
     let mut text = long_buffer();
-    let n = next_case(fd, &mut text);
-    if n > 65537 {
-        return false;
+    match next_case(fd, &mut text) {
+        Case::End => false,
+        Case::Bytes(n) => {
+            run_text(&text[..n]);
+            true
+        }
     }
-    run_text(&text[..n]);
-    true
 }

@@ -97,6 +97,14 @@ pub fn image_buffer() -> [u8; 16384]
     [FILL; 16384]
 }
 
+// A buffer that holds every listing.
+pub fn listing_buffer() -> [u8; 40000]
+    ensures { λ r. ⌜ 40000 ≡ length r ⌝ }
+    ensures filled { λ r. ⌜ r ≡ replicate 40000 165 ⌝ }
+{
+    [FILL; 40000]
+}
+
 fn wide(b: u8) -> u64 {
     b as u64
 }

@@ -1,7 +1,7 @@
 use Prim.Native.Nat.{_≤_, _-_}
 use borrow.Author.Needs.{needs}
-use Rattle.text_vectors.proofs.main.Statement.{statement}
-use Rattle.text_vectors.proofs.main.Tie as tie
+use Rattle.vector_cases.proofs.run_file.Statement.{statement}
+use Rattle.vector_cases.proofs.run_file.Tie as tie
 
 abbrev Inv-loop : tie.InvT-loop
 Inv-loop fd i₀ i = i ≤ 100000
@@ -39,8 +39,8 @@ close-requires c κs = search needs
 returns-2 : tie.Need-returns-2 Inv-loop μ-loop
 returns-2 c = search needs
 
-pub main-spec : {M : Type 1} → statement M
-main-spec =
+pub run-file-spec : {M : Type 1} → statement M
+run-file-spec =
     tie.close
     (tie.spec
     Inv-loop

@@ -1,23 +1,29 @@
+use mathlib.Core.Path.{_≡_, refl, sym, ap, _∙_}
+use mathlib.Core.Bool.{not}
 use Prim.Native.Nat.{_≤_, _-_}
-use lib.ListN.{length}
+use native.Mathlib.Omega.{arith}
+use lib.Dec.{eqb}
+use lib.ListN.{length, drop}
+use Rattle.model.specs.Basic.{all}
+use Rattle.vectors.proofs.Filled.{filled, goes-on, stops, ends}
 use borrow.Author.Needs.{needs}
 use Rattle.vectors.proofs.is_changed.Statement.{statement}
 use Rattle.vectors.proofs.is_changed.Tie as tie
 
 abbrev Inv-loop : tie.InvT-loop
-Inv-loop buf k i₀ i = k ≤ i
+Inv-loop buf k i₀ i = (k ≤ i) × (filled 165 buf k ≡ filled 165 buf i)
 
 abbrev μ-loop : tie.MeasureT-loop
 μ-loop buf k i₀ i = length buf - i
 
 loop-holds : tie.Need-loop-holds Inv-loop μ-loop
-loop-holds c = search needs
+loop-holds c = (omega arith, refl)
 
 shared-slice-read-if1 : tie.Need-shared-slice-read-if1 Inv-loop μ-loop
 shared-slice-read-if1 c = search needs
 
 returns : tie.Need-returns Inv-loop μ-loop
-returns c = search needs
+returns c = ?
 
 add-i : tie.Need-add-i Inv-loop μ-loop
 add-i c = search needs
@@ -26,10 +32,10 @@ loop-less : tie.Need-loop-less Inv-loop μ-loop
 loop-less c = search needs
 
 loop-again : tie.Need-loop-again Inv-loop μ-loop
-loop-again c = search needs
+loop-again c = ?
 
 returns-2 : tie.Need-returns-2 Inv-loop μ-loop
-returns-2 c = search needs
+returns-2 c = ?
 
 pub is-changed-spec : {M : Type 1} → statement M
 is-changed-spec =

@@ -1,7 +1,7 @@
-use Rattle.call_vectors.proofs.Numbers.{no-nan-pattern}
+use Rattle.vector_cases.proofs.calls.Numbers.{no-nan-pattern}
 use borrow.Author.Needs.{needs}
-use Rattle.call_vectors.proofs.float_of.Statement.{statement}
-use Rattle.call_vectors.proofs.float_of.Tie as tie
+use Rattle.vector_cases.proofs.calls.float_of.Statement.{statement}
+use Rattle.vector_cases.proofs.calls.float_of.Tie as tie
 
 returns : tie.Need-returns
 returns c = search needs

@@ -1,7 +1,7 @@
-use Rattle.call_vectors.proofs.Numbers.{int-fits}
+use Rattle.vector_cases.proofs.calls.Numbers.{int-fits}
 use borrow.Author.Needs.{needs}
-use Rattle.call_vectors.proofs.int_of.Statement.{statement}
-use Rattle.call_vectors.proofs.int_of.Tie as tie
+use Rattle.vector_cases.proofs.calls.int_of.Statement.{statement}
+use Rattle.vector_cases.proofs.calls.int_of.Tie as tie
 
 returns : tie.Need-returns
 returns c = search needs

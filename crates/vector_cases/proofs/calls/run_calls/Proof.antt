@@ -1,7 +1,7 @@
 use Prim.Native.Nat.{_≤_, _-_}
 use borrow.Author.Needs.{needs}
-use Rattle.call_vectors.proofs.run_calls.Statement.{statement}
-use Rattle.call_vectors.proofs.run_calls.Tie as tie
+use Rattle.vector_cases.proofs.calls.run_calls.Statement.{statement}
+use Rattle.vector_cases.proofs.calls.run_calls.Tie as tie
 
 abbrev Inv-loop : tie.InvT-loop
 Inv-loop fd img i₀ i = i ≤ 100000

@@ -2,8 +2,8 @@ use mathlib.Core.Path.{_≡_}
 use Prim.Native.Nat.{_≤_, _-_}
 use lib.ListN.{length}
 use borrow.Author.Needs.{needs}
-use Rattle.chunk_vectors.proofs.run_calls.Statement.{statement}
-use Rattle.chunk_vectors.proofs.run_calls.Tie as tie
+use Rattle.vector_cases.proofs.chunks.run_calls.Statement.{statement}
+use Rattle.vector_cases.proofs.chunks.run_calls.Tie as tie
 
 abbrev Inv-loop : tie.InvT-loop
 Inv-loop text calls store₀ count₀ at₀ i₀ store count at i = (i ≤ length calls) × (65536 ≡ length store)

@@ -2,8 +2,8 @@ use mathlib.Core.Path.{sym}
 use native.Mathlib.Omega.{arith}
 use lib.Seq.{length-take-le}
 use borrow.Author.Needs.{needs}
-use Rattle.chunk_vectors.proofs.run_case.Statement.{statement}
-use Rattle.chunk_vectors.proofs.run_case.Tie as tie
+use Rattle.vector_cases.proofs.chunks.run_case.Statement.{statement}
+use Rattle.vector_cases.proofs.chunks.run_case.Tie as tie
 
 text-buffer-requires : tie.Need-text-buffer-requires
 text-buffer-requires c κs = search needs

@@ -2,8 +2,8 @@ use mathlib.Core.Path.{sym}
 use native.Mathlib.Omega.{arith}
 use lib.Seq.{length-take-le}
 use borrow.Author.Needs.{needs}
-use Rattle.chunk_vectors.proofs.run_end.Statement.{statement}
-use Rattle.chunk_vectors.proofs.run_end.Tie as tie
+use Rattle.vector_cases.proofs.chunks.run_end.Statement.{statement}
+use Rattle.vector_cases.proofs.chunks.run_end.Tie as tie
 
 image-buffer-requires : tie.Need-image-buffer-requires
 image-buffer-requires c κs = search needs

@@ -2,8 +2,8 @@ use mathlib.Core.Path.{sym}
 use native.Mathlib.Omega.{arith}
 use lib.Seq.{length-take-le}
 use borrow.Author.Needs.{needs}
-use Rattle.listing_vectors.proofs.reads_to.Statement.{statement}
-use Rattle.listing_vectors.proofs.reads_to.Tie as tie
+use Rattle.vector_cases.proofs.listings.reads_to.Statement.{statement}
+use Rattle.vector_cases.proofs.listings.reads_to.Tie as tie
 
 image-buffer-requires : tie.Need-image-buffer-requires
 image-buffer-requires c κs = search needs

@@ -2,8 +2,8 @@ use mathlib.Core.Path.{sym}
 use native.Mathlib.Omega.{arith}
 use lib.Seq.{length-take-le}
 use borrow.Author.Needs.{needs}
-use Rattle.listing_vectors.proofs.run_case.Statement.{statement}
-use Rattle.listing_vectors.proofs.run_case.Tie as tie
+use Rattle.vector_cases.proofs.listings.run_case.Statement.{statement}
+use Rattle.vector_cases.proofs.listings.run_case.Tie as tie
 
 large-buffer-requires : tie.Need-large-buffer-requires
 large-buffer-requires c κs = search needs

@@ -2,8 +2,8 @@ use mathlib.Core.Path.{sym}
 use native.Mathlib.Omega.{arith}
 use lib.Seq.{length-take-le}
 use borrow.Author.Needs.{needs}
-use Rattle.text_vectors.proofs.run_case.Statement.{statement}
-use Rattle.text_vectors.proofs.run_case.Tie as tie
+use Rattle.vector_cases.proofs.texts.run_case.Statement.{statement}
+use Rattle.vector_cases.proofs.texts.run_case.Tie as tie
 
 long-buffer-requires : tie.Need-long-buffer-requires
 long-buffer-requires c κs = search needs
