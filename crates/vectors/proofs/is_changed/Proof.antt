@@ -23,7 +23,10 @@ shared-slice-read-if1 : tie.Need-shared-slice-read-if1 Inv-loop μ-loop
 shared-slice-read-if1 c = search needs
 
 returns : tie.Need-returns Inv-loop μ-loop
-returns c = ?
+returns c =
+    let t = c .before .before in
+    let l = t .before .loop in
+    sym (ap not (l .inv .1 ∙ stops 165 (t .before .before .args .buf .now) (l .i) (t .loop-test .taken) (c .if1 .taken)))
 
 add-i : tie.Need-add-i Inv-loop μ-loop
 add-i c = search needs
@@ -32,10 +35,15 @@ loop-less : tie.Need-loop-less Inv-loop μ-loop
 loop-less c = search needs
 
 loop-again : tie.Need-loop-again Inv-loop μ-loop
-loop-again c = ?
+loop-again c =
+    let t = c .before .before in
+    let l = t .before .loop in
+    (omega (arith, l .inv .0), l .inv .1 ∙ goes-on 165 (t .before .before .args .buf .now) (l .i) (t .loop-test .taken) (c .if1 .left))
 
 returns-2 : tie.Need-returns-2 Inv-loop μ-loop
-returns-2 c = ?
+returns-2 c =
+    let l = c .before .loop in
+    sym (ap not (l .inv .1 ∙ ends 165 (c .before .before .args .buf .now) (l .i) (c .loop-test .left)))
 
 pub is-changed-spec : {M : Type 1} → statement M
 is-changed-spec =
