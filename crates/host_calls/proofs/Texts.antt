@@ -1,5 +1,5 @@
 -- A text reads to an image exactly when `grillenhelm_read`, given room, tells a host 0 and its length and leaves it at the front of the buffer.
-use mathlib.Core.Path.{_≡_, refl, sym, ap, _∙_, subst}
+use mathlib.Core.Path.{_≡_, refl, sym, ap, _∙_}
 use mathlib.Core.Bool.{Bool, true, false}
 use mathlib.Core.List.{List}
 use mathlib.Core.Logic.{_↔_}
@@ -11,7 +11,6 @@ use lib.Dec.{ltb, eqb}
 use lib.ListN.{length, take}
 use Rattle.model.specs.Basic.{if_then_else_, all}
 use Rattle.model.specs.Bounds.{textLimit}
-use Rattle.model.specs.Block.{Block}
 use Rattle.model.specs.Outcome.{Outcome, accepted, refused, andThen, into, lengthIn, bufferAfter}
 use Rattle.model.specs.Reader.{functionBlock, start, reads}
 use Rattle.model.specs.Reader.{outcomeOf as parsed}
@@ -69,6 +68,7 @@ host-reads-iff s img old r after told left bytes enough =
     let number = told-iff o (length img) (numbered (length old) s) in
     let why : r .refusal ≡ outcomeOf length o .refusal = ap (λ (x : GrillenhelmOutcome). x .refusal) told in
     let long : r .length ≡ outcomeOf length o .length = ap (λ (x : GrillenhelmOutcome). x .length) told in
-    let front : take (length img) after ≡ take (length img) (bufferAfter old o) = ap (λ (l : List ℕ). take (length img) l) left in
-    ( λ t. let h = reads-to .0 t in let n = number .0 (h .0) in (why ∙ n .0, long ∙ n .1, front ∙ h .1),
-      λ h. reads-to .1 (number .1 (sym why ∙ h .0, sym long ∙ h .1), sym front ∙ h .2) )
+    let front : take (length img) after ≡ take (length img) (bufferAfter old o) = ap (λ (l : List ℕ). take (length img) l) left in (
+      λ t. let h = reads-to .0 t in let n = number .0 (h .0) in (why ∙ n .0, long ∙ n .1, front ∙ h .1),
+      λ h. reads-to .1 (number .1 (sym why ∙ h .0, sym long ∙ h .1), sym front ∙ h .2),
+    )
