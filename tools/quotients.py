@@ -1,8 +1,8 @@
 #!/usr/bin/env python3
 """tools/quotients.py: fails where anything that an evaluation runs divides 64-bit whole numbers, or takes their remainder,
 but by a constant power of two (W-206). It follows the calls in the MIR, from every function that a host can call but
-those for texts, and from the call for daily use; and it looks for a divide instruction in the static library, which
-host/c/build.sh writes. tools/quotients_test.py tests it."""
+those for texts; and it looks for a divide instruction in the static library, which host/c/build.sh writes.
+tools/quotients_test.py tests it."""
 import os
 import re
 import subprocess
@@ -13,9 +13,15 @@ os.environ["PATH"] += os.pathsep + "/opt/rattle/bin"
 ARCHIVE = "target/staticlib/libgrillenhelm.a"
 EXPORTED = "grillenhelm::grillenhelm_"
 FOR_TEXTS = {EXPORTED + name for name in ("read", "append", "finish", "list")}
-DAILY = "daily::evaluate_held"
-# Every evaluation runs these: where they are not reached, the calls were not followed rightly.
-REACHED = {"load::examine", "readings::real", "terms::on_line", "degrees::prod", "centre::centre_of"}
+# Evaluations run these: where they are not reached, the calls were not followed rightly.
+REACHED = {
+    "daily::evaluate_held",
+    "load::examine",
+    "readings::real",
+    "terms::on_line",
+    "degrees::prod",
+    "centre::centre_of",
+}
 
 
 def said(*command):
@@ -97,8 +103,8 @@ def followed(functions, entries):
 
 
 def entries_of(functions):
-    """What a host can call, but for texts: a function that is exported later is among them. And daily use."""
-    return sorted(name for name in functions if name == DAILY or name.startswith(EXPORTED) and name not in FOR_TEXTS)
+    """What a host can call, but for texts: a function that is exported later is among them."""
+    return sorted(name for name in functions if name.startswith(EXPORTED) and name not in FOR_TEXTS)
 
 
 def instructions_in(disassembly, symbols):
@@ -109,13 +115,11 @@ def instructions_in(disassembly, symbols):
 
 def main():
     os.chdir(os.path.join(os.path.dirname(os.path.abspath(__file__)), ".."))
-    wrong = []
-    for crate in ("grillenhelm", "daily"):
-        functions = functions_of(said("rt", "mir", crate))
-        entries = entries_of(functions)
-        reached, found = followed(functions, entries)
-        wrong += found + [f"{crate}: {name} is not reached" for name in sorted(REACHED - reached)]
-        print(f"quotients: {', '.join(entries)}: {len(reached)} functions, {len(found)} quotients of 64 bits")
+    functions = functions_of(said("rt", "mir", "grillenhelm"))
+    entries = entries_of(functions)
+    reached, found = followed(functions, entries)
+    wrong = found + [f"{name} is not reached" for name in sorted(REACHED - reached)]
+    print(f"quotients: {', '.join(entries)}: {len(reached)} functions, {len(found)} quotients of 64 bits")
     machine = instructions_in(said("objdump", "-d", "--no-show-raw-insn", ARCHIVE), said("nm", "-u", ARCHIVE))
     print(f"quotients: {ARCHIVE}: {len(machine)} divide instructions")
     sys.exit("\n".join(wrong + machine) or None)

@@ -5,13 +5,12 @@ use mathlib.Core.List.{List, [], _∷_, map}
 use mathlib.Core.Option.{Option, none, some}
 use Prim.Native.Nat.{ℕ}
 use lib.Dec.{eqb}
-use Rattle.model.specs.Outcome.{Outcome, accepted, refused, verdictIn}
+use Rattle.model.specs.Outcome.{Outcome, refused, verdictIn}
 use Rattle.model.specs.Refusals.{numberAndPlace, writtenOf, verdictOf}
 use Rattle.model.specs.declared.Answer.{Answer}
 use Rattle.model.specs.declared.Evaluation.{Evaluation}
 use Rattle.model.specs.declared.Mark.{Mark}
 use Rattle.model.specs.declared.Mark.the-variants.{None, Fired, Default, Held as HeldMark}
-use Rattle.model.specs.declared.Refusal.{Refusal}
 use Rattle.model.specs.declared.Refusal.the-variants.{TextTooLong, WrongToken, WrongNumber, WrongName, NotDeclared, TooMany, WrongPosition, Unpaired, PartMissing, BufferTooShort, ImageNotAccepted, WrongCount, WrongHeld, WrongReading, TextOver}
 use Rattle.model.specs.declared.Reply.{Reply}
 use Rattle.model.specs.declared.Verdict.{Verdict}

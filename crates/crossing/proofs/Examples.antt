@@ -9,11 +9,9 @@ use lib.IntN.{pos, negsuc}
 use lib.ListN.{replicate}
 use Rattle.model.specs.Outcome.{accepted, refused}
 use Rattle.model.specs.Evaluation.{heldOf, noAnswer, padded}
-use Rattle.model.specs.declared.Evaluation.{Evaluation}
 use Rattle.model.specs.declared.Mark.the-variants.{Fired, Default, Held as HeldMark}
 use Rattle.model.specs.declared.Reading.the-variants.{Real, Int, Absent}
 use Rattle.model.specs.declared.Refusal.the-variants.{BufferTooShort, ImageNotAccepted, WrongCount, WrongHeld, WrongReading, TextOver}
-use Rattle.model.specs.declared.Reply.{Reply}
 use Rattle.model.specs.declared.Verdict.the-variants.{Accepted, Refused}
 use Rattle.crossing.specs.Crossing.{readingOf, answerOf}
 use Rattle.crossing.specs.Back.{outcomeBack, verdictBack, answerBack, evaluationBack, replyBack}

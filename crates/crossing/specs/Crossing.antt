@@ -1,6 +1,6 @@
 -- A helper: how outcomes, readings and answers cross to a host, as numbers; the record crosses as it is. The contracts
--- say by it what model's definitions give; `host_calls` has that nothing is lost, and `Laws` that it is what the public
--- functions hand back (`told-then`, `crossed-tells`).
+-- say by it what model's definitions give; `proofs/Back` has that nothing is lost, and `proofs/Laws` that it is what the
+-- public functions hand back (`told-then`, `crossed-tells`).
 use mathlib.Core.List.{map}
 use mathlib.Core.Option.{none, some}
 use Prim.Native.Nat.{ℕ}

@@ -14,10 +14,10 @@ use Rattle.model.specs.Image.{wordAt, decode, isImageOf, loads}
 use Rattle.model.specs.Buffers.{readsTo}
 use Rattle.model.specs.Evaluation.{CallResult, evaluate, answersAfter, Tells, starting, fresh, recordIn}
 use Rattle.model.specs.declared.Held.{Held}
-use Rattle.demand_3.specs.Calls.{Call, Trace, CallsHold, Demand3}
+use Rattle.demand_3.specs.Calls.{Trace, CallsHold}
 use Rattle.calls.proofs.Claim.{demand-3}
 use Rattle.calls.proofs.Traces.{call-told}
-use Rattle.crossing.specs.Crossing.{bareOutcome, freshIn, evaluationIn}
+use Rattle.crossing.specs.Crossing.{bareOutcome, freshIn}
 use Rattle.crossing.specs.Back.{verdictBack, answerBack, evaluationBack}
 use Rattle.crossing.specs.declared.GrillenhelmEvaluation.{GrillenhelmEvaluation}
 use Rattle.crossing.specs.declared.GrillenhelmFresh.{GrillenhelmFresh}

@@ -1,4 +1,4 @@
--- A list of a call that returned and one that replied, crossed back.
+-- A list of two calls, one by value and one for daily use: crossed back, and how its record is handed on.
 use mathlib.Core.Path.{_≡_, refl}
 use mathlib.Core.Bool.{false}
 use mathlib.Core.List.{List, [], _∷_, map}
@@ -7,6 +7,7 @@ use lib.Ieee.{Float, fin}
 use lib.IntN.{pos, negsuc}
 use lib.ListN.{replicate}
 use Rattle.model.specs.Evaluation.{noAnswer, padded, heldOf}
+use Rattle.model.specs.declared.Held.{Held}
 use Rattle.model.specs.declared.Mark.the-variants.{Fired}
 use Rattle.model.specs.declared.Reading.the-variants.{Real, Int, Absent}
 use Rattle.model.specs.declared.Refusal.the-variants.{WrongReading}
@@ -16,7 +17,7 @@ use Rattle.crossing.specs.declared.GrillenhelmAnswer.{GrillenhelmAnswer}
 use Rattle.crossing.specs.declared.GrillenhelmOutcome.{GrillenhelmOutcome}
 use Rattle.crossing.specs.declared.GrillenhelmReading.{GrillenhelmReading}
 use Rattle.crossing.specs.declared.GrillenhelmReadings.{GrillenhelmReadings}
-use Rattle.host_calls.specs.HostCalls.{HostCall, returned, replied, seenIn, madeBack}
+use Rattle.host_calls.specs.HostCalls.{HostCall, returned, replied, HostLink, HostTrace, madeBack}
 
 abbrev real : Float → GrillenhelmReading
 real x = record { kind = 1; real = x; whole = pos 0 }
@@ -57,6 +58,8 @@ crossed-back : map madeBack calls
     ∷ []
 crossed-back = refl
 
--- the record that each hands on
-handed-on : map (λ k. seenIn k .held) calls ≡ replicate 2 (heldOf (pos 25000 ∷ []))
-handed-on = refl
+-- the second call is made on the record that the first one returned
+handed-on : (img : List ℕ) (h : Held) → HostTrace img h calls
+    → HostLink img (heldOf (pos 25000 ∷ [])) (two (real (fin false 15 (pos 1))) nothing)
+    (record { outcome = told 14 1 1; answers = replicate 6 none; held = heldOf (pos 25000 ∷ []) })
+handed-on img h t = t .1 .0

@@ -1,5 +1,5 @@
 -- A text reads to an image exactly when `grillenhelm_read`, given room, tells a host 0 and its length and leaves it at the front of the buffer.
-use mathlib.Core.Path.{_≡_, refl, sym, ap, _∙_, subst}
+use mathlib.Core.Path.{_≡_, refl, sym, ap, _∙_}
 use mathlib.Core.Bool.{Bool, true, false}
 use mathlib.Core.List.{List}
 use mathlib.Core.Logic.{_↔_}
@@ -11,7 +11,6 @@ use lib.Dec.{ltb, eqb}
 use lib.ListN.{length, take}
 use Rattle.model.specs.Basic.{if_then_else_, all}
 use Rattle.model.specs.Bounds.{textLimit}
-use Rattle.model.specs.Block.{Block}
 use Rattle.model.specs.Outcome.{Outcome, accepted, refused, andThen, into, lengthIn, bufferAfter}
 use Rattle.model.specs.Reader.{functionBlock, start, reads}
 use Rattle.model.specs.Reader.{outcomeOf as parsed}

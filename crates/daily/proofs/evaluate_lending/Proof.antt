@@ -213,8 +213,9 @@ module _ {M : Type 1} (𝓤 : URA M) (H : Heap 𝓤) (A : Atoms 𝓤) (W : Given
         ⊛ raw (ensured 𝓤 H A day.ended (day.clauses 𝓤 H A at-mem run) (κ, (α ∷ [], tt)) (given l₅ α δ) tt r)))) (id⊢ 𝓤 _) $
         await ! tt $ pick ! (λ r. split ! $ move ! (1 ∷ []) $
         use1 W (some (λ (ws : Unit {0} × (Unit {0} × (Unit {0} × (Held × Unit {0})))). ‵ (lasts day.ended (κ, (α ∷ [], tt)) (given l₅ α δ) ws)
-        ⊛ raw (fact 𝓤 (Tells (leaving r (ws .1 .1 .1 .0)) h found)))) (id⊢ 𝓤 _) $ pick ! (λ ws. split ! $ move ! (1 ∷ []) $
-        heard ! (Tells (leaving r (ws .1 .1 .1 .0)) h found) (λ told.
+        ⊛ raw (fact 𝓤 (Tells (leaving r (ws .1 .1 .1 .0)) h found)))) (id⊢ 𝓤 _) $ pick ! (λ ws.
+        let after : Held = ws .1 .1 .1 .0 in split ! $ move ! (1 ∷ []) $
+        heard ! (Tells (leaving r after) h found) (λ told.
         fsplit ! $ move ! (1 ∷ []) $ fsplit ! $ move ! (1 ∷ []) $ fsplit ! $ move ! (1 ∷ []) $ fsplit ! $
         -- [the last record; true; true; true; true; the tokens and the reply; what img owns; the lender's part; _8; …; _7; …; room for _6; …; …; _4; …]
         move ! (5 ∷ []) $ split ! $ move ! (1 ∷ []) $ peeks ! Y.the-row (Is Y.the-row) (shows 𝓤 H A Y.the-row) r (u ∷ []) (λ is.
@@ -222,24 +223,24 @@ module _ {M : Type 1} (𝓤 : URA M) (H : Heap 𝓤) (A : Atoms 𝓤) (W : Given
         rewrite ! 13 (λ (w : Val). ‵ (fat fullShare Y′.mir l₆ 0 w)) (ap only (LL.tells Y.the-type Y′.the-laws r (u ∷ []) is)) refl $
         -- the lifetime is ended, and the local is taken back at the record that the call left
         move ! (1 ∷ []) $ split ! $ move ! (1 ∷ []) $ split ! $ lft-end ! tt $ move ! (0 ∷ 10 ∷ 4 ∷ []) $
-        use3 W (later (‵ (partAt K.the-row fullShare (ws .1 .1 .1 .0) l₅ 0))) (ref-back 𝓤 H A W K.the-row (α ∷ []) δ (ws .1 .1 .1 .0) l₅ 0) $ await ! tt $
-        use1 W (‵ (fat fullShare K′.mir l₅ 0 (held-val (ws .1 .1 .1 .0))) ⊛ ‵ (K.the-row .own (ws .1 .1 .1 .0) (held-vals (ws .1 .1 .1 .0))))
-        (lent-out 𝓤 H A W (ws .1 .1 .1 .0) l₅) $ split ! $ move ! (1 ∷ []) $
-        peeks ! K.the-row (Is K.the-row) (shows 𝓤 H A K.the-row) (ws .1 .1 .1 .0) _ (λ left.
+        use3 W (later (‵ (partAt K.the-row fullShare after l₅ 0))) (ref-back 𝓤 H A W K.the-row (α ∷ []) δ after l₅ 0) $ await ! tt $
+        use1 W (‵ (fat fullShare K′.mir l₅ 0 (held-val after)) ⊛ ‵ (K.the-row .own after (held-vals after)))
+        (lent-out 𝓤 H A W after l₅) $ split ! $ move ! (1 ∷ []) $
+        peeks ! K.the-row (Is K.the-row) (shows 𝓤 H A K.the-row) after _ (λ left.
         -- [what the record owns; _5; true; img's token; what the reply owns; true; true; true; true; what img owns; _8; …; _7; …; _6; …; …; _4; …; _3; …;
         -- _2; …; _1; …; room for _0; …]
         assigns ! (of-opd ! (load ! (from ! (stop !)) (look ! 1 refl))) (from ! (stop !))
-        (init ! 10 refl (LL.lawful K.the-type K′.the-laws 𝓤 H A W .typed (ws .1 .1 .1 .0) _ left .0)) $
+        (init ! 10 refl (LL.lawful K.the-type K′.the-laws 𝓤 H A W .typed after _ left .0)) $
         assigns ! (agg ! (and-then ! (load ! (from ! (fld ! refl (stop !))) (look-in ! 14 (sub ! 0 refl (whole !))))
         (and-then ! (load ! (from ! (fld ! refl (stop !))) (look-in ! 14 (sub ! 1 refl (whole !))))
         (and-then ! (load ! (from ! (stop !)) (look ! 10 refl)) (no-more !))))) (from ! (stop !))
-        (init ! 25 refl (LL.lawful E.the-type E′.the-laws 𝓤 H A W .typed (leaving r (ws .1 .1 .1 .0)) _ (evaluation-is r (ws .1 .1 .1 .0) u is left) .0)) $
+        (init ! 25 refl (LL.lawful E.the-type E′.the-laws 𝓤 H A W .typed (leaving r after) _ (evaluation-is r after u is left) .0)) $
         returns ! (look ! 25 refl) $ forget ! 1 refl $ forget ! 10 refl $ forget ! 12 refl $ forget ! 14 refl $ forget ! 17 refl $ forget ! 19 refl $
         forget ! 21 refl $ forget ! 23 refl $ forget ! 25 refl $
         move ! (25 ∷ 26 ∷ []) $ free1 ! $ move ! (23 ∷ 24 ∷ []) $ free1 ! $ move ! (21 ∷ 22 ∷ []) $ free1 ! $ move ! (19 ∷ 20 ∷ []) $ free1 ! $
         move ! (17 ∷ 18 ∷ []) $ free1 ! $ move ! (1 ∷ 16 ∷ []) $ free1 ! $ move ! (13 ∷ 14 ∷ []) $ free1 ! $ move ! (11 ∷ 12 ∷ []) $ free1 ! $
         move ! (9 ∷ 10 ∷ []) $ free1 ! $ free0 ! $
-        keep ! (2 ∷ 8 ∷ []) $ by ! (exits is-r is-n is-h (leaving r (ws .1 .1 .1 .0)) (evaluation-is r (ws .1 .1 .1 .0) u is left) told))))))))))))))))))
+        keep ! (2 ∷ 8 ∷ []) $ by ! (exits is-r is-n is-h (leaving r after) (evaluation-is r after u is left) told))))))))))))))))))
 
 module _ {M : Type 1} (𝓤 : URA M) (H : Heap 𝓤) (A : Atoms 𝓤) (W : Given 𝓤 H A) (at-mem : Memory → SProp 𝓤) (run : Routine → Fun 𝓤) where
   lending-walks : (C : Calls 𝓤 H) (Λ : Loops 𝓤 H) → FmC 𝓤 H (W .laws) C → Triple 𝓤 (C #daily·evaluate-held) (Day 𝓤 H A at-mem run)

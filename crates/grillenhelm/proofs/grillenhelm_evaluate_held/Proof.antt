@@ -229,8 +229,9 @@ module _ {M : Type 1} (𝓤 : URA M) (H : Heap 𝓤) (A : Atoms 𝓤) (W : Given
         ⊛ raw (ensured 𝓤 H A day.ended (day.clauses 𝓤 H A at-mem run) (κ, (κ′, tt)) (passing rs rv) tt r)))) (id⊢ 𝓤 _) $
         await ! tt $ pick ! (λ r. split ! $ move ! (1 ∷ []) $
         use1 W (some (λ (ws : Unit {0} × (Unit {0} × (Unit {0} × (Held × Unit {0})))). ‵ (lasts day.ended (κ, (κ′, tt)) (passing rs rv) ws)
-        ⊛ raw (fact 𝓤 (Tells (leaving r (ws .1 .1 .1 .0)) h (evaluate (now s) rs n h))))) (id⊢ 𝓤 _) $ pick ! (λ ws. split ! $ move ! (1 ∷ []) $
-        heard ! (Tells (leaving r (ws .1 .1 .1 .0)) h (evaluate (now s) rs n h)) (λ told.
+        ⊛ raw (fact 𝓤 (Tells (leaving r (ws .1 .1 .1 .0)) h (evaluate (now s) rs n h))))) (id⊢ 𝓤 _) $ pick ! (λ ws.
+        let after : Held = ws .1 .1 .1 .0 in split ! $ move ! (1 ∷ []) $
+        heard ! (Tells (leaving r after) h (evaluate (now s) rs n h)) (λ told.
         fsplit ! $ move ! (1 ∷ []) $ fsplit ! $ move ! (1 ∷ []) $ fsplit ! $ move ! (1 ∷ []) $ fsplit ! $
         -- [the last record; true; true; true; true; the tokens and the reply; what image owns; what rs owns; _6; …; room for _5; …; _4; …; _3; …; _2; …]
         move ! (5 ∷ []) $ split ! $ move ! (1 ∷ []) $ peeks ! Y.the-row (Is Y.the-row) (shows 𝓤 H A Y.the-row) r (u ∷ []) (λ is-y.
@@ -248,8 +249,8 @@ module _ {M : Type 1} (𝓤 : URA M) (H : Heap 𝓤) (A : Atoms 𝓤) (W : Given
         forget ! 21 refl $
         move ! (21 ∷ 22 ∷ []) $ free1 ! $ move ! (19 ∷ 20 ∷ []) $ free1 ! $ move ! (17 ∷ 18 ∷ []) $ free1 ! $ move ! (15 ∷ 16 ∷ []) $ free1 ! $
         move ! (13 ∷ 14 ∷ []) $ free1 ! $ move ! (11 ∷ 12 ∷ []) $ free1 ! $ move ! (9 ∷ 10 ∷ []) $ free1 ! $ free0 ! $
-        keep ! (0 ∷ 1 ∷ 2 ∷ 7 ∷ []) $ by ! (exits is-g (ws .1 .1 .1 .0) y z
-        (crossed-reply y r h (ws .1 .1 .1 .0) (evaluate (now s) rs n h) e₂ told
+        keep ! (0 ∷ 1 ∷ 2 ∷ 7 ∷ []) $ by ! (exits is-g after y z
+        (crossed-reply y r h after (evaluate (now s) rs n h) e₂ told
         ∙ ap (λ (l : List Reading). evaluationIn h (evaluate (now s) l n h)) e₁))))))))))))))))))))))
 
 module _ {M : Type 1} (𝓤 : URA M) (H : Heap 𝓤) (A : Atoms 𝓤) (W : Given 𝓤 H A) (at-mem : Memory → SProp 𝓤) (run : Routine → Fun 𝓤) where
