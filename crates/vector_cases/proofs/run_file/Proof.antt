@@ -4,13 +4,25 @@ use Rattle.vector_cases.proofs.run_file.Statement.{statement}
 use Rattle.vector_cases.proofs.run_file.Tie as tie
 
 abbrev Inv-loop : tie.InvT-loop
-Inv-loop fd i₀ i = i ≤ 100000
+Inv-loop name kind fd i₀ i = i ≤ 100000
 
 abbrev μ-loop : tie.MeasureT-loop
-μ-loop fd i₀ i = 100000 - i
+μ-loop name kind fd i₀ i = 100000 - i
 
-slice-aggregate-open-read : tie.Need-slice-aggregate-open-read Inv-loop μ-loop
-slice-aggregate-open-read c = search needs
+slice-aggregate-write-all : tie.Need-slice-aggregate-write-all Inv-loop μ-loop
+slice-aggregate-write-all c = search needs
+
+write-all-requires : tie.Need-write-all-requires Inv-loop μ-loop
+write-all-requires c κs = search needs
+
+write-all-requires-2 : tie.Need-write-all-requires-2 Inv-loop μ-loop
+write-all-requires-2 c κs = search needs
+
+slice-aggregate-write-all-2 : tie.Need-slice-aggregate-write-all-2 Inv-loop μ-loop
+slice-aggregate-write-all-2 c = search needs
+
+write-all-requires-3 : tie.Need-write-all-requires-3 Inv-loop μ-loop
+write-all-requires-3 c κs = search needs
 
 open-read-requires : tie.Need-open-read-requires Inv-loop μ-loop
 open-read-requires c κs = search needs
@@ -45,7 +57,11 @@ run-file-spec =
     (tie.spec
     Inv-loop
     μ-loop
-    slice-aggregate-open-read
+    slice-aggregate-write-all
+    write-all-requires
+    write-all-requires-2
+    slice-aggregate-write-all-2
+    write-all-requires-3
     open-read-requires
     returns
     loop-holds

@@ -1,9 +1,19 @@
-use mathlib.Core.Path.{sym}
-use native.Mathlib.Omega.{arith}
+use mathlib.Core.Path.{sym, subst}
+use Prim.Native.Nat.{_≤_}
+use lib.ListN.{length}
 use lib.Seq.{length-take-le}
+use Rattle.vectors.specs.Case.{Came}
 use borrow.Author.Needs.{needs}
 use Rattle.vector_cases.proofs.listings.run_case.Statement.{statement}
 use Rattle.vector_cases.proofs.listings.run_case.Tie as tie
+
+-- the bytes of the case stand in the buffer
+came : (c : tie.After-known-told) →
+    let l = c .before .before .before .before in
+    c .before .n .given .0 .0 ≤ length (l .next-case .last .1 .0)
+came c =
+    let l = c .before .before .before .before in
+    subst (Came (l .next-case .last .1 .0)) (c .before .n .given .1) (l .next-case .ensures)
 
 large-buffer-requires : tie.Need-large-buffer-requires
 large-buffer-requires c κs = search needs
@@ -14,19 +24,25 @@ slice-aggregate-next-case c = search needs
 next-case-requires : tie.Need-next-case-requires
 next-case-requires c κs = search needs
 
-returns : tie.Need-returns
-returns c = search needs
+enum-told : tie.Need-enum-told
+enum-told c = search needs
+
+enum-known-n : tie.Need-enum-known-n
+enum-known-n c = search needs
 
 array-share-prefix-text : tie.Need-array-share-prefix-text
-array-share-prefix-text c = search needs
+array-share-prefix-text c = came c
 
 slice-aggregate-run-text : tie.Need-slice-aggregate-run-text
 slice-aggregate-run-text c =
-    let p = c .before .before .before in
-    sym (length-take-le (p .next-case .result) (p .next-case .last .1 .0) (omega (arith, p .next-case, c .before .if1 .left)))
+    let k = c .before in
+    sym (length-take-le (k .before .n .given .0 .0) (k .before .before .before .before .next-case .last .1 .0) (came k))
 
 run-text-requires : tie.Need-run-text-requires
 run-text-requires c κs = search needs
+
+returns : tie.Need-returns
+returns c = search needs
 
 returns-2 : tie.Need-returns-2
 returns-2 c = search needs
@@ -38,8 +54,10 @@ run-case-spec =
     large-buffer-requires
     slice-aggregate-next-case
     next-case-requires
-    returns
+    enum-told
+    enum-known-n
     array-share-prefix-text
     slice-aggregate-run-text
     run-text-requires
+    returns
     returns-2)

@@ -5,8 +5,8 @@ use borrow.Author.Needs.{needs}
 use Rattle.vector_cases.proofs.listings.run_image.Statement.{statement}
 use Rattle.vector_cases.proofs.listings.run_image.Tie as tie
 
-filled-requires : tie.Need-filled-requires
-filled-requires c κs = search needs
+listing-buffer-requires : tie.Need-listing-buffer-requires
+listing-buffer-requires c κs = search needs
 
 slice-aggregate-list : tie.Need-slice-aggregate-list
 slice-aggregate-list c = search needs
@@ -65,7 +65,7 @@ pub run-image-spec : {M : Type 1} → statement M
 run-image-spec =
     tie.close
     (tie.spec
-    filled-requires
+    listing-buffer-requires
     slice-aggregate-list
     list-requires
     enum-known-n

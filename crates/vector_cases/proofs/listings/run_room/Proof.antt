@@ -5,15 +5,15 @@ use borrow.Author.Needs.{needs}
 use Rattle.vector_cases.proofs.listings.run_room.Statement.{statement}
 use Rattle.vector_cases.proofs.listings.run_room.Tie as tie
 
-filled-requires : tie.Need-filled-requires
-filled-requires c κs = search needs
+listing-buffer-requires : tie.Need-listing-buffer-requires
+listing-buffer-requires c κs = search needs
 
 array-borrow-prefix-out : tie.Need-array-borrow-prefix-out
 array-borrow-prefix-out c = search needs
 
 slice-aggregate-run-short : tie.Need-slice-aggregate-run-short
 slice-aggregate-run-short c =
-    sym (length-take-le (c .before .before .before .before .args .n) (c .before .filled .result) (omega (arith, c .before .before .if1 .taken)))
+    sym (length-take-le (c .before .before .before .before .args .n) (c .before .listing-buffer .result) (omega (arith, c .before .before .if1 .taken)))
 
 run-short-requires : tie.Need-run-short-requires
 run-short-requires c κs = search needs
@@ -28,7 +28,7 @@ pub run-room-spec : {M : Type 1} → statement M
 run-room-spec =
     tie.close
     (tie.spec
-    filled-requires
+    listing-buffer-requires
     array-borrow-prefix-out
     slice-aggregate-run-short
     run-short-requires
