@@ -40,7 +40,7 @@ module _ (n p : ℕ) (z : n ≡ 0 → ⊥) where
 
   -- so every `keeps-..` of the walk holds of it
   pub refused-steps : Steps (Refused n p)
-  refused-steps = record { refused = λ m l h. refused-refuse m; advanced = refused-advance; changed = refused-change; worded = refused-word }
+  refused-steps = record { refused = λ m e. refused-refuse m; advanced = refused-advance; changed = refused-change; worded = refused-word }
 
 -- a part that is made of the four steps leaves number and place
 pub stays : (part : Part) → ((n p : ℕ) (z : n ≡ 0 → ⊥) → (r : Parse) → Refused n p r → Refused n p (part r))

@@ -72,7 +72,7 @@ module _ (n : ℕ) where
       go false h = left-refuse 6 r h
 
   pub left-steps : Steps (Left n)
-  left-steps = record { refused = λ m l h. left-refuse m; advanced = left-advance; changed = left-change; worded = left-word }
+  left-steps = record { refused = λ m e. left-refuse m; advanced = left-advance; changed = left-change; worded = left-word }
 
 -- PARTS MOVE ON by a token, or refuse
 abbrev pub Moves : Part → Type 0

@@ -4,14 +4,12 @@ use mathlib.Core.Path.{_≡_, refl}
 use mathlib.Core.Bool.{Bool, true, false, _&&_}
 use mathlib.Core.List.{List, [], _∷_}
 use mathlib.Core.Option.{Option, none, some}
-use Prim.Native.Nat.{ℕ, zero, suc, _+_, _≤_}
-use native.Mathlib.Omega.{arith}
-use borrow.Author.Tests.{leb-true}
-use lib.Dec.{leb}
+use Prim.Native.Nat.{ℕ, zero, suc, _+_}
 use lib.IntN.{ℤ}
 use lib.ListN.{length}
-use Rattle.model.specs.Basic.{if_then_else_, between}
+use Rattle.model.specs.Basic.{if_then_else_}
 use Rattle.model.specs.Bounds.{depthLimit}
+use Rattle.model.specs.Refusals.{readerNumber}
 use Rattle.model.specs.Block.{Block, Op, Output, and, or}
 use Rattle.model.specs.declared.Pair.{Pair}
 use Rattle.model.specs.Keywords.{END, NAME, OPEN, CLOSE, COMMA, COLON, SEMICOLON, ASSIGN, DOTS, ACCU, ACT, AND, BSUM, CoGS, DEFAULT, DEFUZZIFY, END-DEFUZZIFY, END-FUZZIFY, END-RULEBLOCK, END-VAR, FUNCTION-BLOCK, FUZZIFY, IF, INT, IS, MAX, METHOD, MIN, NC, NOT, OR, PROD, RANGE, REAL, RULE, RULEBLOCK, TERM, THEN, VAR-INPUT, VAR-OUTPUT, WITH}
@@ -21,10 +19,10 @@ use Rattle.model.specs.Rules.{ConditionRead, word, conditionTerm, termOrNot, su
 use Rattle.model.specs.Reader.{endOfBlock, functionBlock}
 use Rattle.laws.proofs.Tests.{both}
 
--- the numbers of all checks are from 2 to 9
+-- the numbers of all checks are the reader's
 abbrev pub ranged : Checks → Bool
 ranged [] = true
-ranged ((ok, n) ∷ cs) = between 2 9 n && ranged cs
+ranged ((ok, n) ∷ cs) = readerNumber n && ranged cs
 
 -- a condition word more, where there is room for it
 abbrev pub counted : Part
@@ -32,7 +30,7 @@ counted r = record { rest = restOf (r .rest); why = r .why; place = r .place; bl
 
 -- the four steps keep K
 pub record Steps (K : Parse → Type 0) : Type 0 where
-  pub refused : (n : ℕ) → 2 ≤ n → n ≤ 9 → (r : Parse) → K r → K (refuse n r)
+  pub refused : (n : ℕ) → readerNumber n ≡ true → (r : Parse) → K r → K (refuse n r)
   pub advanced : (r : Parse) → K r → K (advance r)
   pub changed : (f : Block → Block) (r : Parse) → K r → K (change f r)
   pub worded : (r : Parse) → K r → K (word r)
@@ -73,7 +71,7 @@ module _ (K : Parse → Type 0) (s : Steps K) where
   either-tree g h true k l = k
   either-tree g h false k l = l
 
-  pub keeps-refuse : (n : ℕ) → 2 ≤ n → n ≤ 9 → Keeps (refuse n)
+  pub keeps-refuse : (n : ℕ) → readerNumber n ≡ true → Keeps (refuse n)
   keeps-refuse = s .refused
 
   pub keeps-advance : Keeps advance
@@ -86,13 +84,12 @@ module _ (K : Parse → Type 0) (s : Steps K) where
   unfolding judged
   judged-keeps [] e k l = l
   judged-keeps ((ok, n) ∷ cs) {r} {next} e k l =
-      let p = both (between 2 9 n) (ranged cs) e in
-      let q = both (leb 2 n) (leb n 9) (p .0) in
-      either ok (judged-keeps cs (p .1) k l) (keeps-refuse n (leb-true 2 n (q .0)) (leb-true n 9 (q .1)) r k)
+      let p = both (readerNumber n) (ranged cs) e in
+      either ok (judged-keeps cs (p .1) k l) (keeps-refuse n (p .0) r k)
 
   pub keeps-expect : (t : ℕ) → Keeps (expect t)
   unfolding expect
-  keeps-expect t r k = either (is t r) (keeps-advance r k) (keeps-refuse 2 (omega arith) (omega arith) r k)
+  keeps-expect t r k = either (is t r) (keeps-advance r k) (keeps-refuse 2 refl r k)
 
   pub keeps-repeated : {part : Part} (t : ℕ) → Keeps part → Keeps (repeated t part)
   keeps-repeated {part} t f = repeated-keeps K part f t
@@ -249,7 +246,7 @@ module _ (K : Parse → Type 0) (s : Steps K) where
 
   pub keeps-parenthesis : (d : ℕ) → KeepsTree (parenthesis d)
   unfolding parenthesis
-  keeps-parenthesis zero r k = keeps-refuse 6 (omega arith) (omega arith) r k
+  keeps-parenthesis zero r k = keeps-refuse 6 refl r k
   keeps-parenthesis (suc d) r k = keeps-conditionWith _ (keeps-parenthesis d) (advance r) (keeps-advance r k) ▹ keeps-expect CLOSE
 
   pub keeps-condition : KeepsTree condition
@@ -259,7 +256,7 @@ module _ (K : Parse → Type 0) (s : Steps K) where
   -- RULEBLOCK
   pub keeps-algorithm : (second : Bool) (p : Option Pair) → Keeps (algorithm second p)
   unfolding algorithm
-  keeps-algorithm second none r k = keeps-refuse 2 (omega arith) (omega arith) r k
+  keeps-algorithm second none r k = keeps-refuse 2 refl r k
   keeps-algorithm second (some p) r k = judged-keeps _ refl k (k ▹ keeps-change _ ▹ keeps-advance)
 
   pub keeps-algorithmLine : (second : Bool) (t : ℕ) (pairOf : ℕ → Option Pair) → Keeps (algorithmLine second t pairOf)
@@ -276,7 +273,7 @@ module _ (K : Parse → Type 0) (s : Steps K) where
   unfolding activation
   keeps-activation r k =
       either (is MIN r) (k ▹ keeps-change _ ▹ keeps-advance)
-      (either (is PROD r) (k ▹ keeps-change _ ▹ keeps-advance) (keeps-refuse 2 (omega arith) (omega arith) r k))
+      (either (is PROD r) (k ▹ keeps-change _ ▹ keeps-advance) (keeps-refuse 2 refl r k))
 
   pub keeps-activationLine : Keeps activationLine
   unfolding activationLine
@@ -286,7 +283,7 @@ module _ (K : Parse → Type 0) (s : Steps K) where
   unfolding accumulation
   keeps-accumulation r k =
       either (is MAX r) (k ▹ keeps-change _ ▹ keeps-advance)
-      (either (is BSUM r) (k ▹ keeps-change _ ▹ keeps-advance) (keeps-refuse 2 (omega arith) (omega arith) r k))
+      (either (is BSUM r) (k ▹ keeps-change _ ▹ keeps-advance) (keeps-refuse 2 refl r k))
 
   pub keeps-ruleNumber : Keeps ruleNumber
   unfolding ruleNumber

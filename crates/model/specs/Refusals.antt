@@ -1,6 +1,8 @@
 -- Refusal numbers: the number and the place of each case of each answer.
+use mathlib.Core.Bool.{Bool}
 use mathlib.Core.Option.{Option, none, some}
 use Prim.Native.Nat.{ℕ}
+use Rattle.model.specs.Basic.{between}
 use Rattle.model.specs.Outcome.{Outcome, accepted, refused}
 use Rattle.model.specs.declared.Refusal.{Refusal}
 use Rattle.model.specs.declared.Refusal.the-variants.{TextTooLong, WrongToken, WrongNumber, WrongName, NotDeclared, TooMany, WrongPosition, Unpaired, PartMissing, BufferTooShort, ImageNotAccepted, WrongCount, WrongHeld, WrongReading, TextOver}
@@ -25,6 +27,10 @@ numberAndPlace WrongCount = (12, none)
 numberAndPlace WrongHeld = (13, none)
 numberAndPlace (WrongReading index) = (14, some index)
 numberAndPlace TextOver = (16, none)
+
+-- the numbers by which the reader's rules refuse
+abbrev pub readerNumber : ℕ → Bool
+readerNumber n = between 2 9 n
 
 abbrev pub refusalOf : {A : Type 0} → Refusal → Outcome A
 refusalOf r = refused (numberAndPlace r .0) (numberAndPlace r .1)

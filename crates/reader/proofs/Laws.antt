@@ -11,6 +11,7 @@ use Rattle.model.specs.Bounds.{textLimit, ruleLimit, wordLimit, conclusionLimit
 use Rattle.model.specs.Block.{Block, Rule}
 use Rattle.model.specs.Keywords.{RULE}
 use Rattle.model.specs.Outcome.{Outcome, accepted, refused, andThen, into}
+use Rattle.model.specs.Refusals.{readerNumber}
 use Rattle.model.specs.Parse.{Parse, repeated}
 use Rattle.model.specs.Rules.{rule, ruleBlock}
 use Rattle.model.specs.Reader.{functionBlock, start, outcomeOf, reads}
@@ -45,11 +46,6 @@ kept-none s t h rules ws ks a b c = record {
   words-count = refl;
   conclusions-count = refl;
 }
-
-at-least : (w : ℕ) → (w ≡ 0 → ⊥) → (w ≡ 1 → ⊥) → 2 ≤ w
-at-least zero a b = absurd (a refl)
-at-least (suc zero) a b = absurd (b refl)
-at-least (suc (suc w)) a b = omega arith
 
 pub long : (room : ℕ) (s : List ℕ) → textLimit < length s → readsInto room s ≡ refused 1 (some 0)
 unfolding readsInto reads
@@ -105,11 +101,8 @@ module _ (s : List ℕ) (t : Tables) (h : Heading) where
       unfolding seen
       block-is = sym (whole-is rs) ∙ x .block ∙ ap (λ (z : Parse). z .block) read-so
 
-      pub number : (f .why ≡ 0 → ⊥) → (2 ≤ f .why) × (f .why ≤ 9)
-      number z =
-          let k = reads-known s in
-          let m : f .why ≤ 9 = omega (arith, why-is, k .most) in
-          (at-least (f .why) z (λ o. k .not-one (sym why-is ∙ o)), m)
+      pub number : (f .why ≡ 0 → ⊥) → readerNumber (f .why) ≡ true
+      number z = ap readerNumber why-is ∙ reads-known s .number (λ e. z (why-is ∙ e))
 
       module _ (room : ℕ) (l : length s ≤ textLimit) where
         pub refused-so : (f .why ≡ 0 → ⊥) → readsInto room s ≡ refused (f .why) (some (f .place))

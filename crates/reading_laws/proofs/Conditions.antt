@@ -130,7 +130,7 @@ either-tree false k l = l
 -- a word more
 good-word : {w : ℕ} {b : Block} {X : Type 0} → Leads (Still w b X) (Still (w + 1) b X) word
 unfolding word advance
-good-word {w} {b} {X} r k = either (ltb (r .words) wordLimit) fits (good-refuse 6 r (omega arith))
+good-word {w} {b} {X} r k = either (ltb (r .words) wordLimit) fits (good-refuse 6 r refl)
   where
     fits : ltb (r .words) wordLimit ≡ true
         → Good (Still (w + 1) b X) (record { rest = restOf (r .rest); why = r .why; place = r .place; block = r .block; words = r .words + 1 })
@@ -241,7 +241,7 @@ good-closed {g = g} k = record { read = good-expect CLOSE (g .parse) (k .read) }
 
 good-parenthesis : (d : ℕ) → Gives (Inside d) (parenthesis d)
 unfolding parenthesis
-good-parenthesis zero w b X r k = record { read = good-refuse 6 r (omega arith) }
+good-parenthesis zero w b X r k = record { read = good-refuse 6 r refl }
 good-parenthesis (suc d) w b X r k =
     good-closed (read-so (λ c h. omega arith) (good-conditionWith d (parenthesis d) (good-parenthesis d) w b X (advance r) (good-advance r k)))
 

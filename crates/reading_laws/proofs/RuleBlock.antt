@@ -291,7 +291,7 @@ good-own r k =
 module _ {m : ℕ} where
   good-algorithm : (second : Bool) (p : Option Pair) → Leads (Rules m) (Rules m) (algorithm second p)
   unfolding algorithm
-  good-algorithm second none r k = good-refuse 2 r (omega arith)
+  good-algorithm second none r k = good-refuse 2 r refl
   good-algorithm second (some p) r k = good-judged _ r refl (λ c. good-advance _ (good-change _ r (λ g. as-it-is (g .fact)) k))
 
   good-line : (second : Bool) (t : ℕ) (pairOf : ℕ → Option Pair) → Leads (Rules m) (Rules m) (algorithmLine second t pairOf)
@@ -308,7 +308,7 @@ module _ {m : ℕ} where
   unfolding activation
   good-activation r k =
       either (is MIN r) (λ e. good-advance _ (good-change _ r (λ g. as-it-is (g .fact)) k))
-      (either (is PROD r) (λ e. good-advance _ (good-change _ r (λ g. as-it-is (g .fact)) k)) (good-refuse 2 r (omega arith)))
+      (either (is PROD r) (λ e. good-advance _ (good-change _ r (λ g. as-it-is (g .fact)) k)) (good-refuse 2 r refl))
 
   good-activationLine : Leads (Rules m) (Rules m) activationLine
   unfolding activationLine
@@ -318,7 +318,7 @@ module _ {m : ℕ} where
   unfolding accumulation
   good-accumulation r k =
       either (is MAX r) (λ e. good-advance _ (good-change _ r (λ g. as-it-is (g .fact)) k))
-      (either (is BSUM r) (λ e. good-advance _ (good-change _ r (λ g. as-it-is (g .fact)) k)) (good-refuse 2 r (omega arith)))
+      (either (is BSUM r) (λ e. good-advance _ (good-change _ r (λ g. as-it-is (g .fact)) k)) (good-refuse 2 r refl))
 
 pub good-ruleBlock : Leads (Outputs 1) (Rules 1) ruleBlock
 unfolding ruleBlock

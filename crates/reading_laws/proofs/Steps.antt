@@ -1,5 +1,5 @@
 -- What holds of a reading that is not refused, and how the steps of the reader's rules carry it on.
-use mathlib.Core.Path.{_≡_, refl}
+use mathlib.Core.Path.{_≡_, refl, sym, ap, _∙_}
 use mathlib.Core.Bool.{Bool, true, false}
 use mathlib.Core.List.{List, [], _∷_}
 use Prim.Native.Nat.{ℕ, _≤_}
@@ -7,13 +7,14 @@ use native.Mathlib.Omega.{arith}
 use borrow.Author.Tests.{eqb-true, eqb-false, leb-true}
 use lib.Dec.{leb, eqb}
 use lib.ListN.{length}
-use Rattle.model.specs.Basic.{if_then_else_, between}
+use Rattle.model.specs.Basic.{if_then_else_}
 use Rattle.model.specs.Bounds.{nameLimit}
 use Rattle.model.specs.Block.{Block}
+use Rattle.model.specs.Refusals.{readerNumber}
 use Rattle.model.specs.Keywords.{NAME, COMMA}
 use Rattle.model.specs.Tokens.{isName, Token}
 use Rattle.model.specs.Parse.{Parse, Part, Checks, headOf, restOf, kind, text, is, refuse, advance, change, judged, expect, repeated, listed}
-use Rattle.laws.proofs.Tests.{both}
+use Rattle.laws.proofs.Tests.{both, clash}
 use Rattle.laws.proofs.Each.{Each}
 use Rattle.laws.proofs.Walk.{ranged, repeated-keeps}
 use Rattle.reading_laws.proofs.Names.{Named, spelt-name}
@@ -44,12 +45,12 @@ pub either : {Q : Fact} {p q : Parse} (b : Bool) → (b ≡ true → Good Q p) �
 either true f g = f refl
 either false f g = g
 
-pub good-refuse : {Q : Fact} (n : ℕ) (r : Parse) → 2 ≤ n → Good Q (refuse n r)
+pub good-refuse : {Q : Fact} (n : ℕ) (r : Parse) → readerNumber n ≡ true → Good Q (refuse n r)
 unfolding refuse
-good-refuse {Q} n r l = go (eqb (r .why) 0) refl
+good-refuse {Q} n r known = go (eqb (r .why) 0) refl
   where
     go : (b : Bool) → eqb (r .why) 0 ≡ b → Good Q (refuse n r)
-    go true e = rw e (record { good = λ h. absurd (omega arith) })
+    go true e = rw e (record { good = λ h. clash (sym (ap readerNumber h) ∙ known) })
     go false e = rw e (record { good = λ h. absurd (eqb-false (r .why) 0 e h) })
 
 rest-named : (ts : List Token) → Each Named ts → Each Named (restOf ts)
@@ -81,9 +82,8 @@ pub good-judged : {Q : Fact} (cs : Checks) (r : Parse) {next : Parse} → ranged
 unfolding judged
 good-judged [] r e f = f tt
 good-judged {Q} ((ok, n) ∷ cs) r e f =
-    let p = both (between 2 9 n) (ranged cs) e in
-    let q = both (leb 2 n) (leb n 9) (p .0) in
-    either ok (λ o. good-judged cs r (p .1) (λ c. f (o, c))) (good-refuse n r (leb-true 2 n (q .0)))
+    let p = both (readerNumber n) (ranged cs) e in
+    either ok (λ o. good-judged cs r (p .1) (λ c. f (o, c))) (good-refuse n r (p .0))
 
 -- a name here that is not too long
 pub name-here : {Q : Fact} {r : Parse} → Holds Q r → is NAME r ≡ true → leb (length (text r)) nameLimit ≡ true → isName (text r) ≡ true
@@ -92,7 +92,7 @@ name-here {Q} {r} g i l = spelt-name _ (head-named (r .rest) (g .named) (eqb-tru
 
 pub good-expect : {Q : Fact} (t : ℕ) → Leads Q Q (expect t)
 unfolding expect
-good-expect t r k = either (is t r) (λ h. good-advance r k) (good-refuse 2 r (omega arith))
+good-expect t r k = either (is t r) (λ h. good-advance r k) (good-refuse 2 r refl)
 
 pub good-repeated : {Q : Fact} {part : Part} (t : ℕ) → Leads Q Q part → Leads Q Q (repeated t part)
 good-repeated {Q} {part} t f = repeated-keeps (Good Q) part f t

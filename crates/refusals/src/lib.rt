@@ -2,15 +2,15 @@
 ghost use mathlib.Core.Path.{_≡_};
 ghost use mathlib.Core.Bool.{true, false};
 ghost use mathlib.Core.Option.{some};
-ghost use Prim.Native.Nat.{ℕ, _≤_};
+ghost use Prim.Native.Nat.{ℕ};
 ghost use Rattle.model.specs.Outcome.{refused};
-ghost use Rattle.model.specs.Refusals.{refusalOf};
+ghost use Rattle.model.specs.Refusals.{refusalOf, readerNumber};
 ghost use Rattle.refusals.specs.Told.{placeOf};
 use model::Refusal;
 
 // The refusal of this number at this place.
 pub fn refusal_of(why: u8, place: usize) -> Refusal
-    requires { ⌜ (2 ≤ why) × (why ≤ 9) ⌝ }
+    requires { ⌜ readerNumber why ≡ true ⌝ }
     ensures { λ r. ⌜ refusalOf {A = ℕ} r ≡ refused why (some place) ⌝ }
 {
     match why {

@@ -2,7 +2,10 @@ use mathlib.Core.Path.{_≡_, sym, ap}
 use mathlib.Core.Option.{some}
 use Prim.Native.Nat.{ℕ, suc, _≤_}
 use native.Mathlib.Omega.{arith}
+use borrow.Author.Tests.{leb-true}
+use lib.Dec.{leb}
 use Rattle.model.specs.Outcome.{Outcome, refused}
+use Rattle.laws.proofs.Tests.{both}
 use Rattle.refusals.proofs.refusal_of.Statement.{statement}
 use Rattle.refusals.proofs.refusal_of.Tie as tie
 
@@ -40,11 +43,13 @@ returns-7 c = numbered _ (c .match .keys7)
 returns-8 : tie.Need-returns-8
 returns-8 c =
     let others = c .match .rest in
-    let least : 9 ≤ c .before .args .why = above 8 _ (others .1)
+    let why = c .before .args .why in
+    let range = both (leb 2 why) (leb why 9) (c .before .pre) in
+    let least : 9 ≤ why = above 8 _ (others .1)
     (above 7 _ (others .0 .1) (above 6 _ (others .0 .0 .1)
     (above 5 _ (others .0 .0 .0 .1) (above 4 _ (others .0 .0 .0 .0 .1)
-    (above 3 _ (others .0 .0 .0 .0 .0 .1) (above 2 _ (others .0 .0 .0 .0 .0 .0 .1) (c .before .pre .0))))))) in
-    numbered _ (nine _ (c .before .pre .1) least)
+    (above 3 _ (others .0 .0 .0 .0 .0 .1) (above 2 _ (others .0 .0 .0 .0 .0 .0 .1) (leb-true 2 why (range .0)))))))) in
+    numbered _ (nine _ (leb-true why 9 (range .1)) least)
 
 pub refusal-of-spec : {M : Type 1} → statement M
 refusal-of-spec =
