@@ -32,6 +32,7 @@ use Rattle.load.proofs.check as load-check
 use Rattle.evaluation.proofs.fresh_of as fresh-of
 use Rattle.evaluation.proofs.evaluate as evaluate-by-value
 use Rattle.daily.proofs.evaluate_held as evaluate-held
+use Rattle.daily.proofs.evaluate_lending as evaluate-lending
 use Rattle.demand_3.specs.Calls.{evaluated, daily, Link}
 
 module _ {M : Type 1} (𝓤 : URA M) (H : Heap 𝓤) (A : Atoms 𝓤) (at-mem : Memory → SProp 𝓤) (run : Routine → Fun 𝓤) (κ : Lft) where
@@ -72,3 +73,10 @@ module _ {M : Type 1} (𝓤 : URA M) (H : Heap 𝓤) (A : Atoms 𝓤) (at-mem : 
       Asks-nothing (c .requires tt)
       × (c .ensures tt r e ≡ fact 𝓤 (Link (now img) (now held) (daily (record { readings = rs; count = n }) r (now (e .1 .1 .1 .0)))))
   held-links κ′ img rs n held r e = (refl, refl)
+
+  -- `daily::evaluate_lending`: a link by value
+  lending-links : (img : RefT (List ℕ)) (rs : List Reading) (n : ℕ) (before : Held) (r : Evaluation) (e : AtExit evaluate-lending.ended (κ, tt))
+      → let c = evaluate-lending.clauses 𝓤 H A at-mem run (κ, tt) (img, (rs, (n, (before, tt)))) in
+      Asks-nothing (c .requires tt)
+      × (c .ensures tt r e ≡ fact 𝓤 (Link (now img) before (evaluated (record { readings = rs; count = n }) r)))
+  lending-links img rs n before r e = (refl, refl)
