@@ -6,8 +6,7 @@ ghost use Rattle.model.specs.Refusals.{writtenOf};
 ghost use Rattle.model.specs.Image.{wordAt, decode};
 ghost use Rattle.model.specs.Listing.{listing};
 ghost use Rattle.model.specs.Buffers.{listsInto};
-ghost use Rattle.header.specs.Header.{Heads, Holds};
-ghost use Rattle.layout.specs.Groups.{Sound};
+ghost use Rattle.layout.specs.Checked.{Checked};
 ghost use Rattle.listing_writer.specs.Prepends.{Prepends};
 use header::Header;
 use listing_writer::puts;
@@ -21,7 +20,7 @@ pub const LONGEST: usize = 31_421;
 
 // The text of an accepted image.
 fn block(out: &mut [u8], k: usize, img: &[u8], h: Header) -> usize
-    requires { ⌜ Sound (wordAt (now img)) × Heads (wordAt (now img)) h × Holds (now img) h ⌝ }
+    requires { ⌜ Checked (now img) h ⌝ }
     ensures { λ r. ⌜ Prepends k r (listing (decode (wordAt (now (img .entry))))) (now (out .entry)) (now (out .exit)) ⌝ }
 {
     let a = puts(out, k, b"END_FUNCTION_BLOCK\n");

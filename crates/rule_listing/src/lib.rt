@@ -7,8 +7,7 @@ ghost use Rattle.model.specs.Basic.{gather};
 ghost use Rattle.model.specs.WellFormed.{conclusionOk};
 ghost use Rattle.model.specs.Image.{wordAt, decode, ruleAt, conclusionAt, pairOf, accuOf, actOf};
 ghost use Rattle.model.specs.Listing.{commaed, andText, orText, actText, accuText, conclusionText, weightText, ruleLine, ruleBlockText};
-ghost use Rattle.header.specs.Header.{Heads, Holds};
-ghost use Rattle.layout.specs.Groups.{Sound};
+ghost use Rattle.layout.specs.Checked.{Checked};
 ghost use Rattle.listing_writer.specs.Prepends.{Prepends};
 use condition_listing::rule_condition;
 use header::Header;
@@ -23,9 +22,8 @@ use words::whole_word;
 
 // Conclusion j, counted over the whole table.
 fn conclusion(out: &mut [u8], k: usize, img: &[u8], h: Header, j: usize) -> usize
-    requires { ⌜ Sound (wordAt (now img)) × Heads (wordAt (now img)) h × (j < h .conclusions)
-        × (conclusionOk (decode (wordAt (now img))) (conclusionAt (wordAt (now img)) j) ≡ true)
-        × Holds (now img) h ⌝ }
+    requires { ⌜ Checked (now img) h × (j < h .conclusions)
+        × (conclusionOk (decode (wordAt (now img))) (conclusionAt (wordAt (now img)) j) ≡ true) ⌝ }
     ensures { λ r. ⌜ Prepends k r
         (conclusionText (decode (wordAt (now (img .entry)))) (conclusionAt (wordAt (now (img .entry))) j))
         (now (out .entry)) (now (out .exit)) ⌝ }
@@ -40,7 +38,7 @@ fn conclusion(out: &mut [u8], k: usize, img: &[u8], h: Header, j: usize) -> usiz
 
 // The conclusions of rule i.
 fn conclusions(out: &mut [u8], k: usize, img: &[u8], h: Header, i: usize) -> usize
-    requires { ⌜ Sound (wordAt (now img)) × Heads (wordAt (now img)) h × (i < h .rules) × Holds (now img) h ⌝ }
+    requires { ⌜ Checked (now img) h × (i < h .rules) ⌝ }
     ensures { λ r. ⌜ Prepends k r
         (commaed (map (conclusionText (decode (wordAt (now (img .entry))))) (ruleAt (wordAt (now (img .entry))) i .conclusions)))
         (now (out .entry)) (now (out .exit)) ⌝ }
@@ -74,7 +72,7 @@ fn weight(out: &mut [u8], k: usize, d: Degree) -> usize
 
 // The line of rule i.
 fn rule(out: &mut [u8], k: usize, img: &[u8], h: Header, i: usize) -> usize
-    requires { ⌜ Sound (wordAt (now img)) × Heads (wordAt (now img)) h × (i < h .rules) × Holds (now img) h ⌝ }
+    requires { ⌜ Checked (now img) h × (i < h .rules) ⌝ }
     ensures { λ r. ⌜ Prepends k r
         (ruleLine (decode (wordAt (now (img .entry)))) (ruleAt (wordAt (now (img .entry))) i))
         (now (out .entry)) (now (out .exit)) ⌝ }
@@ -96,7 +94,7 @@ fn rule(out: &mut [u8], k: usize, img: &[u8], h: Header, i: usize) -> usize
 }
 
 fn rules(out: &mut [u8], k: usize, img: &[u8], h: Header) -> usize
-    requires { ⌜ Sound (wordAt (now img)) × Heads (wordAt (now img)) h × Holds (now img) h ⌝ }
+    requires { ⌜ Checked (now img) h ⌝ }
     ensures { λ r. ⌜ Prepends k r
         (gather (ruleLine (decode (wordAt (now (img .entry))))) (decode (wordAt (now (img .entry))) .rules))
         (now (out .entry)) (now (out .exit)) ⌝ }
@@ -150,7 +148,7 @@ fn accumulation(out: &mut [u8], k: usize, n: usize) -> usize
 }
 
 pub fn rule_block(out: &mut [u8], k: usize, img: &[u8], h: Header) -> usize
-    requires { ⌜ Sound (wordAt (now img)) × Heads (wordAt (now img)) h × Holds (now img) h ⌝ }
+    requires { ⌜ Checked (now img) h ⌝ }
     ensures { λ r. ⌜ Prepends k r (ruleBlockText (decode (wordAt (now (img .entry))))) (now (out .entry)) (now (out .exit)) ⌝ }
 {
     let pair = whole_word(img, header::PAIR);

@@ -10,10 +10,9 @@ ghost use Rattle.model.specs.Image.{wordAt, tab, pointAt, termAt, singletonAt, 
 ghost use Rattle.model.specs.Listing.{commaed, typeText, inputLine, outputLine, pointText, termLine, fuzzifyText};
 ghost use Rattle.model.specs.Listing.{rangeLine, singletonLine, defaultText, defuzzifyText};
 ghost use Rattle.model.specs.WellFormed.{termOk};
-ghost use Rattle.header.specs.Header.{Heads, Holds};
 ghost use Rattle.terms.specs.Points.{pointView, pointViews};
 ghost use Rattle.layout.specs.Tables.{inputTermsIn};
-ghost use Rattle.layout.specs.Groups.{tablesOk, Sound};
+ghost use Rattle.layout.specs.Checked.{Checked};
 ghost use Rattle.listing_writer.specs.Prepends.{Prepends};
 use header::Header;
 use listing_writer::puts;
@@ -32,7 +31,7 @@ use words::whole_word;
 
 // The type of input i.
 fn input_type(out: &mut [u8], k: usize, img: &[u8], h: Header, i: usize) -> usize
-    requires { ⌜ Heads (wordAt (now img)) h × Holds (now img) h × (i < h .inputs) ⌝ }
+    requires { ⌜ Checked (now img) h × (i < h .inputs) ⌝ }
     ensures { λ r. ⌜ Prepends k r (typeText (inputAt (wordAt (now (img .entry))) i .type))
         (now (out .entry)) (now (out .exit)) ⌝ }
 {
@@ -43,7 +42,7 @@ fn input_type(out: &mut [u8], k: usize, img: &[u8], h: Header, i: usize) -> usiz
 }
 
 fn input_line(out: &mut [u8], k: usize, img: &[u8], h: Header, i: usize) -> usize
-    requires { ⌜ Heads (wordAt (now img)) h × Holds (now img) h × (i < h .inputs) ⌝ }
+    requires { ⌜ Checked (now img) h × (i < h .inputs) ⌝ }
     ensures { λ r. ⌜ Prepends k r (inputLine (inputAt (wordAt (now (img .entry))) i))
         (now (out .entry)) (now (out .exit)) ⌝ }
 {
@@ -56,7 +55,7 @@ fn input_line(out: &mut [u8], k: usize, img: &[u8], h: Header, i: usize) -> usiz
 }
 
 pub fn input_lines(out: &mut [u8], k: usize, img: &[u8], h: Header) -> usize
-    requires { ⌜ Heads (wordAt (now img)) h × Holds (now img) h ⌝ }
+    requires { ⌜ Checked (now img) h ⌝ }
     ensures { λ r. ⌜ Prepends k r (gather inputLine (decode (wordAt (now (img .entry))) .inputs))
         (now (out .entry)) (now (out .exit)) ⌝ }
 {
@@ -70,7 +69,7 @@ pub fn input_lines(out: &mut [u8], k: usize, img: &[u8], h: Header) -> usize
 }
 
 fn output_line(out: &mut [u8], k: usize, img: &[u8], h: Header, i: usize) -> usize
-    requires { ⌜ Heads (wordAt (now img)) h × (i ≤ 4294967295) ⌝ }
+    requires { ⌜ Checked (now img) h × (i ≤ 4294967295) ⌝ }
     ensures { λ r. ⌜ Prepends k r (outputLine (outputAt (wordAt (now (img .entry))) i))
         (now (out .entry)) (now (out .exit)) ⌝ }
 {
@@ -81,7 +80,7 @@ fn output_line(out: &mut [u8], k: usize, img: &[u8], h: Header, i: usize) -> usi
 }
 
 pub fn output_lines(out: &mut [u8], k: usize, img: &[u8], h: Header) -> usize
-    requires { ⌜ Heads (wordAt (now img)) h ⌝ }
+    requires { ⌜ Checked (now img) h ⌝ }
     ensures { λ r. ⌜ Prepends k r (gather outputLine (decode (wordAt (now (img .entry))) .outputs))
         (now (out .entry)) (now (out .exit)) ⌝ }
 {
@@ -145,7 +144,7 @@ pub fn term_line(
 
 // The n points from the first on.
 fn term_points(img: &[u8], h: Header, first: usize, n: usize) -> [Point; bounds::POINTS]
-    requires { ⌜ Heads (wordAt (now img)) h × Holds (now img) h × (first + n ≤ h .points) × (n ≤ pointLimit) ⌝ }
+    requires { ⌜ Checked (now img) h × (first + n ≤ h .points) × (n ≤ pointLimit) ⌝ }
     ensures { λ r. ⌜ pointViews r n ≡ tab (pointAt (wordAt (now (img .entry)))) n first ⌝ }
 {
     let mut ps = [Point {
@@ -162,8 +161,7 @@ fn term_points(img: &[u8], h: Header, first: usize, n: usize) -> [Point; bounds:
 
 // Term t of the image.
 fn input_term(out: &mut [u8], k: usize, img: &[u8], h: Header, t: usize) -> usize
-    requires { ⌜ Heads (wordAt (now img)) h × Holds (now img) h
-        × (tablesOk (wordAt (now img)) ≡ true) × (t < inputTermsIn (wordAt (now img))) ⌝ }
+    requires { ⌜ Checked (now img) h × (t < inputTermsIn (wordAt (now img))) ⌝ }
     requires { ⌜ termOk (termAt (wordAt (now img)) t) ≡ true ⌝ }
     ensures { λ r. ⌜ Prepends k r (termLine (termAt (wordAt (now (img .entry))) t))
         (now (out .entry)) (now (out .exit)) ⌝ }
@@ -179,8 +177,7 @@ fn input_term(out: &mut [u8], k: usize, img: &[u8], h: Header, t: usize) -> usiz
 
 // The n terms from the first on.
 fn input_terms(out: &mut [u8], k: usize, img: &[u8], h: Header, first: usize, n: usize) -> usize
-    requires { ⌜ Heads (wordAt (now img)) h × Holds (now img) h
-        × (tablesOk (wordAt (now img)) ≡ true) × (first + n ≤ inputTermsIn (wordAt (now img))) ⌝ }
+    requires { ⌜ Checked (now img) h × (first + n ≤ inputTermsIn (wordAt (now img))) ⌝ }
     requires { ⌜ all termOk (tab (termAt (wordAt (now img))) n first) ≡ true ⌝ }
     ensures { λ r. ⌜ Prepends k r (gather termLine (tab (termAt (wordAt (now (img .entry)))) n first))
         (now (out .entry)) (now (out .exit)) ⌝ }
@@ -195,8 +192,7 @@ fn input_terms(out: &mut [u8], k: usize, img: &[u8], h: Header, first: usize, n:
 }
 
 fn fuzzify_part(out: &mut [u8], k: usize, img: &[u8], h: Header, i: usize) -> usize
-    requires { ⌜ Sound (wordAt (now img)) × Heads (wordAt (now img)) h × (i < wordAt (now img) INPUTS)
-        × Holds (now img) h ⌝ }
+    requires { ⌜ Checked (now img) h × (i < wordAt (now img) INPUTS) ⌝ }
     ensures { λ r. ⌜ Prepends k r (fuzzifyText (inputAt (wordAt (now (img .entry))) i))
         (now (out .entry)) (now (out .exit)) ⌝ }
 {
@@ -211,7 +207,7 @@ fn fuzzify_part(out: &mut [u8], k: usize, img: &[u8], h: Header, i: usize) -> us
 }
 
 pub fn fuzzify_parts(out: &mut [u8], k: usize, img: &[u8], h: Header) -> usize
-    requires { ⌜ Sound (wordAt (now img)) × Heads (wordAt (now img)) h × Holds (now img) h ⌝ }
+    requires { ⌜ Checked (now img) h ⌝ }
     ensures { λ r. ⌜ Prepends k r (gather fuzzifyText (decode (wordAt (now (img .entry))) .inputs))
         (now (out .entry)) (now (out .exit)) ⌝ }
 {
@@ -228,8 +224,7 @@ pub fn fuzzify_parts(out: &mut [u8], k: usize, img: &[u8], h: Header) -> usize
 
 // Term t of the image, as an output has it.
 fn singleton(out: &mut [u8], k: usize, img: &[u8], h: Header, t: usize) -> usize
-    requires { ⌜ Heads (wordAt (now img)) h × Holds (now img) h
-        × (tablesOk (wordAt (now img)) ≡ true) × (inputTermsIn (wordAt (now img)) ≤ t) × (t < h .terms) ⌝ }
+    requires { ⌜ Checked (now img) h × (inputTermsIn (wordAt (now img)) ≤ t) × (t < h .terms) ⌝ }
     ensures { λ r. ⌜ Prepends k r (singletonLine (singletonAt (wordAt (now (img .entry))) t))
         (now (out .entry)) (now (out .exit)) ⌝ }
 {
@@ -245,8 +240,7 @@ fn singleton(out: &mut [u8], k: usize, img: &[u8], h: Header, t: usize) -> usize
 
 // The n terms from the first on.
 fn singletons(out: &mut [u8], k: usize, img: &[u8], h: Header, first: usize, n: usize) -> usize
-    requires { ⌜ Heads (wordAt (now img)) h × Holds (now img) h
-        × (tablesOk (wordAt (now img)) ≡ true) × (inputTermsIn (wordAt (now img)) ≤ first) × (first + n ≤ h .terms) ⌝ }
+    requires { ⌜ Checked (now img) h × (inputTermsIn (wordAt (now img)) ≤ first) × (first + n ≤ h .terms) ⌝ }
     ensures { λ r. ⌜ Prepends k r (gather singletonLine (tab (singletonAt (wordAt (now (img .entry)))) n first))
         (now (out .entry)) (now (out .exit)) ⌝ }
 {
@@ -261,7 +255,7 @@ fn singletons(out: &mut [u8], k: usize, img: &[u8], h: Header, first: usize, n: 
 
 // RANGE of output i, where it is given.
 fn range_line(out: &mut [u8], k: usize, img: &[u8], h: Header, i: usize) -> usize
-    requires { ⌜ Heads (wordAt (now img)) h × Holds (now img) h × (i < h .outputs) ⌝ }
+    requires { ⌜ Checked (now img) h × (i < h .outputs) ⌝ }
     ensures { λ r. ⌜ Prepends k r (rangeLine (outputAt (wordAt (now (img .entry))) i .range))
         (now (out .entry)) (now (out .exit)) ⌝ }
 {
@@ -280,7 +274,7 @@ fn range_line(out: &mut [u8], k: usize, img: &[u8], h: Header, i: usize) -> usiz
 
 // DEFAULT of output i.
 fn default_value(out: &mut [u8], k: usize, img: &[u8], h: Header, i: usize) -> usize
-    requires { ⌜ Heads (wordAt (now img)) h × Holds (now img) h × (i < h .outputs) ⌝ }
+    requires { ⌜ Checked (now img) h × (i < h .outputs) ⌝ }
     ensures { λ r. ⌜ Prepends k r (defaultText (outputAt (wordAt (now (img .entry))) i .default))
         (now (out .entry)) (now (out .exit)) ⌝ }
 {
@@ -293,8 +287,7 @@ fn default_value(out: &mut [u8], k: usize, img: &[u8], h: Header, i: usize) -> u
 }
 
 fn defuzzify_part(out: &mut [u8], k: usize, img: &[u8], h: Header, i: usize) -> usize
-    requires { ⌜ Heads (wordAt (now img)) h × Holds (now img) h
-        × (tablesOk (wordAt (now img)) ≡ true) × (i < h .outputs) ⌝ }
+    requires { ⌜ Checked (now img) h × (i < h .outputs) ⌝ }
     ensures { λ r. ⌜ Prepends k r (defuzzifyText (outputAt (wordAt (now (img .entry))) i))
         (now (out .entry)) (now (out .exit)) ⌝ }
 {
@@ -312,7 +305,7 @@ fn defuzzify_part(out: &mut [u8], k: usize, img: &[u8], h: Header, i: usize) -> 
 }
 
 pub fn defuzzify_parts(out: &mut [u8], k: usize, img: &[u8], h: Header) -> usize
-    requires { ⌜ Heads (wordAt (now img)) h × Holds (now img) h × (tablesOk (wordAt (now img)) ≡ true) ⌝ }
+    requires { ⌜ Checked (now img) h ⌝ }
     ensures { λ r. ⌜ Prepends k r (gather defuzzifyText (decode (wordAt (now (img .entry))) .outputs))
         (now (out .entry)) (now (out .exit)) ⌝ }
 {

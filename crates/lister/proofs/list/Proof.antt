@@ -53,7 +53,7 @@ unfolding Judged
 block-requires c κs =
     let a = c .before .before .before in
     let k = subst (Judged _) (a .a .given .1) (a .before .before .examine .ensures) .1 in
-    (k .sound, k .heads, k .holds)
+    k .checked
 
 returns-2 : tie.Need-returns-2
 returns-2 c =

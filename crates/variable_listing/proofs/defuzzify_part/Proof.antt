@@ -20,21 +20,21 @@ reads-are c =
     let row = c .before .before in
     let s = row .before .before .before in
     let w = wordAt (s .args .img .now) in
-    let e = row .output-row .ensures .0 w (s .pre .0) in
+    let e = row .output-row .ensures .0 w (s .pre .0 .heads) in
     (c .before .whole-word .ensures .0 ∙ ap (λ (o : ℕ). w (o + 4)) e, c .whole-word2 .ensures .0 ∙ ap (λ (o : ℕ). w (o + 5)) e)
 
 -- the row lies in the image
 within : (c : tie.After-output-row) → (c .output-row .result + 11) * 4 ≤ length (c .before .before .before .args .img .now)
 within c =
     let s = c .before .before .before in
-    let h = s .pre .0 in
-    omega (arith, c .output-row .ensures .0 (wordAt (s .args .img .now)) h, h .output-table, s .pre .1 .outputs, s .pre .3)
+    let h = s .pre .0 .heads in
+    omega (arith, c .output-row .ensures .0 (wordAt (s .args .img .now)) h, h .output-table, s .pre .0 .holds .outputs, s .pre .1)
 
 output-row-requires : tie.Need-output-row-requires
 output-row-requires c κs =
     let s = c .before .before in
-    let h = s .pre .0 in
-    omega (arith, h .output-table, h .fits 10, h .outputs, h .fits 3, s .pre .3)
+    let h = s .pre .0 .heads in
+    omega (arith, h .output-table, h .fits 10, h .outputs, h .fits 3, s .pre .1)
 
 add-whole-word : tie.Need-add-whole-word
 add-whole-word c = search needs
@@ -68,10 +68,10 @@ singletons-requires c κs =
     let p2 = c .before .before .before in
     let v = p2 .before .before .before .before .before .before .before .before .before .before .before .before in
     let s = v .before .before .before .before .before in
-    let h = s .pre .0 in
+    let h = s .pre .0 .heads in
     let q = reads-are v in
-    let r = output-terms-within (wordAt (s .args .img .now)) (s .pre .2) (s .args .i) (omega (arith, h .outputs, s .pre .3)) in
-    (h, s .pre .1, s .pre .2, omega (arith, q .0, r .0), omega (arith, q .0, q .1, h .terms, r .1))
+    let r = output-terms-within (wordAt (s .args .img .now)) (s .pre .0 .sound .frame) (s .args .i) (omega (arith, h .outputs, s .pre .1)) in
+    (s .pre .0, omega (arith, q .0, r .0), omega (arith, q .0, q .1, h .terms, r .1))
 
 range-line-requires : tie.Need-range-line-requires
 range-line-requires c κs = search needs
@@ -126,7 +126,7 @@ returns c =
     let row = v .before .before in
     let s = row .before .before .before in
     let w = wordAt (s .args .img .now) in
-    let e = row .output-row .ensures .0 w (s .pre .0) in
+    let e = row .output-row .ensures .0 w (s .pre .0 .heads) in
     let r = reads-are v in
     let below = joined (joined (p1 .puts .ensures) (d .default-value .ensures)) (p2 .puts2 .ensures) in
     let terms = rw (r .0, r .1) at (ts .singletons .ensures) in

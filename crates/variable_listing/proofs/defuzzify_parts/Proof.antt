@@ -29,7 +29,7 @@ sub-defuzzify-part c = search needs
 defuzzify-part-requires : tie.Need-defuzzify-part-requires Inv-loop μ-loop
 defuzzify-part-requires c κs =
     let s = c .before .before .before .before .before in
-    (s .pre .0, s .pre .1, s .pre .2, omega arith)
+    (s .pre, omega arith)
 
 sub-i : tie.Need-sub-i Inv-loop μ-loop
 sub-i c = search needs
@@ -59,7 +59,7 @@ returns c =
     let l = c .before .loop in
     let s = c .before .before .before .before in
     let g = outputAt (wordAt (s .args .img .now)) in
-    rw (s .pre .0 .outputs) at (items-all defuzzifyText g 0 (s .args .h .outputs) _ (l .i) _ (omega arith) (l .inv .1))
+    rw (s .pre .heads .outputs) at (items-all defuzzifyText g 0 (s .args .h .outputs) _ (l .i) _ (omega arith) (l .inv .1))
 
 pub defuzzify-parts-spec : {M : Type 1} → statement M
 defuzzify-parts-spec =

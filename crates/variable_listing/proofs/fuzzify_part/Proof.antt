@@ -21,21 +21,21 @@ reads-are c =
     let row = c .before .before in
     let s = row .before .before .before in
     let w = wordAt (s .args .img .now) in
-    let e = row .input-row .ensures .0 w (s .pre .1) in
+    let e = row .input-row .ensures .0 w (s .pre .0 .heads) in
     (c .before .whole-word .ensures .0 ∙ ap (λ (o : ℕ). w (o + 5)) e, c .whole-word2 .ensures .0 ∙ ap (λ (o : ℕ). w (o + 6)) e)
 
 -- the row lies in the image
 within : (c : tie.After-input-row) → (c .input-row .result + 7) * 4 ≤ length (c .before .before .before .args .img .now)
 within c =
     let s = c .before .before .before in
-    let h = s .pre .1 in
-    omega (arith, c .input-row .ensures .0 (wordAt (s .args .img .now)) h, h .input-table, s .pre .3 .inputs, h .inputs, s .pre .2)
+    let h = s .pre .0 .heads in
+    omega (arith, c .input-row .ensures .0 (wordAt (s .args .img .now)) h, h .input-table, s .pre .0 .holds .inputs, h .inputs, s .pre .1)
 
 input-row-requires : tie.Need-input-row-requires
 input-row-requires c κs =
     let s = c .before .before in
-    let h = s .pre .1 in
-    omega (arith, h .input-table, h .fits 9, s .pre .2, input-limit (wordAt (s .args .img .now)) (s .pre .0))
+    let h = s .pre .0 .heads in
+    omega (arith, h .input-table, h .fits 9, s .pre .1, input-limit (wordAt (s .args .img .now)) (s .pre .0 .sound))
 
 add-whole-word : tie.Need-add-whole-word
 add-whole-word c = search needs
@@ -62,12 +62,10 @@ input-terms-requires c κs =
     let w = wordAt (s .args .img .now) in
     let r = reads-are v in
     let i = s .args .i in
-    let t = accepted-terms w i (v .before .whole-word .result) (v .whole-word2 .result) (s .pre .0) (s .pre .2) (r .0 ∙ first-is w i (s .pre .0) (s .pre .2)) (r .1) in (
+    let t = accepted-terms w i (v .before .whole-word .result) (v .whole-word2 .result) (s .pre .0 .sound) (s .pre .1) (r .0 ∙ first-is w i (s .pre .0 .sound) (s .pre .1)) (r .1) in (
       (
-        s .pre .1,
-        s .pre .3,
-        s .pre .0 .frame,
-        omega (arith, r .0, r .1, input-terms-within w (s .pre .0 .frame) i (s .pre .2) .0),
+        s .pre .0,
+        omega (arith, r .0, r .1, input-terms-within w (s .pre .0 .sound .frame) i (s .pre .1) .0),
       ),
       t .1,
     )
@@ -102,7 +100,7 @@ returns c =
     let row = v .before .before in
     let s = row .before .before .before in
     let w = wordAt (s .args .img .now) in
-    let e = row .input-row .ensures .0 w (s .pre .1) in
+    let e = row .input-row .ensures .0 w (s .pre .0 .heads) in
     let r = reads-are v in
     let ts = rw (r .0, r .1) at (t .input-terms .ensures) in
     joined (joined (joined (joined (p1 .puts .ensures) ts) (p2 .puts2 .ensures)) (rw e at (n .name .ensures))) (p3 .puts3 .ensures)

@@ -29,7 +29,7 @@ sub-fuzzify-part c = search needs
 fuzzify-part-requires : tie.Need-fuzzify-part-requires Inv-loop μ-loop
 fuzzify-part-requires c κs =
     let s = c .before .before .before .before .before in
-    (s .pre .0, s .pre .1, omega (arith, s .pre .1 .inputs), s .pre .2)
+    (s .pre, omega (arith, s .pre .heads .inputs))
 
 sub-i : tie.Need-sub-i Inv-loop μ-loop
 sub-i c = search needs
@@ -59,7 +59,7 @@ returns c =
     let l = c .before .loop in
     let s = c .before .before .before .before in
     let g = inputAt (wordAt (s .args .img .now)) in
-    rw (s .pre .1 .inputs) at (items-all fuzzifyText g 0 (s .args .h .inputs) _ (l .i) _ (omega arith) (l .inv .1))
+    rw (s .pre .heads .inputs) at (items-all fuzzifyText g 0 (s .args .h .inputs) _ (l .i) _ (omega arith) (l .inv .1))
 
 pub fuzzify-parts-spec : {M : Type 1} → statement M
 fuzzify-parts-spec =

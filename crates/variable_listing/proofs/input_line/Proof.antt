@@ -8,8 +8,8 @@ use Rattle.variable_listing.proofs.input_line.Tie as tie
 input-row-requires : tie.Need-input-row-requires
 input-row-requires c κs =
     let s = c .before .before in
-    let h = s .pre .0 in
-    omega (arith, h .input-table, h .fits 9, h .inputs, h .fits 2, s .pre .2)
+    let h = s .pre .0 .heads in
+    omega (arith, h .input-table, h .fits 9, h .inputs, h .fits 2, s .pre .1)
 
 slice-aggregate-puts : tie.Need-slice-aggregate-puts
 slice-aggregate-puts c = search needs
@@ -49,7 +49,7 @@ returns c =
     let row = p1 .before .before .before in
     let s = row .before .before .before in
     let w = wordAt (s .args .img .now) in
-    let e = row .input-row .ensures .0 w (s .pre .0) in
+    let e = row .input-row .ensures .0 w (s .pre .0 .heads) in
     joined (joined (joined (joined (p1 .puts .ensures) (t .input-type .ensures)) (p2 .puts2 .ensures)) (rw e at (n .name .ensures))) (p3 .puts3 .ensures)
 
 pub input-line-spec : {M : Type 1} → statement M

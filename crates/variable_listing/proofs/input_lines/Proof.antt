@@ -29,7 +29,7 @@ sub-input-line c = search needs
 input-line-requires : tie.Need-input-line-requires Inv-loop μ-loop
 input-line-requires c κs =
     let s = c .before .before .before .before .before in
-    (s .pre .0, s .pre .1, omega arith)
+    (s .pre, omega arith)
 
 sub-i : tie.Need-sub-i Inv-loop μ-loop
 sub-i c = search needs
@@ -59,7 +59,7 @@ returns c =
     let l = c .before .loop in
     let s = c .before .before .before .before in
     let g = inputAt (wordAt (s .args .img .now)) in
-    rw (s .pre .0 .inputs) at (items-all inputLine g 0 (s .args .h .inputs) _ (l .i) _ (omega arith) (l .inv .1))
+    rw (s .pre .heads .inputs) at (items-all inputLine g 0 (s .args .h .inputs) _ (l .i) _ (omega arith) (l .inv .1))
 
 pub input-lines-spec : {M : Type 1} → statement M
 input-lines-spec =

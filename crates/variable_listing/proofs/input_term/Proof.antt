@@ -22,21 +22,21 @@ reads-are c =
     let row = c .before .before in
     let s = row .before .before .before in
     let w = wordAt (s .args .img .now) in
-    let e = row .term-row .ensures .0 w (s .pre .0 .0) in
+    let e = row .term-row .ensures .0 w (s .pre .0 .0 .heads) in
     (c .before .whole-word .ensures .0 ∙ ap (λ (o : ℕ). w (o + 5)) e, c .whole-word2 .ensures .0 ∙ ap (λ (o : ℕ). w (o + 4)) e)
 
 -- the row lies in the image
 within : (c : tie.After-term-row) → (c .term-row .result + 6) * 4 ≤ length (c .before .before .before .args .img .now)
 within c =
     let s = c .before .before .before in
-    let h = s .pre .0 .0 in
-    omega (arith, c .term-row .ensures .0 (wordAt (s .args .img .now)) h, h .term-table, s .pre .0 .1 .terms, h .terms, s .pre .0 .3, inputs-first (wordAt (s .args .img .now)) (s .pre .0 .2))
+    let h = s .pre .0 .0 .heads in
+    omega (arith, c .term-row .ensures .0 (wordAt (s .args .img .now)) h, h .term-table, s .pre .0 .0 .holds .terms, h .terms, s .pre .0 .1, inputs-first (wordAt (s .args .img .now)) (s .pre .0 .0 .sound .frame))
 
 term-row-requires : tie.Need-term-row-requires
 term-row-requires c κs =
     let s = c .before .before in
-    let h = s .pre .0 .0 in
-    omega (arith, h .term-table, h .fits 11, h .fits 4, s .pre .0 .3, inputs-first (wordAt (s .args .img .now)) (s .pre .0 .2))
+    let h = s .pre .0 .0 .heads in
+    omega (arith, h .term-table, h .fits 11, h .fits 4, s .pre .0 .1, inputs-first (wordAt (s .args .img .now)) (s .pre .0 .0 .sound .frame))
 
 add-whole-word : tie.Need-add-whole-word
 add-whole-word c = search needs
@@ -57,8 +57,8 @@ term-points-requires c κs =
     let w = wordAt (s .args .img .now) in
     let r = reads-are c in
     let few = points-few w (s .args .t) (s .pre .1) in
-    let ends = points-within w (s .pre .0 .2) (s .args .t) (s .pre .0 .3) in
-    (s .pre .0 .0, s .pre .0 .1, omega (arith, r .0, r .1, ends, s .pre .0 .0 .points), omega (arith, r .0, few .1))
+    let ends = points-within w (s .pre .0 .0 .sound .frame) (s .args .t) (s .pre .0 .1) in
+    (s .pre .0 .0, omega (arith, r .0, r .1, ends, s .pre .0 .0 .heads .points), omega (arith, r .0, few .1))
 
 bytes-at-requires : tie.Need-bytes-at-requires
 bytes-at-requires c κs = search needs
@@ -96,7 +96,7 @@ returns c =
     let row = ps .before .before .before in
     let s = row .before .before .before in
     let w = wordAt (s .args .img .now) in
-    let e = row .term-row .ensures .0 w (s .pre .0 .0) in
+    let e = row .term-row .ensures .0 w (s .pre .0 .0 .heads) in
     let r = reads-are (ps .before) in
     let n = name-front w (row .term-row .result) _ _ (bytes .bytes-at .ensures) (zero .first-zero .ensures .0) ∙ ap (nameAt w) e in
     let p = ps .term-points .ensures ∙ (λ j. tab (pointAt w) (r .0 j) (r .1 j)) in

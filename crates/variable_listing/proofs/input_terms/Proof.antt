@@ -32,14 +32,14 @@ sub-input-term c = search needs
 add-input-term : tie.Need-add-input-term Inv-loop μ-loop
 add-input-term c =
     let s = c .before .before .before .before .before in
-    omega (arith, s .pre .0 .3, inputs-first (wordAt (s .args .img .now)) (s .pre .0 .2), s .pre .0 .0 .fits 4)
+    omega (arith, s .pre .0 .1, inputs-first (wordAt (s .args .img .now)) (s .pre .0 .0 .sound .frame), s .pre .0 .0 .heads .fits 4)
 
 input-term-requires : tie.Need-input-term-requires Inv-loop μ-loop
 input-term-requires c κs =
     let s = c .before .before .before .before .before in
     let g = termAt (wordAt (s .args .img .now)) in
     let i = c .before .before .loop .i in
-    ((s .pre .0 .0, s .pre .0 .1, s .pre .0 .2, omega (arith, s .pre .0 .3)), all-at termOk g (s .args .n) (s .args .first) (i - 1) (omega arith) (s .pre .1))
+    ((s .pre .0 .0, omega (arith, s .pre .0 .1)), all-at termOk g (s .args .n) (s .args .first) (i - 1) (omega arith) (s .pre .1))
 
 sub-i : tie.Need-sub-i Inv-loop μ-loop
 sub-i c = search needs

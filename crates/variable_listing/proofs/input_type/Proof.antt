@@ -9,8 +9,8 @@ use Rattle.variable_listing.proofs.input_type.Tie as tie
 input-row-requires : tie.Need-input-row-requires
 input-row-requires c κs =
     let s = c .before .before in
-    let h = s .pre .0 in
-    omega (arith, h .input-table, h .fits 9, h .inputs, h .fits 2, s .pre .2)
+    let h = s .pre .0 .heads in
+    omega (arith, h .input-table, h .fits 9, h .inputs, h .fits 2, s .pre .1)
 
 add-whole-word : tie.Need-add-whole-word
 add-whole-word c = search needs
@@ -19,8 +19,8 @@ whole-word-requires : tie.Need-whole-word-requires
 whole-word-requires c κs =
     let row = c in
     let s = row .before .before .before in
-    let h = s .pre .0 in
-    omega (arith, row .input-row .ensures .0 (wordAt (s .args .img .now)) h, h .input-table, s .pre .1 .inputs, s .pre .2)
+    let h = s .pre .0 .heads in
+    omega (arith, row .input-row .ensures .0 (wordAt (s .args .img .now)) h, h .input-table, s .pre .0 .holds .inputs, s .pre .1)
 
 slice-aggregate-puts : tie.Need-slice-aggregate-puts
 slice-aggregate-puts c = search needs
@@ -40,7 +40,7 @@ returns c =
     let row = v .before in
     let s = row .before .before .before in
     let w = wordAt (s .args .img .now) in
-    let e = row .input-row .ensures .0 w (s .pre .0) in
+    let e = row .input-row .ensures .0 w (s .pre .0 .heads) in
     simp (sym e, sym (v .whole-word .ensures .0), eq-eqb _ _ (i .if1 .taken)) (p .puts .ensures)
 
 slice-aggregate-puts-2 : tie.Need-slice-aggregate-puts-2
@@ -61,7 +61,7 @@ returns-2 c =
     let row = v .before in
     let s = row .before .before .before in
     let w = wordAt (s .args .img .now) in
-    let e = row .input-row .ensures .0 w (s .pre .0) in
+    let e = row .input-row .ensures .0 w (s .pre .0 .heads) in
     simp (sym e, sym (v .whole-word .ensures .0), ne-eqb _ _ (i .if1 .left)) (p .puts2 .ensures)
 
 pub input-type-spec : {M : Type 1} → statement M

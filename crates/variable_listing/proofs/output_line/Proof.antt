@@ -6,7 +6,7 @@ use Rattle.variable_listing.proofs.output_line.Statement.{statement}
 use Rattle.variable_listing.proofs.output_line.Tie as tie
 
 output-row-requires : tie.Need-output-row-requires
-output-row-requires c κs = let h = c .before .before .pre .0 in omega (arith, h .output-table, h .fits 10)
+output-row-requires c κs = let h = c .before .before .pre .0 .heads in omega (arith, h .output-table, h .fits 10)
 
 slice-aggregate-puts : tie.Need-slice-aggregate-puts
 slice-aggregate-puts c = search needs
@@ -35,7 +35,7 @@ returns c =
     let row = p1 .before .before .before in
     let s = row .before .before .before in
     let w = wordAt (s .args .img .now) in
-    let e = row .output-row .ensures .0 w (s .pre .0) in
+    let e = row .output-row .ensures .0 w (s .pre .0 .heads) in
     joined (joined (p1 .puts .ensures) (rw e at (n .name .ensures))) (p2 .puts2 .ensures)
 
 pub output-line-spec : {M : Type 1} → statement M

@@ -29,7 +29,7 @@ sub-output-line c = search needs
 output-line-requires : tie.Need-output-line-requires Inv-loop μ-loop
 output-line-requires c κs =
     let s = c .before .before .before .before .before in
-    (s .pre, omega (arith, s .pre .outputs, s .pre .fits 3))
+    (s .pre, omega (arith, s .pre .heads .outputs, s .pre .heads .fits 3))
 
 sub-i : tie.Need-sub-i Inv-loop μ-loop
 sub-i c = search needs
@@ -59,7 +59,7 @@ returns c =
     let l = c .before .loop in
     let s = c .before .before .before .before in
     let g = outputAt (wordAt (s .args .img .now)) in
-    rw (s .pre .outputs) at (items-all outputLine g 0 (s .args .h .outputs) _ (l .i) _ (omega arith) (l .inv .1))
+    rw (s .pre .heads .outputs) at (items-all outputLine g 0 (s .args .h .outputs) _ (l .i) _ (omega arith) (l .inv .1))
 
 pub output-lines-spec : {M : Type 1} → statement M
 output-lines-spec =

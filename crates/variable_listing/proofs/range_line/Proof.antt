@@ -13,14 +13,14 @@ use Rattle.variable_listing.proofs.range_line.Tie as tie
 within : (c : tie.After-output-row) → (c .output-row .result + 11) * 4 ≤ length (c .before .before .before .args .img .now)
 within c =
     let s = c .before .before .before in
-    let h = s .pre .0 in
-    omega (arith, c .output-row .ensures .0 (wordAt (s .args .img .now)) h, h .output-table, s .pre .1 .outputs, s .pre .2)
+    let h = s .pre .0 .heads in
+    omega (arith, c .output-row .ensures .0 (wordAt (s .args .img .now)) h, h .output-table, s .pre .0 .holds .outputs, s .pre .1)
 
 output-row-requires : tie.Need-output-row-requires
 output-row-requires c κs =
     let s = c .before .before in
-    let h = s .pre .0 in
-    omega (arith, h .output-table, h .fits 10, h .outputs, h .fits 3, s .pre .2)
+    let h = s .pre .0 .heads in
+    omega (arith, h .output-table, h .fits 10, h .outputs, h .fits 3, s .pre .1)
 
 add-whole-word : tie.Need-add-whole-word
 add-whole-word c = search needs
@@ -35,7 +35,7 @@ returns c =
     let row = v .before in
     let s = row .before .before .before in
     let w = wordAt (s .args .img .now) in
-    let e = row .output-row .ensures .0 w (s .pre .0) in
+    let e = row .output-row .ensures .0 w (s .pre .0 .heads) in
     simp (sym e, sym (v .whole-word .ensures .0), eq-eqb _ _ (c .if1 .taken)) (nothing (s .args .k) _)
 
 add-whole-crisp : tie.Need-add-whole-crisp
@@ -92,7 +92,7 @@ returns-2 c =
     let row = v .before in
     let s = row .before .before .before in
     let w = wordAt (s .args .img .now) in
-    let e = row .output-row .ensures .0 w (s .pre .0) in
+    let e = row .output-row .ensures .0 w (s .pre .0 .heads) in
     let m = rw (a2 .whole-crisp2 .ensures) at (most .crisp .ensures) in
     let l = rw (a1 .whole-crisp .ensures) at (least .crisp2 .ensures) in
     simp (sym e, sym (v .whole-word .ensures .0), ne-eqb _ _ (i .if1 .left))

@@ -17,13 +17,13 @@ first-is : (c : tie.After-whole-word) →
 first-is c =
     let s = c .before .before .before .before in
     let w = wordAt (s .args .img .now) in
-    c .whole-word .ensures .0 ∙ ap (λ (o : ℕ). w (o + 4)) (c .before .term-row .ensures .0 w (s .pre .0))
+    c .whole-word .ensures .0 ∙ ap (λ (o : ℕ). w (o + 4)) (c .before .term-row .ensures .0 w (s .pre .0 .heads))
 
 term-row-requires : tie.Need-term-row-requires
 term-row-requires c κs =
     let s = c .before .before in
-    let h = s .pre .0 in
-    omega (arith, h .term-table, h .fits 11, h .terms, h .fits 4, s .pre .4)
+    let h = s .pre .0 .heads in
+    omega (arith, h .term-table, h .fits 11, h .terms, h .fits 4, s .pre .2)
 
 add-whole-word : tie.Need-add-whole-word
 add-whole-word c = search needs
@@ -32,15 +32,15 @@ whole-word-requires : tie.Need-whole-word-requires
 whole-word-requires c κs =
     let row = c in
     let s = row .before .before .before in
-    let h = s .pre .0 in
-    omega (arith, row .term-row .ensures .0 (wordAt (s .args .img .now)) h, h .term-table, s .pre .1 .terms, s .pre .4)
+    let h = s .pre .0 .heads in
+    omega (arith, row .term-row .ensures .0 (wordAt (s .args .img .now)) h, h .term-table, s .pre .0 .holds .terms, s .pre .2)
 
 place-at-requires : tie.Need-place-at-requires
 place-at-requires c κs =
     let s = c .before .before .before .before in
-    let h = s .pre .0 in
-    let l = point-within (wordAt (s .args .img .now)) (s .pre .2) (s .args .t) (s .pre .3) (omega (arith, h .terms, s .pre .4)) in
-    (h, s .pre .1, omega (arith, first-is c, h .points, l))
+    let h = s .pre .0 .heads in
+    let l = point-within (wordAt (s .args .img .now)) (s .pre .0 .sound .frame) (s .args .t) (s .pre .1) (omega (arith, h .terms, s .pre .2)) in
+    (h, s .pre .0 .holds, omega (arith, first-is c, h .points, l))
 
 slice-aggregate-puts : tie.Need-slice-aggregate-puts
 slice-aggregate-puts c = search needs
@@ -82,7 +82,7 @@ returns c =
     let row = v .before in
     let s = row .before .before .before in
     let w = wordAt (s .args .img .now) in
-    let e = row .term-row .ensures .0 w (s .pre .0) in
+    let e = row .term-row .ensures .0 w (s .pre .0 .heads) in
     let f = at .place-at .ensures ∙ ap (λ (j : ℕ). pointAt w j .at) (first-is v) in
     joined (joined (joined (joined (p1 .puts .ensures) (rw f at (x .crisp .ensures))) (p2 .puts2 .ensures)) (rw e at (n .name .ensures))) (p3 .puts3 .ensures)
 

@@ -29,12 +29,12 @@ sub-singleton c = search needs
 add-singleton : tie.Need-add-singleton Inv-loop μ-loop
 add-singleton c =
     let s = c .before .before .before .before .before in
-    omega (arith, s .pre .4, s .pre .0 .terms, s .pre .0 .fits 4)
+    omega (arith, s .pre .2, s .pre .0 .heads .terms, s .pre .0 .heads .fits 4)
 
 singleton-requires : tie.Need-singleton-requires Inv-loop μ-loop
 singleton-requires c κs =
     let s = c .before .before .before .before .before in
-    (s .pre .0, s .pre .1, s .pre .2, omega (arith, s .pre .3), omega (arith, s .pre .4))
+    (s .pre .0, omega (arith, s .pre .1), omega (arith, s .pre .2))
 
 sub-i : tie.Need-sub-i Inv-loop μ-loop
 sub-i c = search needs

@@ -30,7 +30,7 @@ add-point-at : tie.Need-add-point-at Inv-loop μ-loop
 add-point-at c = search needs
 
 point-at-requires : tie.Need-point-at-requires Inv-loop μ-loop
-point-at-requires c κs = let s = c .before .before .before in (s .pre .0, s .pre .1, omega (arith, s .pre .2))
+point-at-requires c κs = let s = c .before .before .before in (s .pre .0 .heads, s .pre .0 .holds, omega (arith, s .pre .1))
 
 mul-ps : tie.Need-mul-ps Inv-loop μ-loop
 mul-ps c = search needs
