@@ -25,12 +25,12 @@ fn block(out: &mut [u8], k: usize, img: &[u8], h: Header) -> usize
 {
     let a = puts(out, k, b"END_FUNCTION_BLOCK\n");
     let b = rule_listing::rule_block(out, a, img, h);
-    let c = variable_listing::defuzzify_parts(out, b, img, h);
-    let d = variable_listing::fuzzify_parts(out, c, img, h);
+    let c = defuzzify_listing::defuzzify_parts(out, b, img, h);
+    let d = fuzzify_listing::fuzzify_parts(out, c, img, h);
     let e = puts(out, d, b"END_VAR\n");
-    let f = variable_listing::output_lines(out, e, img, h);
+    let f = declaration_listing::output_lines(out, e, img, h);
     let g = puts(out, f, b"END_VAR\nVAR_OUTPUT\n");
-    let i = variable_listing::input_lines(out, g, img, h);
+    let i = declaration_listing::input_lines(out, g, img, h);
     let j = puts(out, i, b"\nVAR_INPUT\n");
     let l = name_listing::name(out, j, img, header::BLOCK_NAME);
     puts(out, l, b"FUNCTION_BLOCK ")
