@@ -10,7 +10,7 @@ use borrow.Author.Tests.{leb-true, eqb-true, eqb-false}
 use lib.Dec.{leb, eqb}
 use lib.ListN.{length, getD}
 use Rattle.model.specs.Basic.{gather}
-use Rattle.model.specs.Bounds.{ruleLimit, depthLimit}
+use Rattle.model.specs.Bounds.{depthLimit}
 use Rattle.model.specs.declared.Pair.{Pair}
 use Rattle.model.specs.Block.{Condition, term, neg, two, inputTerms}
 use Rattle.model.specs.Degrees.{notOf, conditionDegree}

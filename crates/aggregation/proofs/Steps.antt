@@ -1,8 +1,8 @@
 -- One word of the pass: what the stack must hold, and what it holds then.
-use mathlib.Core.Path.{_≡_, refl, sym, ap, _∙_}
-use mathlib.Core.List.{List, [], _∷_}
+use mathlib.Core.Path.{_≡_, refl, ap, _∙_}
+use mathlib.Core.List.{List, _∷_}
 use mathlib.Core.Bool.{Bool, true, false}
-use mathlib.Core.Option.{none, some}
+use mathlib.Core.Option.{some}
 use Prim.Native.Nat.{ℕ, zero, suc, _+_, _-_, _≤_, _<_}
 use native.Mathlib.Omega.{arith}
 use borrow.Author.Tests.{le-leb, lt-leb, ltb-true, ne-eqb}
@@ -14,10 +14,10 @@ use Rattle.model.specs.Block.{Op, and, or}
 use Rattle.model.specs.Degrees.{notOf, pairs}
 use Rattle.model.specs.Image.{opWord}
 use Rattle.degrees.specs.Tables.{numbers}
-use Rattle.stored_conditions.specs.Machine.{Meaning, NOT-WORD, TERM-WORD, unary, binary, step, turn, stackOf}
+use Rattle.stored_conditions.specs.Machine.{NOT-WORD, TERM-WORD, operatorOf, Meaning, unary, binary, step, turn, stackOf}
 use Rattle.stored_conditions.proofs.Passes.{none-some, added-in}
-use Rattle.stored_conditions.proofs.Stacks.{length-stack, stack-push, stack-one, stack-two}
-use Rattle.aggregation.specs.Stacks.{places, operatorOf, byDegrees}
+use Rattle.stored_conditions.proofs.Stacks.{length-stack, stack-push}
+use Rattle.aggregation.specs.Stacks.{places, byDegrees}
 use Rattle.aggregation.proofs.Degrees.{numbers-set}
 
 -- one more on the first n

@@ -3,23 +3,16 @@
 use mathlib.Core.List.{List}
 use mathlib.Core.Bool.{true}
 use Prim.Native.Nat.{ℕ, _+_}
-use lib.Dec.{ltb, eqb}
+use lib.Dec.{ltb}
 use lib.ListN.{getD}
-use Rattle.model.specs.Basic.{if_then_else_}
 use Rattle.model.specs.Bounds.{ruleLimit}
 use Rattle.model.specs.declared.Pair.{Pair}
-use Rattle.model.specs.Block.{Op, and, or}
 use Rattle.model.specs.Degrees.{notOf, pairs}
-use Rattle.model.specs.Image.{opWord}
 use Rattle.stored_conditions.specs.Machine.{Meaning, room}
 
 -- one for each rule, and those that a condition needs
 abbrev pub places : ℕ
 places = ruleLimit + room
-
--- of a word that is one of the two
-abbrev pub operatorOf : ℕ → Op
-operatorOf w = if eqb w (opWord and) then and else or
 
 -- m input terms, whose degrees are ds
 abbrev pub byDegrees : Pair → List ℕ → ℕ → Meaning ℕ

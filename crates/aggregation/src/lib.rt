@@ -6,8 +6,8 @@ ghost use Rattle.model.specs.Bounds.{M};
 ghost use Rattle.model.specs.Degrees.{pairs, conditionDegree};
 ghost use Rattle.model.specs.Image.{wordAt, ruleAt};
 ghost use Rattle.degrees.specs.Tables.{numbers, Low};
+ghost use Rattle.stored_conditions.specs.Machine.{operatorOf};
 ghost use Rattle.layout.specs.Checked.{Checked};
-ghost use Rattle.aggregation.specs.Stacks.{operatorOf};
 use bounds::INPUT_TERMS;
 use bounds::RULES;
 use header::Header;
@@ -35,7 +35,12 @@ fn joined(w: usize, p: Pair, a: Degree, b: Degree) -> Degree
 
 // The degree of each rule's condition, in rule order, by the degrees of the input terms. The words of all conditions
 // stand one behind the other, each condition's in postfix, so one pass with a stack leaves them there.
-pub fn condition_degrees(img: &[u8], h: Header, ds: [Degree; INPUT_TERMS], p: Pair) -> [Degree; PLACES]
+pub fn condition_degrees(
+    img: &[u8],
+    h: Header,
+    ds: [Degree; INPUT_TERMS],
+    p: Pair,
+) -> [Degree; PLACES]
     requires { ⌜ Checked (now img) h × Low (numbers ds) ⌝ }
     ensures { λ r. ⌜ ((i : ℕ) → i < h .rules → getD (numbers r) i 0
         ≡ conditionDegree p (numbers ds) (ruleAt (wordAt (now (img .entry))) i .condition)) ⌝ }

@@ -133,8 +133,10 @@ module _ (w : ℕ → ℕ) (s : Sound w) (rs : List Reading) (held : Held) (m : 
       → ((p : ℕ) → getD (numbers hs) p 0 ≡ height (decode w) (numbers ds) (m + p)) → answersBy w hs m held ≡ blockAnswers (decode w) values (figuresOf held)
   unfolding blockAnswers
   answers-are l ex ed eh =
-      let e : numbers ds ≡ filled inputTermLimit 0 inputDegrees = ed ∙ ap (filled inputTermLimit 0) (degrees-of-call (decode w .inputs) inputLimit (figures xs) values ex l) in
-      let agree : (t : ℕ) → getD (numbers ds) t 0 ≡ getD inputDegrees t 0 = λ t. ap (λ (x : List ℕ). getD x t 0) e ∙ filled-at inputTermLimit 0 inputDegrees t in
+      let of-call = degrees-of-call (decode w .inputs) inputLimit (figures xs) values ex l in
+      let e : numbers ds ≡ filled inputTermLimit 0 inputDegrees = ed ∙ ap (filled inputTermLimit 0) of-call in
+      let agree : (t : ℕ) → getD (numbers ds) t 0 ≡ getD inputDegrees t 0 =
+      λ t. ap (λ (x : List ℕ). getD x t 0) e ∙ filled-at inputTermLimit 0 inputDegrees t in
       let n : m ≡ length (inputTerms (decode w)) = em ∙ sym (input-terms w (s .frame)) in
       let H = height (decode w) inputDegrees in
       answers-agree (decode w) (heightOf hs m) H 0 (decode w .outputs) (figuresOf held)

@@ -100,7 +100,7 @@ fn input_type(img: &[u8], h: Header, i: usize) -> InputType
     requires { ⌜ Checked (now img) h × (i < h .inputs) ⌝ }
     ensures { λ r. ⌜ r ≡ inputAt (wordAt (now (img .entry))) i .type ⌝ }
 {
-    if whole_word(img, header::input_row(h, i) + header::INPUT_TYPE) == 0 {
+    if whole_word(img, header::input_row(h, i) + header::INPUT_TYPE) == header::REAL {
         InputType::Real
     } else {
         InputType::Int

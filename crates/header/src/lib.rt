@@ -129,7 +129,7 @@ pub const RULE_WEIGHT: usize = 5;
 
 pub const CONCLUSION_TERM: usize = 1;
 
-// The codes of a pair, of ACCU and of an input's type.
+// The codes of a pair, of ACCU, of ACT and of an input's type.
 pub const MIN_MAX: usize = 0;
 
 pub const PROD_ASUM: usize = 1;
@@ -140,6 +140,10 @@ pub const BY_MAX: usize = 0;
 
 pub const BY_BSUM: usize = 1;
 
+pub const BY_MIN: usize = 0;
+
+pub const BY_PROD: usize = 1;
+
 pub const REAL: usize = 0;
 
 pub const INT: usize = 1;
@@ -149,7 +153,7 @@ pub const LAST_PAIR: usize = BDIF_BSUM;
 
 pub const LAST_ACCU: usize = BY_BSUM;
 
-pub const LAST_ACT: usize = 1;
+pub const LAST_ACT: usize = BY_PROD;
 
 pub const LAST_TYPE: usize = INT;
 

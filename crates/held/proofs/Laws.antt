@@ -97,5 +97,6 @@ module _ (held : Held) where
         ∙ ap (λ (b : Bool). fits w held i && b) (held-on k (suc i) m (omega arith) ∙ ap (both-from k (suc i) m) (omega arith))
         ∙ sym (and-assoc (fits w held i) (all (fits w held) (tab (λ x. x) k (suc i))) (all (isZero held) (tab (λ x. x) m (i + suc k))))
 
-    pub held-tests : (n : ℕ) → length (held .figures) ≡ outputLimit → n ≤ outputLimit → heldOk (tab (outputAt w) n 0) (figures (held .figures)) ≡ both-from n 0 (outputLimit - n) n
+    pub held-tests : (n : ℕ) → length (held .figures) ≡ outputLimit → n ≤ outputLimit
+        → heldOk (tab (outputAt w) n 0) (figures (held .figures)) ≡ both-from n 0 (outputLimit - n) n
     held-tests n e h = held-on n 0 (outputLimit - n) (omega arith) ∙ ap (both-from n 0 (outputLimit - n)) (omega arith)

@@ -103,5 +103,6 @@ module _ (w : ℕ → ℕ) (s : Sound w) where
 
   -- in numbers
   pub output-numbers : (i : ℕ) → i < w 3
-      → (i < outputLimit) × (outputCount w i ≤ termLimit) × (inputTermsIn w ≤ outputFirstAt w i) × (outputFirstAt w i - inputTermsIn w + outputCount w i ≤ outputTermLimit)
+      → (i < outputLimit) × (outputCount w i ≤ termLimit) × (inputTermsIn w ≤ outputFirstAt w i)
+      × (outputFirstAt w i - inputTermsIn w + outputCount w i ≤ outputTermLimit)
   output-numbers i h = omega (arith, outputs-few, terms-few i h, first-is w (s .frame) i h, before-few i h)

@@ -15,6 +15,10 @@ use Rattle.model.specs.WellFormed.{wellFormed}
 use Rattle.laws.proofs.Tests.{both}
 use Rattle.listing_laws.proofs.Longest.{listing-short}
 
+-- what the code calls LONGEST
+abbrev pub longest : ℕ
+longest = 31421
+
 module _ (img : List ℕ) where
   abbrev pub block : Block
   block = decode (wordAt img)
@@ -28,7 +32,7 @@ module _ (img : List ℕ) where
     unfolding listsInto loads
     listed room = simp h
 
-    pub short : length (listing block) ≤ 31421
+    pub short : length (listing block) ≤ longest
     unfolding isImageOf
     short = listing-short block (both (wellFormed block) (same img (image block)) h .0)
 

@@ -113,8 +113,8 @@ fn and_algorithm(out: &mut [u8], k: usize, n: usize) -> usize
     ensures { λ r. ⌜ Prepends k r (andText (pairOf n)) (now (out .entry)) (now (out .exit)) ⌝ }
 {
     match n {
-        0 => puts(out, k, b"MIN"),
-        1 => puts(out, k, b"PROD"),
+        header::MIN_MAX => puts(out, k, b"MIN"),
+        header::PROD_ASUM => puts(out, k, b"PROD"),
         _ => puts(out, k, b"BDIF"),
     }
 }
@@ -123,8 +123,8 @@ fn or_algorithm(out: &mut [u8], k: usize, n: usize) -> usize
     ensures { λ r. ⌜ Prepends k r (orText (pairOf n)) (now (out .entry)) (now (out .exit)) ⌝ }
 {
     match n {
-        0 => puts(out, k, b"MAX"),
-        1 => puts(out, k, b"ASUM"),
+        header::MIN_MAX => puts(out, k, b"MAX"),
+        header::PROD_ASUM => puts(out, k, b"ASUM"),
         _ => puts(out, k, b"BSUM"),
     }
 }
@@ -133,7 +133,7 @@ fn activation(out: &mut [u8], k: usize, n: usize) -> usize
     ensures { λ r. ⌜ Prepends k r (actText (actOf n)) (now (out .entry)) (now (out .exit)) ⌝ }
 {
     match n {
-        0 => puts(out, k, b"MIN"),
+        header::BY_MIN => puts(out, k, b"MIN"),
         _ => puts(out, k, b"PROD"),
     }
 }
@@ -142,7 +142,7 @@ fn accumulation(out: &mut [u8], k: usize, n: usize) -> usize
     ensures { λ r. ⌜ Prepends k r (accuText (accuOf n)) (now (out .entry)) (now (out .exit)) ⌝ }
 {
     match n {
-        0 => puts(out, k, b"MAX"),
+        header::BY_MAX => puts(out, k, b"MAX"),
         _ => puts(out, k, b"BSUM"),
     }
 }

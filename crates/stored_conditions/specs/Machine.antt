@@ -18,6 +18,10 @@ NOT-WORD = 0
 abbrev pub TERM-WORD : ℕ
 TERM-WORD = 16
 
+-- the operator of a word that is neither
+abbrev pub operatorOf : ℕ → Op
+operatorOf w = if eqb w (opWord and) then and else or
+
 -- known: which terms there are; fine: what may stand on the stack; places: how many on the stack
 pub record Meaning (A : Type 0) : Type 0 where
   pub leaf : ℕ → A

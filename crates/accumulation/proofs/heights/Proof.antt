@@ -1,10 +1,11 @@
 use borrow.Author.Needs.{needs}
-use mathlib.Core.Path.{_≡_, refl, sym, ap, subst, _∙_}
+use mathlib.Core.Path.{_≡_, refl, sym, ap, _∙_}
 use mathlib.Core.List.{List}
 use Prim.Native.Nat.{ℕ, _+_, _*_, _-_, _≤_, _<_}
 use native.Mathlib.Omega.{arith}
 use lib.ListN.{length, getD}
 use Rattle.model.specs.Bounds.{ruleLimit, outputTermLimit}
+use Rattle.model.specs.Block.{Conclusion}
 use Rattle.model.specs.Degrees.{prodOf}
 use Rattle.model.specs.Evaluation.{ruleDegree}
 use Rattle.model.specs.Image.{wordAt, tab, decode, rulePlace, ruleAt, conclusionAt}
@@ -33,8 +34,8 @@ abbrev Inv-loop : tie.InvT-loop
 Inv-loop img h m n accu conditions hs₀ i₀ hs i =
     (i ≤ n) × (length hs ≡ outputTermLimit) × Low (numbers hs)
     × ((p : ℕ) →
-      let after : ℕ → ℕ → ℕ → ℕ = afterRules accu (degreeBy (wordAt img) (numbers conditions)) (ruleAt (wordAt img)) (m + p) in
-      after (n - i) i (getD (numbers hs) p 0) ≡ after n 0 0)
+    let after : ℕ → ℕ → ℕ → ℕ = afterRules accu (degreeBy (wordAt img) (numbers conditions)) (ruleAt (wordAt img)) (m + p) in
+    after (n - i) i (getD (numbers hs) p 0) ≡ after n 0 0)
 
 abbrev μ-loop : tie.MeasureT-loop
 μ-loop img h m n accu conditions hs₀ i₀ hs i = n - i
@@ -216,9 +217,9 @@ loop-again c =
     let ks = rule-conclusions w (s .pre .0 .sound) (l .i) (inside q) (rulePlace w (l .i)) _ _ refl (k .0) (k .1) in
     let own : degreeBy w (numbers (at .before .condition-degrees .result)) (l .i) ≡ d .result .0 =
     ap (λ (x : ℕ). prodOf x (ruleAt w (l .i) .weight)) (sym (number-at (at .before .condition-degrees .result) (l .i))) ∙ sym (d .ensures .0) in
-    let given : (p : ℕ) → getD (numbers (g .hs)) p 0 ≡ afterConclusions accu (d .result .0) (a .m + p) (ruleAt w (l .i) .conclusions) (getD (numbers (l .hs)) p 0) =
-    λ p. sym (conclusions-end _ (d .result .0) (conclusionAt w) _ _ (g .j) (a .m + p) _ (c .loop2-test .left)) ∙ g .inv .3 p
-    ∙ (λ j. afterConclusions accu (d .result .0) (a .m + p) (ks j) (getD (numbers (l .hs)) p 0)) in
+    let after : List Conclusion → ℕ → ℕ = λ ks p. afterConclusions accu (d .result .0) (a .m + p) ks (getD (numbers (l .hs)) p 0) in
+    let given : (p : ℕ) → getD (numbers (g .hs)) p 0 ≡ after (ruleAt w (l .i) .conclusions) p =
+    λ p. sym (conclusions-end _ (d .result .0) (conclusionAt w) _ _ (g .j) (a .m + p) _ (c .loop2-test .left)) ∙ g .inv .3 p ∙ (λ j. after (ks j) p) in
     let turn = q .before .before .before .before .before .loop-test .taken in
     (omega (arith, turn), g .inv .1, g .inv .2, λ p. rule-turn _ _ _ _ (l .i) _ _ _ _ turn (sym own) (given p) ∙ l .inv .3 p)
 

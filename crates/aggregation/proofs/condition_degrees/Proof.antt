@@ -1,4 +1,4 @@
-use mathlib.Core.Path.{_≡_, refl, sym, ap, subst, _∙_}
+use mathlib.Core.Path.{_≡_, sym, ap, subst, _∙_}
 use mathlib.Core.List.{List, _∷_}
 use mathlib.Core.Logic.{⊎-elim}
 use mathlib.Core.Option.{some}
@@ -14,9 +14,9 @@ use Rattle.model.specs.Image.{wordAt, decode, RULES}
 use Rattle.degrees.specs.Tables.{numbers, Low}
 use Rattle.layout.proofs.Inputs.{input-terms-few}
 use Rattle.layout.proofs.Sound.{input-terms}
-use Rattle.stored_conditions.specs.Machine.{TERM-WORD, NOT-WORD, turn, stackOf}
+use Rattle.stored_conditions.specs.Machine.{NOT-WORD, TERM-WORD, operatorOf, turn, stackOf}
 use Rattle.stored_conditions.proofs.Passes.{Left, left-start, left-end, left-more}
-use Rattle.aggregation.specs.Stacks.{places, operatorOf}
+use Rattle.aggregation.specs.Stacks.{places}
 use Rattle.aggregation.proofs.Degrees.{number-at, low-zeros, low-turn}
 use Rattle.aggregation.proofs.Passes.{some-eq, machine, degrees-left, stack-holds}
 use Rattle.aggregation.proofs.Steps.{pushed, term-in, not-in, two-in}
@@ -70,7 +70,8 @@ module _ (c : Place) where
       let all = degrees-left w (start .pre .0 .sound) (a .p) ds _ _ (hd .word-table) (hd .words) in
       left-more (machine w (a .p) ds) w _ _ (l .i) word _ _ all (c .before .loop-test .taken) (c .whole-word .ensures .0) (l .inv .4)
 
-  term : TERM-WORD ≤ word → (word - TERM-WORD < inputTermLimit) × (height < places) × (left .0 ≡ getD ds (word - TERM-WORD) 0 ∷ stackOf 0 (numbers stack) height)
+  term : TERM-WORD ≤ word
+      → (word - TERM-WORD < inputTermLimit) × (height < places) × (left .0 ≡ getD ds (word - TERM-WORD) 0 ∷ stackOf 0 (numbers stack) height)
   term h =
       let q = term-in (start .args .p) ds terms (numbers stack) height word (left .0) (left .1) h in
       (omega (arith, q .0, input-terms w (start .pre .0 .sound .frame), input-terms-few w (start .pre .0 .sound)), q .1, q .2)
@@ -78,12 +79,16 @@ module _ (c : Place) where
   one : word ≡ NOT-WORD → (0 < height) × (left .0 ≡ notOf (getD (numbers stack) (height - 1) 0) ∷ stackOf 0 (numbers stack) (height - 1))
   one = not-in (start .args .p) ds terms (numbers stack) height word (left .0) (left .1)
 
-  two : word < TERM-WORD → (word ≡ NOT-WORD → ⊥) → (2 ≤ height) × (left .0
-      ≡ pairs (start .args .p) (operatorOf word) (getD (numbers stack) (height - 2) 0) (getD (numbers stack) (height - 1) 0) ∷ stackOf 0 (numbers stack) (height - 2))
+  two : word < TERM-WORD → (word ≡ NOT-WORD → ⊥) →
+      let l = numbers stack in
+      (2 ≤ height) × (left .0 ≡ pairs (start .args .p) (operatorOf word) (getD l (height - 2) 0) (getD l (height - 1) 0) ∷ stackOf 0 l (height - 2))
   two = two-in (start .args .p) ds terms (numbers stack) height word (left .0) (left .1)
 
   low : (k : ℕ) → getD stack k (record { 0 = 0 }) .0 ≤ M
   low k = subst (λ (x : ℕ). x ≤ M) (sym (number-at stack k)) (c .before .before .loop .inv .3 k)
+
+  on : (k : ℕ) {x y : ℕ} → x ≡ y → x ∷ stackOf 0 (numbers stack) k ≡ y ∷ stackOf 0 (numbers stack) k
+  on k e = ap (λ (z : ℕ). z ∷ stackOf 0 (numbers stack) k) e
 
   -- what the next turn starts from
   abbrev Next : List Degree → ℕ → Type 0
@@ -170,17 +175,20 @@ array-copy-out-b c = omega (arith, two (c .before .before .before) (c .before .b
 joined-requires : tie.Need-joined-requires Inv-loop μ-loop
 joined-requires c κs = let at = low (c .before .before .before .before) in (at _, at _)
 
+operands : (c : tie.After-joined Inv-loop μ-loop) → 2 ≤ height (c .before .before .before .before .before)
+operands c = let q = c .before .before .before in two (q .before .before) (q .before .if1 .left) (q .if2 .left) .0
+
 sub-stack-2 : tie.Need-sub-stack-2 Inv-loop μ-loop
-sub-stack-2 c = omega (arith, two (c .before .before .before .before .before) (c .before .before .before .before .if1 .left) (c .before .before .before .if2 .left) .0)
+sub-stack-2 c = omega (arith, operands c)
 
 mul-stack-3 : tie.Need-mul-stack-3 Inv-loop μ-loop
 mul-stack-3 c = search needs
 
 array-set-from-stack-3 : tie.Need-array-set-from-stack-3 Inv-loop μ-loop
-array-set-from-stack-3 c = omega (arith, two (c .before .before .before .before .before) (c .before .before .before .before .if1 .left) (c .before .before .before .if2 .left) .0)
+array-set-from-stack-3 c = omega (arith, operands c)
 
 sub-height : tie.Need-sub-height Inv-loop μ-loop
-sub-height c = omega (arith, two (c .before .before .before .before .before) (c .before .before .before .before .if1 .left) (c .before .before .before .if2 .left) .0)
+sub-height c = omega (arith, operands c)
 
 add-i : tie.Need-add-i Inv-loop μ-loop
 add-i c = search needs
@@ -191,26 +199,26 @@ loop-less c = search needs
 loop-again : tie.Need-loop-again Inv-loop μ-loop
 loop-again c =
     let p = c .before in
-    let l = numbers (stack p) in
     let at = number-at (stack p) in
+    let most = p .before .before .loop .inv .1 in
     let next : Next p (c .if1 .stack) (c .if1 .height) =
     ⊎-elim
     (λ way.
-      let t = term p (way .0 .taken) in
-      let d = number-at (start p .args .t3) (word p - TERM-WORD) in
-      let small = start p .pre .1 (word p - TERM-WORD) in
-      again p (height p) _ _ _ (way .2) (way .3) (t .1) (omega (arith, d)) (t .2 ∙ ap (λ (x : ℕ). x ∷ stackOf 0 l (height p)) (sym d)))
+    let t = term p (way .0 .taken) in
+    let d = number-at (start p .args .t3) (word p - TERM-WORD) in
+    let small = start p .pre .1 (word p - TERM-WORD) in
+    again p (height p) _ _ _ (way .2) (way .3) (t .1) (omega (arith, d)) (t .2 ∙ on p (height p) (sym d)))
     (⊎-elim
     (λ way.
-      let t = one p (way .1 .taken) in
-      let d = way .3 .ensures .0 ∙ ap notOf (at (height p - 1)) in
-      let n : c .if1 .height ≡ height p - 1 + 1 = omega (arith, way .5, t .0) in
-      again p (height p - 1) _ _ _ (way .4) n (omega (arith, p .before .before .loop .inv .1, t .0)) (way .3 .ensures .1) (t .1 ∙ ap (λ (x : ℕ). x ∷ stackOf 0 l (height p - 1)) (sym d)))
+    let t = one p (way .1 .taken) in
+    let d = way .3 .ensures .0 ∙ ap notOf (at (height p - 1)) in
+    let n : c .if1 .height ≡ height p - 1 + 1 = omega (arith, way .5, t .0) in
+    again p (height p - 1) _ _ _ (way .4) n (omega (arith, most, t .0)) (way .3 .ensures .1) (t .1 ∙ on p (height p - 1) (sym d)))
     (λ way.
-      let t = two p (way .0 .left) (way .1 .left) in
-      let d = way .4 .ensures .0 ∙ (λ j. pairs (start p .args .p) (operatorOf (word p)) (at (height p - 2) j) (at (height p - 1) j)) in
-      let n : c .if1 .height ≡ height p - 2 + 1 = omega (arith, way .6, t .0) in
-      again p (height p - 2) _ _ _ (way .5) n (omega (arith, p .before .before .loop .inv .1, t .0)) (way .4 .ensures .1) (t .1 ∙ ap (λ (x : ℕ). x ∷ stackOf 0 l (height p - 2)) (sym d))))
+    let t = two p (way .0 .left) (way .1 .left) in
+    let d = way .4 .ensures .0 ∙ (λ j. pairs (start p .args .p) (operatorOf (word p)) (at (height p - 2) j) (at (height p - 1) j)) in
+    let n : c .if1 .height ≡ height p - 2 + 1 = omega (arith, way .6, t .0) in
+    again p (height p - 2) _ _ _ (way .5) n (omega (arith, most, t .0)) (way .4 .ensures .1) (t .1 ∙ on p (height p - 2) (sym d))))
     (c .if1 .came) in
     (search needs, next .0, next .1, next .2, next .3)
 

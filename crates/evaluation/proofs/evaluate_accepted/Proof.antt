@@ -102,7 +102,8 @@ returns-4 c =
     let b = decode w in
     let u = v .input-values in
     let all : length (b .inputs) ≤ length (valuesRead (b .inputs) (a .rs)) = omega (arith, inputs-are s, u .ensures .0, i .if3 .left) in
-    let g = answers-are w (s .pre .checked .sound) (a .rs) (a .before) _ (s .pre .input-terms) (u .result .at) (d .term-degrees .result) (p .heights .result) all
+    let sound = s .pre .checked .sound in
+    let g = answers-are w sound (a .rs) (a .before) _ (s .pre .input-terms) (u .result .at) (d .term-degrees .result) (p .heights .result) all
     (u .ensures .1 .0) (d .term-degrees .ensures .0) (p .heights .ensures .0) in
     let r = o .outputs .ensures in
     tells-as _ (a .before) _ _ (called-ok b (a .rs) (a .n) (a .before) (count-right one) (held-right two) all)

@@ -61,7 +61,9 @@ add-point-at : tie.Need-add-point-at Inv-loop μ-loop
 add-point-at c = search needs
 
 point-at-requires-2 : tie.Need-point-at-requires-2 Inv-loop μ-loop
-point-at-requires-2 c κs = let s = c .before .before .before .before .before .before .before in (s .pre .0 .0 .heads, s .pre .0 .0 .holds, omega (arith, s .pre .0 .2))
+point-at-requires-2 c κs =
+    let s = c .before .before .before .before .before .before .before in
+    (s .pre .0 .0 .heads, s .pre .0 .0 .holds, omega (arith, s .pre .0 .2))
 
 on-line-requires : tie.Need-on-line-requires Inv-loop μ-loop
 on-line-requires c κs =
@@ -75,7 +77,9 @@ on-line-requires c κs =
       (
         s .pre .0 .3,
         fine (p .result) (ap pointOk (p .ensures) ∙ point-fine s (l .i) (l .inv .0) (omega (arith, l .inv .1))),
-        fine (q .result) (ap pointOk (q .ensures) ∙ point-fine s (l .i + 1) (omega (arith, l .inv .0)) (omega (arith, c .before .before .before .before .before .loop-test .taken))),
+        fine (q .result)
+            (ap pointOk (q .ensures)
+            ∙ point-fine s (l .i + 1) (omega (arith, l .inv .0)) (omega (arith, c .before .before .before .before .before .loop-test .taken))),
       ),
       (
         subst (λ (z : ℤ). z ≤ℤ x) (ap (λ (y : Point). y .at) (sym (p .ensures))) (l .inv .2),

@@ -57,7 +57,8 @@ ends c =
     let r = read c in
     omega (arith, r .0, r .1, points-within w (s .pre .0 .0 .sound .frame) (s .args .t) (s .pre .0 .1), s .pre .0 .0 .heads .points)
 
-points-fine : (c : tie.After-whole-word2) → all pointOk (tab (pointAt (wordAt (start c .args .img .now))) (c .before .whole-word .result) (c .whole-word2 .result)) ≡ true
+points-fine : (c : tie.After-whole-word2)
+    → all pointOk (tab (pointAt (wordAt (start c .args .img .now))) (c .before .whole-word .result) (c .whole-word2 .result)) ≡ true
 points-fine c =
     let s = start c in
     ap (all pointOk) (points-are c .0) ∙ points-ok (wordAt (s .args .img .now)) (s .args .t) (s .pre .1 .1)
@@ -133,7 +134,10 @@ degree-from-requires c κs =
     let first = q .whole-word2 .result in
     let e : n ≡ first + n - first = omega arith in (
       (s .pre .0 .0, omega (arith, points-are q .1), ends q, s .pre .1 .0),
-      (not-below (s .args .x .0) (f first .at) (sym (compared (c .before)) ∙ c .if1 .left), subst (λ (k : ℕ). all pointOk (tab f k first) ≡ true) e (points-fine q)),
+      (
+        not-below (s .args .x .0) (f first .at) (sym (compared (c .before)) ∙ c .if1 .left),
+        subst (λ (k : ℕ). all pointOk (tab f k first) ≡ true) e (points-fine q),
+      ),
     )
 
 returns-2 : tie.Need-returns-2

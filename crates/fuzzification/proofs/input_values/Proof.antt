@@ -23,7 +23,8 @@ use Rattle.fuzzification.proofs.input_values.Tie as tie
 abbrev Inv-loop : tie.InvT-loop
 Inv-loop img h rs n at₀ i₀ at i =
     let xs = found (wordAt img) rs in
-    (i ≤ n) × (n ≤ inputLimit) × (length at ≡ inputLimit) × (i ≤ length xs) × (figures at ≡ sets (replicate inputLimit (pos 0)) 0 (take i xs)) × AllCrisp (figures at)
+    (i ≤ n) × (n ≤ inputLimit) × (length at ≡ inputLimit) × (i ≤ length xs)
+    × (figures at ≡ sets (replicate inputLimit (pos 0)) 0 (take i xs)) × AllCrisp (figures at)
 
 abbrev μ-loop : tie.MeasureT-loop
 μ-loop img h rs n at₀ i₀ at i = n - i

@@ -31,7 +31,8 @@ use Rattle.fuzzification.proofs.term_degrees.Tie as tie
 -- the first k terms of input i, and those of the first i inputs
 abbrev Inv-loop2 : tie.InvT-loop2
 Inv-loop2 img h xs n ds₀ first i count x k₀ ds k =
-    (k ≤ count) × (length ds ≡ inputTermLimit) × (numbers ds ≡ sets (numbers ds₀) first (degreesAt (x .0) (tab (termAt (wordAt img)) k first))) × Low (numbers ds)
+    (k ≤ count) × (length ds ≡ inputTermLimit)
+    × (numbers ds ≡ sets (numbers ds₀) first (degreesAt (x .0) (tab (termAt (wordAt img)) k first))) × Low (numbers ds)
 
 abbrev μ-loop2 : tie.MeasureT-loop2
 μ-loop2 img h xs n ds₀ first i count x k₀ ds k = count - k
@@ -39,7 +40,8 @@ abbrev μ-loop2 : tie.MeasureT-loop2
 abbrev Inv-loop : tie.InvT-loop
 Inv-loop img h xs n ds₀ first₀ i₀ ds first i =
     (i ≤ n) × (n ≤ inputLimit) × (first ≡ sums (inputCount (wordAt img)) i 0) × (first ≤ termLimit * i)
-    × (numbers ds ≡ sets (replicate inputTermLimit 0) 0 (termDegrees (tab (inputAt (wordAt img)) i 0) (figures xs))) × Low (numbers ds) × (length ds ≡ inputTermLimit)
+    × (numbers ds ≡ sets (replicate inputTermLimit 0) 0 (termDegrees (tab (inputAt (wordAt img)) i 0) (figures xs)))
+    × Low (numbers ds) × (length ds ≡ inputTermLimit)
 
 abbrev μ-loop : tie.MeasureT-loop
 μ-loop img h xs n ds₀ first₀ i₀ ds first i = n - i
@@ -50,7 +52,8 @@ start c = c .before .before .before .before .before
 below : (c : tie.After-whole-word Inv-loop2 μ-loop2 Inv-loop μ-loop) → c .before .before .before .loop .i < wordAt (start c .args .img .now) 2
 below c = omega (arith, c .before .before .loop-test .taken, start c .pre .0 .heads .inputs)
 
-count : (c : tie.After-whole-word Inv-loop2 μ-loop2 Inv-loop μ-loop) → c .whole-word .result ≡ inputCount (wordAt (start c .args .img .now)) (c .before .before .before .loop .i)
+count : (c : tie.After-whole-word Inv-loop2 μ-loop2 Inv-loop μ-loop)
+    → c .whole-word .result ≡ inputCount (wordAt (start c .args .img .now)) (c .before .before .before .loop .i)
 count c =
     let w = wordAt (start c .args .img .now) in
     c .whole-word .ensures .0 ∙ ap (λ (o : ℕ). w (o + 6)) (c .before .input-row .ensures .0 w (start c .pre .0 .heads))
@@ -77,7 +80,8 @@ unfolding tab termDegrees sums
 loop-holds c =
     let s = c .before in
     let few = input-limit (wordAt (s .args .img .now)) (s .pre .0 .sound) in
-    (search needs, omega (arith, s .pre .0 .heads .inputs, few), refl, search needs, refl, each-start (λ (n : ℕ). n ≤ M) 0 inputTermLimit (omega arith), search needs)
+    let low = each-start (λ (n : ℕ). n ≤ M) 0 inputTermLimit (omega arith) in
+    (search needs, omega (arith, s .pre .0 .heads .inputs, few), refl, search needs, refl, low, search needs)
 
 input-row-requires : tie.Need-input-row-requires Inv-loop2 μ-loop2 Inv-loop μ-loop
 input-row-requires c κs = let h = c .before .before .before .pre .0 .heads in omega (arith, h .input-table, h .fits 9, c .before .loop .inv)

@@ -62,7 +62,9 @@ input-terms-requires c κs =
     let w = wordAt (s .args .img .now) in
     let r = reads-are v in
     let i = s .args .i in
-    let t = accepted-terms w i (v .before .whole-word .result) (v .whole-word2 .result) (s .pre .0 .sound) (s .pre .1) (r .0 ∙ first-is w i (s .pre .0 .sound) (s .pre .1)) (r .1) in (
+    let sound = s .pre .0 .sound in
+    let first = r .0 ∙ first-is w i sound (s .pre .1) in
+    let t = accepted-terms w i (v .before .whole-word .result) (v .whole-word2 .result) sound (s .pre .1) first (r .1) in (
       (
         s .pre .0,
         omega (arith, r .0, r .1, input-terms-within w (s .pre .0 .sound .frame) i (s .pre .1) .0),

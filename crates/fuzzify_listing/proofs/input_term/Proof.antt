@@ -30,7 +30,8 @@ within : (c : tie.After-term-row) → (c .term-row .result + 6) * 4 ≤ length (
 within c =
     let s = c .before .before .before in
     let h = s .pre .0 .0 .heads in
-    omega (arith, c .term-row .ensures .0 (wordAt (s .args .img .now)) h, h .term-table, s .pre .0 .0 .holds .terms, h .terms, s .pre .0 .1, inputs-first (wordAt (s .args .img .now)) (s .pre .0 .0 .sound .frame))
+    let few = inputs-first (wordAt (s .args .img .now)) (s .pre .0 .0 .sound .frame) in
+    omega (arith, c .term-row .ensures .0 (wordAt (s .args .img .now)) h, h .term-table, s .pre .0 .0 .holds .terms, h .terms, s .pre .0 .1, few)
 
 term-row-requires : tie.Need-term-row-requires
 term-row-requires c κs =

@@ -6,6 +6,7 @@ use native.Mathlib.Numerals.{add-one}
 use native.Mathlib.Omega.{arith}
 use lib.ListN.{length, take, set, length-set}
 use lib.Seq.{take-suc-set}
+use Rattle.model.specs.Bounds.{pointLimit}
 use Rattle.model.specs.Image.{wordAt, tab, pointAt}
 use Rattle.terms.specs.declared.Point.{Point}
 use Rattle.terms.specs.Points.{pointView, pointViews}
@@ -14,7 +15,7 @@ use Rattle.fuzzify_listing.proofs.term_points.Statement.{statement}
 use Rattle.fuzzify_listing.proofs.term_points.Tie as tie
 
 abbrev Inv-loop : tie.InvT-loop
-Inv-loop img h first n ps₀ k₀ ps k = (k ≤ n) × (length ps ≡ 4) × (pointViews ps k ≡ tab (pointAt (wordAt img)) k first)
+Inv-loop img h first n ps₀ k₀ ps k = (k ≤ n) × (length ps ≡ pointLimit) × (pointViews ps k ≡ tab (pointAt (wordAt img)) k first)
 
 abbrev μ-loop : tie.MeasureT-loop
 μ-loop img h first n ps₀ k₀ ps k = n - k

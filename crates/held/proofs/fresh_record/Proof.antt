@@ -18,7 +18,8 @@ use Rattle.held.proofs.fresh_record.Tie as tie
 
 abbrev Inv-loop : tie.InvT-loop
 Inv-loop img h figures₀ n i₀ figures i =
-    (i ≤ n) × (n ≤ outputLimit) × (figures ≡ tab (λ j. record { 0 = startOf (outputAt (wordAt img) j .range) }) i 0 ++ replicate (outputLimit - i) (record { 0 = pos 0 }))
+    (i ≤ n) × (n ≤ outputLimit)
+    × (figures ≡ tab (λ j. record { 0 = startOf (outputAt (wordAt img) j .range) }) i 0 ++ replicate (outputLimit - i) (record { 0 = pos 0 }))
 
 abbrev μ-loop : tie.MeasureT-loop
 μ-loop img h figures₀ n i₀ figures i = n - i

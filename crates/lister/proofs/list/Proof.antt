@@ -7,7 +7,7 @@ use Rattle.model.specs.Image.{isImageOf}
 use Rattle.model.specs.Listing.{listing}
 use Rattle.laws.proofs.Buffers.{too-short, stored}
 use Rattle.load.specs.Judged.{Judged}
-use Rattle.lister.proofs.Answers.{block, not-listed, listed, short}
+use Rattle.lister.proofs.Answers.{longest, block, not-listed, listed, short}
 use Rattle.listing_writer.proofs.Prepends.{counted, copied}
 use borrow.Author.Needs.{needs}
 use Rattle.lister.proofs.list.Statement.{statement}
@@ -25,8 +25,8 @@ taken c =
 -- how long its listing is
 long : (c : tie.After-block) →
     let img = c .before .before .before .before .before .before .before .before .before .args .img .now in
-    (c .block .result ≡ length (listing (block img))) × (c .block .result ≤ 31421)
-long c = counted 31421 _ _ _ _ (search needs) (omega arith) (short _ (taken c)) (c .block .ensures)
+    (c .block .result ≡ length (listing (block img))) × (c .block .result ≤ longest)
+long c = counted longest _ _ _ _ (search needs) (omega arith) (short _ (taken c)) (c .block .ensures)
 
 examine-requires : tie.Need-examine-requires
 examine-requires c κs = search needs
@@ -87,7 +87,7 @@ returns-3 c =
     let w = i .before .before in
     let a = w .before .before .before .before .before .before .before .before .before .args in
     let img = a .img .now in
-    let text = copied 31421 _ _ _ _ (search needs) (omega arith) (short img (taken w)) (w .block .ensures) (a .out .now) _ (copy .copy .ensures .1) in
+    let text = copied longest _ _ _ _ (search needs) (omega arith) (short img (taken w)) (w .block .ensures) (a .out .now) _ (copy .copy .ensures .1) in
     rw (listed img (taken w) (length (a .out .now)))
     (stored (listing (block img)) (a .out .now) _ (sym (long w .0)) _ (i .if1 .left) text)
 

@@ -84,7 +84,8 @@ returns c =
     let o = r .before .before in
     let s = o .before .before .before in
     let w = wordAt (s .args .img .now) in
-    let e = rule-conclusions w (s .pre .0 .sound) (s .args .i) (inside s) _ _ _ (o .rule-row .ensures .0 w (s .pre .0 .heads)) (r .before .whole-word .ensures .0) (r .whole-word2 .ensures .0) in
+    let row = o .rule-row .ensures .0 w (s .pre .0 .heads) in
+    let e = rule-conclusions w (s .pre .0 .sound) (s .args .i) (inside s) _ _ _ row (r .before .whole-word .ensures .0) (r .whole-word2 .ensures .0) in
     rw (← e) (commaed-empty (conclusionText (decode w)) (conclusionAt w) _ _ (c .if1 .taken))
 
 sub-j : tie.Need-sub-j Inv-loop μ-loop
@@ -156,9 +157,12 @@ returns-2 c =
     let w = wordAt (s .args .img .now) in
     let f = conclusionText (decode w) in
     let g = conclusionAt w in
-    let e = rule-conclusions w (s .pre .0 .sound) (s .args .i) (inside s) _ _ _ (o .rule-row .ensures .0 w (s .pre .0 .heads)) (r .before .whole-word .ensures .0) (r .whole-word2 .ensures .0) in
-    let last = commaed-last f g (r .before .whole-word .result) (r .whole-word2 .result) _ (r .whole-word2 .result) _ (omega (arith, first .before .before .if1 .left)) refl (first .conclusion .ensures) in
-    rw (← e) (commaed-all f g (r .before .whole-word .result) (r .whole-word2 .result) _ (l .loop .j) _ (omega arith) (l .loop .inv .1 _ _ last))
+    let row = o .rule-row .ensures .0 w (s .pre .0 .heads) in
+    let e = rule-conclusions w (s .pre .0 .sound) (s .args .i) (inside s) _ _ _ row (r .before .whole-word .ensures .0) (r .whole-word2 .ensures .0) in
+    let from = r .before .whole-word .result in
+    let n = r .whole-word2 .result in
+    let last = commaed-last f g from n _ n _ (omega (arith, first .before .before .if1 .left)) refl (first .conclusion .ensures) in
+    rw (← e) (commaed-all f g from n _ (l .loop .j) _ (omega arith) (l .loop .inv .1 _ _ last))
 
 pub conclusions-spec : {M : Type 1} → statement M
 conclusions-spec =

@@ -115,7 +115,8 @@ returns c =
     let condition = joined (joined conclusions (w4 .puts2 .ensures)) (w5 .rule-condition .ensures) in
     let line = joined (joined (joined condition (w6 .puts3 .ensures)) (w7 .digits .ensures)) (w8 .puts4 .ensures) in
     let number = w1 .before .before .before in
-    rw (rule-line w (s .args .i) _ _ _ (o .rule-row .ensures .0 w (s .pre .0 .heads)) (number .whole-word .ensures .0) (w2 .before .whole-word2 .ensures .0)) line
+    let row = o .rule-row .ensures .0 w (s .pre .0 .heads) in
+    rw (rule-line w (s .args .i) _ _ _ row (number .whole-word .ensures .0) (w2 .before .whole-word2 .ensures .0)) line
 
 pub rule-spec : {M : Type 1} → statement M
 rule-spec =
