@@ -8,11 +8,11 @@ use borrow.Author.Tests.{eqb-true, eqb-false}
 use lib.Dec.{eqb}
 use lib.ListN.{length, getD, set, replicate, length-map}
 use lib.Seq.{getD-set-same, getD-set-other}
-use Rattle.model.specs.Basic.{if_then_else_, gather}
+use Rattle.model.specs.Basic.{if_then_else_, gather, tab}
 use Rattle.model.specs.declared.Accumulation.{Accumulation}
 use Rattle.model.specs.Block.{Conclusion, Rule, Block}
 use Rattle.model.specs.Evaluation.{ruleDegree, accumulated, accumulateAll, subconclusions, height}
-use Rattle.model.specs.Image.{tab, accuOf, decode, ruleAt, RULES, ACCU-WORD}
+use Rattle.model.specs.Image.{accuOf, decode, ruleAt, RULES, ACCU-WORD}
 use Rattle.model.specs.declared.Degree.{Degree}
 use Rattle.laws.proofs.Arrays.{replicate-at}
 use Rattle.degrees.specs.Tables.{numbers}

@@ -9,12 +9,12 @@ use native.Mathlib.Omega.{arith}
 use borrow.Author.Tests.{leb-true, eqb-true, eqb-false}
 use lib.Dec.{leb, eqb}
 use lib.ListN.{length, getD}
-use Rattle.model.specs.Basic.{gather}
+use Rattle.model.specs.Basic.{gather, tab}
 use Rattle.model.specs.Bounds.{depthLimit}
 use Rattle.model.specs.declared.Pair.{Pair}
 use Rattle.model.specs.Block.{Condition, term, neg, two, inputTerms}
 use Rattle.model.specs.Degrees.{notOf, conditionDegree}
-use Rattle.model.specs.Image.{tab, postfix, ruleAt, decode, RULES, WORDS, WORD-TABLE}
+use Rattle.model.specs.Image.{postfix, ruleAt, decode, RULES, WORDS, WORD-TABLE}
 use Rattle.model.specs.Parentheses.{depth}
 use Rattle.model.specs.WellFormed.{termsBelow, conditionOk}
 use Rattle.laws.proofs.Tests.{both, passed}

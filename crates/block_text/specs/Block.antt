@@ -6,11 +6,10 @@ use mathlib.Core.List.{List}
 use Prim.Native.Nat.{ℕ, _+_}
 use lib.Dec.{ltb}
 use Rattle.model.specs.Block.{withName}
-use Rattle.model.specs.Basic.{_▸_, all}
+use Rattle.model.specs.Basic.{_▸_, all, tab}
 use Rattle.model.specs.Keywords.{END, NAME, DEFUZZIFY, END-RULEBLOCK, END-VAR, FUNCTION-BLOCK, FUZZIFY, VAR-INPUT, VAR-OUTPUT}
 use Rattle.model.specs.Parse.{Parse, Part, expect, repeated, ownName}
 use Rattle.model.specs.Declarations.{inputDeclaration, outputDeclaration, fuzzify, defuzzify}
-use Rattle.model.specs.Image.{tab}
 use Rattle.model.specs.Reader.{endOfBlock}
 use Rattle.symbol_table.specs.Symbols.{first}
 

@@ -6,7 +6,7 @@ use Prim.Native.Nat.{ℕ, _+_, _*_, _≤_, _<_}
 use native.Mathlib.Omega.{arith}
 use lib.ListN.{length, set, length-set}
 use lib.Seq.{slice, getD-set-same, getD-set-other}
-use Rattle.model.specs.Image.{tab}
+use Rattle.model.specs.Basic.{tab}
 use Rattle.model.specs.Declarations.{addOutput}
 use Rattle.lookup.specs.Names.{nameOf}
 use Rattle.lookup.proofs.Names.{name-same, name-other, placed-set}

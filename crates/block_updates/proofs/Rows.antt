@@ -7,8 +7,8 @@ use native.Mathlib.Nat.{zero-add}
 use native.Mathlib.Omega.{arith}
 use lib.ListN.{set, length-set}
 use lib.Seq.{slice, getD-set-same, getD-set-other}
+use Rattle.model.specs.Basic.{tab}
 use Rattle.model.specs.Block.{Output as Output′, withRange, withDefault}
-use Rattle.model.specs.Image.{tab}
 use Rattle.model.specs.Declarations.{changeOutput}
 use Rattle.lookup.specs.Names.{nameOf}
 use Rattle.model.specs.declared.Crisp.{Crisp}

@@ -4,8 +4,7 @@ use mathlib.Core.List.{List, [], _∷_, _++_, map}
 use Prim.Native.Nat.{ℕ, zero, suc, _+_, _≤_, _<_}
 use native.Mathlib.Omega.{arith}
 use lib.ListN.{take, drop, getD, set}
-use Rattle.model.specs.Basic.{update}
-use Rattle.model.specs.Image.{tab}
+use Rattle.model.specs.Basic.{update, tab}
 use Rattle.laws.proofs.Places.{tab-last, tab-ext}
 use Rattle.laws.proofs.Arrays.{each-set}
 

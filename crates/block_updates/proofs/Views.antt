@@ -3,8 +3,7 @@ use mathlib.Core.Path.{_≡_, ap, _∙_}
 use mathlib.Core.List.{List}
 use Prim.Native.Nat.{ℕ, _+_, _*_, _<_}
 use lib.ListN.{getD}
-use Rattle.model.specs.Basic.{if_then_else_}
-use Rattle.model.specs.Image.{tab}
+use Rattle.model.specs.Basic.{if_then_else_, tab}
 use Rattle.model.specs.declared.InputType.the-variants.{Real as real, Int as int}
 use Rattle.laws.proofs.Places.{tab-ext}
 use Rattle.lookup.specs.Names.{nameOf}

@@ -11,10 +11,9 @@ use lib.Dec.{ltb, eqb}
 use lib.IntN.{ℤ, pos, natAbs}
 use lib.ListN.{length, replicate}
 use lib.Signed.{leZ, ltZ, ≤ℤ-refl}
-use Rattle.model.specs.Basic.{if_then_else_, all, isEmpty}
+use Rattle.model.specs.Basic.{if_then_else_, all, isEmpty, tab}
 use Rattle.model.specs.Bounds.{outputLimit}
 use Rattle.model.specs.Block.{Range, Output, Block, outputFirst, inRange}
-use Rattle.model.specs.Image.{tab}
 use Rattle.model.specs.Tokens.{isName, inCrisp}
 use Rattle.model.specs.WellFormed.{rangeOk, figureOk, defaultOk, singletonOk, outputOk}
 use Rattle.model.specs.Degrees.{nearestℤ}

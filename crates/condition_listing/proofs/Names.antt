@@ -5,9 +5,9 @@ use Prim.Native.Nat.{ℕ, suc, _+_, _-_, _≤_, _<_}
 use native.Mathlib.Omega.{arith}
 use lib.ListN.{length, getD, length-map, List·getD-append}
 use lib.Seq.{getD-append-add}
-use Rattle.model.specs.Basic.{gather}
+use Rattle.model.specs.Basic.{gather, tab}
 use Rattle.model.specs.Block.{Term, Input}
-use Rattle.model.specs.Image.{tab, nameAt, termAt, inputAt, decode, inputPlace, termPlace}
+use Rattle.model.specs.Image.{nameAt, termAt, inputAt, decode, inputPlace, termPlace}
 use Rattle.model.specs.Listing.{TermNames, inputTermNames, inputTermName}
 use Rattle.laws.proofs.Lists.{map-tab}
 use Rattle.laws.proofs.Places.{length-tab, tab-nth}

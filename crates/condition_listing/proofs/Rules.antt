@@ -1,7 +1,8 @@
 -- Where the condition of a rule lies in an accepted image.
 use mathlib.Core.Path.{_≡_, sym, _∙_}
 use Prim.Native.Nat.{ℕ, _+_, _<_}
-use Rattle.model.specs.Image.{postfix, tab, ruleAt}
+use Rattle.model.specs.Basic.{tab}
+use Rattle.model.specs.Image.{postfix, ruleAt}
 use Rattle.laws.proofs.Places.{same-eq, tab-from}
 use Rattle.layout.specs.Tables.{wordCount, conditionExact}
 use Rattle.layout.specs.Groups.{Sound}

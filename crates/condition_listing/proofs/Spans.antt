@@ -7,8 +7,9 @@ use native.Mathlib.Omega.{arith}
 use borrow.Author.Tests.{eqb-true, eqb-false, ne-eqb}
 use lib.Dec.{eqb}
 use lib.ListN.{length, length-append}
+use Rattle.model.specs.Basic.{tab}
 use Rattle.model.specs.Block.{Op, and, or, Condition, term, neg, two}
-use Rattle.model.specs.Image.{opWord, postfix, tab}
+use Rattle.model.specs.Image.{opWord, postfix}
 use Rattle.model.specs.Parentheses.{rank, negatedForm, form}
 use Rattle.laws.proofs.Places.{At, at-cut, at-tab, length-tab}
 use Rattle.stored_conditions.specs.Machine.{NOT-WORD, TERM-WORD, operatorOf}

@@ -7,9 +7,10 @@ use lib.IntN.{ℤ, pos}
 use lib.ListN.{length, getD, drop, replicate}
 use lib.Seq.{drop-cons}
 use borrow.Author.Tests.{lt-ltb, le-ltb}
+use Rattle.model.specs.Basic.{tab}
 use Rattle.model.specs.Bounds.{outputLimit}
 use Rattle.model.specs.Block.{Output}
-use Rattle.model.specs.Image.{tab, singletonAt, outputAt, decode}
+use Rattle.model.specs.Image.{singletonAt, outputAt, decode}
 use Rattle.model.specs.Degrees.{nearestℤ}
 use Rattle.model.specs.Evaluation.{moment, sumOf, answerWith, unfired, outputAnswer, outputAnswers, noAnswer, padded, heldOf}
 use Rattle.model.specs.declared.Mark.the-variants.{Fired}

@@ -4,8 +4,9 @@ use mathlib.Core.List.{List}
 use Prim.Native.Nat.{ℕ, _-_, _≤_}
 use lib.IntN.{ℤ}
 use lib.ListN.{getD}
+use Rattle.model.specs.Basic.{tab}
 use Rattle.model.specs.Bounds.{M}
-use Rattle.model.specs.Image.{tab, singletonAt, decode}
+use Rattle.model.specs.Image.{singletonAt, decode}
 use Rattle.model.specs.Evaluation.{outputAnswers, figuresOf}
 use Rattle.model.specs.declared.Answer.{Answer}
 use Rattle.model.specs.declared.Degree.{Degree}

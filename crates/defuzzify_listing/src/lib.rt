@@ -1,7 +1,7 @@
 // The DEFUZZIFY parts of an accepted image as a listing prints them. Each text is written from its end to its front.
 ghost use Prim.Native.Nat.{_+_, _≤_, _<_};
-ghost use Rattle.model.specs.Basic.{gather};
-ghost use Rattle.model.specs.Image.{wordAt, tab, singletonAt, outputAt, decode};
+ghost use Rattle.model.specs.Basic.{gather, tab};
+ghost use Rattle.model.specs.Image.{wordAt, singletonAt, outputAt, decode};
 ghost use Rattle.model.specs.Listing.{rangeLine, singletonLine, defaultText, defuzzifyText};
 ghost use Rattle.layout.specs.Tables.{inputTermsIn};
 ghost use Rattle.layout.specs.Checked.{Checked};

@@ -6,10 +6,11 @@ use native.Mathlib.Omega.{arith}
 use lib.IntN.{ℤ, pos}
 use lib.ListN.{length, length-append, length-map, getD, replicate}
 use lib.Seq.{sets}
+use Rattle.model.specs.Basic.{tab}
 use Rattle.model.specs.Block.{Term, Input}
 use Rattle.model.specs.Degrees.{termDegree}
 use Rattle.model.specs.Evaluation.{termDegrees}
-use Rattle.model.specs.Image.{tab, termAt, inputAt}
+use Rattle.model.specs.Image.{termAt, inputAt}
 use Rattle.laws.proofs.Places.{length-tab}
 use Rattle.layout.specs.Tables.{sums, inputCount}
 use Rattle.layout.specs.Groups.{Sound}

@@ -5,7 +5,7 @@ use Prim.Native.Nat.{ℕ, zero, suc, _+_, _-_, _≤_}
 use native.Mathlib.Omega.{arith}
 use lib.ListN.{length, drop, getD, set, replicate, length-replicate}
 use lib.Seq.{sets, sets-eq}
-use Rattle.model.specs.Image.{tab}
+use Rattle.model.specs.Basic.{tab}
 use Rattle.laws.proofs.Lists.{tab-append, sets-append}
 use Rattle.laws.proofs.Arrays.{replicate-at, map-set}
 use Rattle.fuzzification.specs.Filled.{filled}

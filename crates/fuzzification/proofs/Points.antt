@@ -6,9 +6,9 @@ use Prim.Native.Nat.{ℕ, zero, suc, _+_, _-_, _≤_, _<_}
 use native.Mathlib.Omega.{arith}
 use lib.IntN.{ℤ}
 use lib.Signed.{ltZ}
+use Rattle.model.specs.Basic.{tab}
 use Rattle.model.specs.Block.{Point}
 use Rattle.model.specs.Degrees.{onLine, degreeFrom, termDegree}
-use Rattle.model.specs.Image.{tab}
 use Rattle.laws.proofs.Places.{step, gone}
 
 module _ (f : ℕ → Point) (x : ℤ) where

@@ -9,13 +9,14 @@ use lib.IntN.{ℤ, pos}
 use lib.ListN.{length, getD}
 use types.Run.{OneOf}
 use denote.Enum.Declared.{tagOf}
+use Rattle.model.specs.Basic.{tab}
 use Rattle.model.proofs.Taken.{the-type}
 use Rattle.model.specs.Block.{Input}
 use Rattle.model.specs.declared.InputType.{InputType}
 use Rattle.model.specs.Outcome.{Outcome, accepted, refused, andThen}
 use Rattle.model.specs.Readings.{taken, valueIn}
 use Rattle.model.specs.Evaluation.{valuesOf}
-use Rattle.model.specs.Image.{tab, inputAt, decode}
+use Rattle.model.specs.Image.{inputAt, decode}
 use Rattle.model.specs.declared.Reading.{Reading}
 use Rattle.model.specs.declared.Taken.{Taken}
 use Rattle.model.specs.declared.Taken.the-variants.{Value, Absent as Missing, NotFinite, WrongKind}

@@ -4,8 +4,8 @@ use mathlib.Core.List.{List, [], _∷_, map}
 use Prim.Native.Nat.{ℕ, zero, suc, _+_, _≤_}
 use native.Mathlib.Omega.{arith}
 use lib.ListN.{length, take, getD}
+use Rattle.model.specs.Basic.{tab}
 use Rattle.model.specs.Block.{Point as BlockPoint}
-use Rattle.model.specs.Image.{tab}
 use Rattle.laws.proofs.Lists.{map-tab}
 use Rattle.laws.proofs.Places.{tab-ext}
 use Rattle.terms.specs.declared.Point.{Point}

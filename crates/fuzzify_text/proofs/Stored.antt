@@ -8,8 +8,7 @@ use lib.ListN.{length, getD, set, length-set}
 use lib.Seq.{slice, getD-set-same, getD-set-other}
 use Rattle.model.specs.Block as block
 use Rattle.model.specs.Block.{withTerms}
-use Rattle.model.specs.Basic.{if_then_else_}
-use Rattle.model.specs.Image.{tab}
+use Rattle.model.specs.Basic.{if_then_else_, tab}
 use Rattle.model.specs.declared.InputType.the-variants.{Real as real, Int as int}
 use Rattle.laws.proofs.Places.{tab-ext}
 use Rattle.lookup.specs.Names.{nameOf}

@@ -11,9 +11,8 @@ use lib.Dec.{eqb}
 use lib.IntN.{ℤ}
 use lib.ListN.{length, getD, replicate}
 use mir.Val.{boolByte}
-use Rattle.model.specs.Basic.{if_then_else_}
+use Rattle.model.specs.Basic.{if_then_else_, tab}
 use Rattle.model.specs.Block.{Input}
-use Rattle.model.specs.Image.{tab}
 use Rattle.model.specs.Outcome.{Outcome, accepted, refused, andThen}
 use Rattle.model.specs.Refusals.{numberAndPlace, writtenOf, verdictOf}
 use Rattle.model.specs.Readings.{taken, valueIn}

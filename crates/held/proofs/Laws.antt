@@ -12,10 +12,10 @@ use lib.Seq.{drop-cons}
 use lib.Signed.{leZ, ltZ}
 use borrow.Author.Tests.{ltb-true, eq-eqb, ne-eqb}
 use native.Mathlib.Decide.{ℕ-discrete}
-use Rattle.model.specs.Basic.{all}
+use Rattle.model.specs.Basic.{all, tab}
 use Rattle.model.specs.Bounds.{outputLimit}
 use Rattle.model.specs.Block.{Range}
-use Rattle.model.specs.Image.{crispOf, outputPlace, outputAt, tab}
+use Rattle.model.specs.Image.{crispOf, outputPlace, outputAt}
 use Rattle.model.specs.Evaluation.{heldOf, heldOk}
 use Rattle.laws.proofs.Places.{length-tab}
 use Rattle.laws.proofs.Arrays.{map-replicate}

@@ -9,11 +9,11 @@ use lib.Dec.{ltb}
 use lib.ListN.{length, getD, take, drop, length-append, length-map}
 use lib.Seq.{drop-cons, length-take-le}
 use borrow.Author.Tests.{lt-ltb, le-ltb}
-use Rattle.model.specs.Basic.{if_then_else_, gather}
+use Rattle.model.specs.Basic.{if_then_else_, gather, tab}
 use Rattle.model.specs.Bounds.{M}
 use Rattle.model.specs.Block as block
 use Rattle.model.specs.declared.InputType.the-variants.{Real as real, Int as int}
-use Rattle.model.specs.Image.{tab, singletonTerm, typeWord, rangeWords, defaultWords, nameWords, inputTable, termTable, pointWords}
+use Rattle.model.specs.Image.{singletonTerm, typeWord, rangeWords, defaultWords, nameWords, inputTable, termTable, pointWords}
 use Rattle.laws.proofs.Lists.{map-tab, gather-append}
 use Rattle.laws.proofs.Places.{length-tab, tab-ext}
 use Rattle.lookup.specs.Names.{nameOf}

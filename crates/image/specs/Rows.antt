@@ -7,9 +7,9 @@ use Prim.Native.Nat.{ℕ, zero, suc, _+_, _*_, _-_, _%_, _^_, _≤_, _<_}
 use lib.Dec.{ltb}
 use lib.IntN.{ℤ}
 use lib.ListN.{length, getD, take}
-use Rattle.model.specs.Basic.{if_then_else_}
+use Rattle.model.specs.Basic.{if_then_else_, tab}
 use Rattle.model.specs.Bounds.{M, inputLimit, outputLimit, termLimit, pointLimit, ruleLimit, wordLimit, conclusionLimit, variableLimit, inputTermLimit, allTermLimit}
-use Rattle.model.specs.Image.{crispWord, nameWords, endOf, offsets, headerSize, widths, tab}
+use Rattle.model.specs.Image.{crispWord, nameWords, endOf, offsets, headerSize, widths}
 use Rattle.model.specs.declared.Crisp.{Crisp}
 use Rattle.lookup.specs.Names.{nameOf}
 use Rattle.block_tables.specs.declared.Input.{Input}

@@ -8,11 +8,11 @@ use borrow.Author.Tests.{leb-true, eqb-true, eq-eqb, ne-eqb, lt-ltb, le-ltb}
 use lib.Dec.{leb, eqb}
 use lib.IntN.{ℤ, pos, negsuc}
 use lib.ListN.{length, take, getD}
-use Rattle.model.specs.Basic.{between, all, run, gather}
+use Rattle.model.specs.Basic.{between, all, run, gather, tab}
 use Rattle.model.specs.Bounds.{crispLimit, nameLimit}
 use Rattle.model.specs.Keywords.{isKeyword}
 use Rattle.model.specs.Tokens.{startsName, isDigit, isNameByte, isUnderscore, starts, tidy, isName, inCrisp}
-use Rattle.model.specs.Image.{wordBytes, bytesOf, wordAt, crispWord, crispOf, nameWords, nameAt, tab}
+use Rattle.model.specs.Image.{wordBytes, bytesOf, wordAt, crispWord, crispOf, nameWords, nameAt}
 use Rattle.laws.proofs.Tests.{both}
 use Rattle.laws.proofs.Places.{At, tab-at}
 use Rattle.laws.proofs.Each.{Each, each-passes, each-so, each-at}

@@ -10,7 +10,7 @@ use borrow.Author.Tests.{leb-true}
 use lib.Dec.{leb, eqb}
 use lib.IntN.{ℤ}
 use lib.Signed.{ltZ}
-use Rattle.model.specs.Basic.{if_then_else_, gather, same}
+use Rattle.model.specs.Basic.{if_then_else_, gather, same, tab}
 use Rattle.model.specs.Outcome.{accepted, refused}
 use Rattle.model.specs.Bounds.{M}
 use Rattle.model.specs.Block.{Point, Term, Input, Range, Output, Block, inputTerms, outputTerms, inRange}
@@ -22,7 +22,7 @@ use Rattle.model.specs.declared.Activation.{Activation}
 use Rattle.model.specs.declared.Activation.the-variants.{Min, Prod}
 use Rattle.model.specs.Tokens.{isName, inCrisp}
 use Rattle.model.specs.WellFormed.{unitOk, pointOk, termOk, inputOk, rangeOk, figureOk, defaultOk, singletonOk, outputOk, wellFormed}
-use Rattle.model.specs.Image.{wordAt, pairWord, accuWord, actWord, nameWords, singletonTerm, terms, points, words, image, tab, inputAt, outputAt, ruleAt, pairOf, accuOf, actOf, decode, isImageOf, loads}
+use Rattle.model.specs.Image.{wordAt, pairWord, accuWord, actWord, nameWords, singletonTerm, terms, points, words, image, inputAt, outputAt, ruleAt, pairOf, accuOf, actOf, decode, isImageOf, loads}
 use Rattle.laws.proofs.Places.{At, at-cut, tab-at, same-eq, same-refl}
 use Rattle.laws.proofs.Tests.{both, and-i, passed}
 use Rattle.words.proofs.Bytes.{words-at}

@@ -9,13 +9,13 @@ use native.Mathlib.Nat.{suc-mul}
 use lib.Dec.{eqb}
 use lib.IntN.{ℤ}
 use lib.ListN.{length}
-use Rattle.model.specs.Basic.{if_then_else_, gather}
+use Rattle.model.specs.Basic.{if_then_else_, gather, tab}
 use Rattle.model.specs.Bounds.{M}
 use Rattle.model.specs.Block.{Point, Term, Singleton, Input, Range, Output, Conclusion, Rule, Block, inputTerms, outputTerms, conclusions, size}
 use Rattle.model.specs.declared.InputType.{InputType}
 use Rattle.model.specs.declared.InputType.the-variants.{Real, Int}
 use Rattle.model.specs.Tokens.{inCrisp}
-use Rattle.model.specs.Image.{crispOf, nameWords, nameAt, typeWord, rangeWords, defaultWords, pointWords, postfix, singletonTerm, terms, points, conclusionWords, tab, pointAt, termAt, singletonAt, inputAt, outputAt, conclusionAt, treeOf, ruleAt}
+use Rattle.model.specs.Image.{crispOf, nameWords, nameAt, typeWord, rangeWords, defaultWords, pointWords, postfix, singletonTerm, terms, points, conclusionWords, pointAt, termAt, singletonAt, inputAt, outputAt, conclusionAt, treeOf, ruleAt}
 use Rattle.laws.proofs.Conditions.{length-postfix}
 use Rattle.laws.proofs.Places.{At, at-shift, at-cut, tab-at, tab-from}
 use Rattle.layout.specs.Rows.{laid}

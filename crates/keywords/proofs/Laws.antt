@@ -10,8 +10,7 @@ use borrow.Author.Tests.{eq-eqb, ne-eqb, eqb-true}
 use lib.Dec.{eqb}
 use lib.ListN.{length, drop, getD}
 use lib.Seq.{drop-cons}
-use Rattle.model.specs.Basic.{all, capital, capitals, same, alike, indexOf}
-use Rattle.model.specs.Image.{tab}
+use Rattle.model.specs.Basic.{all, capital, capitals, same, alike, indexOf, tab}
 use Rattle.model.specs.Keywords.{keywords, keywordAt}
 use Rattle.laws.proofs.Finding.{all-map}
 use Rattle.laws.proofs.Lists.{all-at}

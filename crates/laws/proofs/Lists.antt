@@ -7,10 +7,9 @@ use native.Mathlib.Nat.{suc-mul, zero-mul}
 use native.Mathlib.Omega.{arith}
 use lib.ListN.{length, set, length-append}
 use lib.Seq.{sets}
-use Rattle.model.specs.Basic.{updateLast, all, total, gather}
+use Rattle.model.specs.Basic.{updateLast, all, total, gather, tab}
 use Rattle.model.specs.Block.{Term}
 use Rattle.model.specs.Declarations.{lastPoints}
-use Rattle.model.specs.Image.{tab}
 use Rattle.laws.proofs.Tests.{both, and-assoc}
 
 pub map-tab : {A B : Type 0} (f : A → B) (g : ℕ → A) (n p : ℕ) → map f (tab g n p) ≡ tab (λ i. f (g i)) n p

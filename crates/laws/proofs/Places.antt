@@ -9,8 +9,7 @@ use lib.Dec.{eqb}
 use lib.ListN.{length, getD, take, set, replicate, List·getD-map}
 use lib.Seq.{take-suc-set, getD-take, set-at, append-snoc}
 use borrow.Author.Tests.{eq-eqb, eqb-true}
-use Rattle.model.specs.Basic.{all, distinct, same}
-use Rattle.model.specs.Image.{tab}
+use Rattle.model.specs.Basic.{all, distinct, same, tab}
 use Rattle.laws.proofs.Tests.{both, and-i}
 
 -- the list xs stands in f from o on

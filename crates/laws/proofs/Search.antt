@@ -6,8 +6,7 @@ use Prim.Native.Nat.{ℕ, suc, _+_, _-_, _≤_, _<_}
 use native.Mathlib.Omega.{arith}
 use lib.Dec.{eqb}
 use lib.ListN.{length}
-use Rattle.model.specs.Basic.{same, indexOf}
-use Rattle.model.specs.Image.{tab}
+use Rattle.model.specs.Basic.{same, indexOf, tab}
 use Rattle.laws.proofs.Places.{step, gone}
 
 pub other-length : (v w : List ℕ) → (length v ≡ length w → ⊥) → same v w ≡ false

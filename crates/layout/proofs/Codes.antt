@@ -5,14 +5,14 @@ use Prim.Native.Nat.{ℕ, suc, _+_, _≤_}
 use native.Mathlib.Omega.{arith}
 use lib.Dec.{eqb}
 use borrow.Author.Tests.{eqb-true}
-use Rattle.model.specs.Basic.{all}
+use Rattle.model.specs.Basic.{all, tab}
 use Rattle.model.specs.declared.Pair.{Pair}
 use Rattle.model.specs.declared.Pair.the-variants.{MinMax, ProdAsum, BdifBsum}
 use Rattle.model.specs.declared.Accumulation.{Accumulation}
 use Rattle.model.specs.declared.Accumulation.the-variants.{Max, Bsum}
 use Rattle.model.specs.declared.Activation.{Activation}
 use Rattle.model.specs.declared.Activation.the-variants.{Min, Prod}
-use Rattle.model.specs.Image.{tab, pairWord, pairOf, accuWord, accuOf, actWord, actOf}
+use Rattle.model.specs.Image.{pairWord, pairOf, accuWord, accuOf, actWord, actOf}
 use Rattle.laws.proofs.Lists.{all-at}
 
 module _ {A : Type 0} (wordOf : A → ℕ) (valueOf : ℕ → A) (n : ℕ) where

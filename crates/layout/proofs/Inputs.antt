@@ -6,10 +6,10 @@ use native.Mathlib.Omega.{arith}
 use borrow.Author.Tests.{leb-true}
 use lib.Dec.{leb}
 use lib.ListN.{length}
-use Rattle.model.specs.Basic.{all}
+use Rattle.model.specs.Basic.{all, tab}
 use Rattle.model.specs.Bounds.{inputLimit, termLimit, pointLeast, pointLimit, inputTermLimit}
 use Rattle.model.specs.WellFormed.{pointOk, termOk, inputOk}
-use Rattle.model.specs.Image.{tab, pointAt, termAt, inputAt, decode}
+use Rattle.model.specs.Image.{pointAt, termAt, inputAt, decode}
 use Rattle.laws.proofs.Lists.{all-at}
 use Rattle.laws.proofs.Tests.{both, passed}
 use Rattle.laws.proofs.Places.{length-tab}

@@ -6,8 +6,8 @@ use Prim.Native.Nat.{ℕ, zero, suc, _+_, _*_, _/_, _%_, _≤_, _<_}
 use native.Mathlib.Omega.{arith}
 use lib.Dec.{eqb}
 use lib.ListN.{take, getD}
-use Rattle.model.specs.Basic.{run, gather}
-use Rattle.model.specs.Image.{wordAt, bytesOf, nameWords, nameAt, tab}
+use Rattle.model.specs.Basic.{run, gather, tab}
+use Rattle.model.specs.Image.{wordAt, bytesOf, nameWords, nameAt}
 use Rattle.words.proofs.Bytes.{words-at}
 use Rattle.layout.specs.Tables.{nameExact, front}
 use Rattle.layout.proofs.RowLaws.{stands}

@@ -7,9 +7,9 @@ use Prim.Native.Nat.{ℕ, zero, suc, _+_, _*_}
 use native.Mathlib.Omega.{arith}
 use lib.IntN.{ℤ}
 use lib.ListN.{length}
-use Rattle.model.specs.Basic.{same, gather, all}
+use Rattle.model.specs.Basic.{same, gather, all, tab}
 use Rattle.model.specs.Block.{Term, Singleton, Input, Range, Output, inputTerms, outputTerms, conclusions}
-use Rattle.model.specs.Image.{nameWords, rangeWords, defaultWords, postfix, singletonTerm, terms, points, tab, pointAt, termAt, singletonAt, inputAt, outputAt, conclusionAt, ruleAt, decode}
+use Rattle.model.specs.Image.{nameWords, rangeWords, defaultWords, postfix, singletonTerm, terms, points, pointAt, termAt, singletonAt, inputAt, outputAt, conclusionAt, ruleAt, decode}
 use Rattle.laws.proofs.Lists.{map-tab, gather-append}
 use Rattle.laws.proofs.Tests.{both}
 use Rattle.laws.proofs.Places.{length-tab, same-eq}

@@ -6,8 +6,7 @@ use Prim.Native.Nat.{ℕ, zero, suc, _+_, _*_, _<_}
 use native.Mathlib.Omega.{arith}
 use native.Mathlib.Nat.{suc-mul, zero-mul}
 use lib.ListN.{length, getD, length-append}
-use Rattle.model.specs.Basic.{same}
-use Rattle.model.specs.Image.{tab}
+use Rattle.model.specs.Basic.{same, tab}
 use Rattle.laws.proofs.Tests.{both, and-i}
 use Rattle.laws.proofs.Places.{At, at-shift, at-cut, at-join, at-nth, at-tab, tab-at, same-eq, same-refl}
 use Rattle.layout.specs.Rows.{laid, after, rowsOk}

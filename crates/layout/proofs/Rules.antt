@@ -6,9 +6,9 @@ use native.Mathlib.Omega.{arith}
 use borrow.Author.Tests.{leb-true}
 use lib.Dec.{leb}
 use lib.ListN.{length}
-use Rattle.model.specs.Basic.{all}
+use Rattle.model.specs.Basic.{all, tab}
 use Rattle.model.specs.Bounds.{ruleLimit}
-use Rattle.model.specs.Image.{tab, decode, rulePlace, ruleAt, conclusionAt}
+use Rattle.model.specs.Image.{decode, rulePlace, ruleAt, conclusionAt}
 use Rattle.model.specs.WellFormed.{unitOk, conditionOk, conclusionOk, ruleOk}
 use Rattle.laws.proofs.Lists.{all-at}
 use Rattle.laws.proofs.Tests.{both, passed}

@@ -9,12 +9,12 @@ use lib.Dec.{leb}
 use lib.IntN.{ℤ, natAbs}
 use lib.ListN.{length, getD}
 use borrow.Author.Tests.{leb-true}
-use Rattle.model.specs.Basic.{total}
+use Rattle.model.specs.Basic.{total, tab}
 use Rattle.model.specs.Bounds.{crispLimit, outputLimit, termLimit, outputTermLimit}
 use Rattle.model.specs.Block.{Singleton, Output, inputTerms, outputFirst, singletonsOf, inRange}
 use Rattle.model.specs.Tokens.{isName, inCrisp}
 use Rattle.model.specs.WellFormed.{outputOk, singletonOk}
-use Rattle.model.specs.Image.{tab, termAt, singletonAt, outputAt, decode}
+use Rattle.model.specs.Image.{termAt, singletonAt, outputAt, decode}
 use Rattle.laws.proofs.Lists.{map-tab, all-at}
 use Rattle.laws.proofs.Tests.{both, passed}
 use Rattle.laws.proofs.Places.{length-tab, tab-nth, take-tab}

@@ -6,9 +6,9 @@ use Prim.Native.Nat.{ℕ, zero, suc, _+_, _*_}
 use native.Mathlib.Omega.{arith}
 use lib.ListN.{length, take, length-append}
 use lib.Seq.{take-at}
-use Rattle.model.specs.Basic.{same, gather, total}
+use Rattle.model.specs.Basic.{same, gather, total, tab}
 use Rattle.model.specs.Block.{Input, Output, Term, Rule, Block, inputTerms, outputFirst, size}
-use Rattle.model.specs.Image.{nameWords, rangeWords, defaultWords, inputTable, outputTable, termTable, ruleTable, tab}
+use Rattle.model.specs.Image.{nameWords, rangeWords, defaultWords, inputTable, outputTable, termTable, ruleTable}
 use Rattle.laws.proofs.Lists as lists
 use Rattle.laws.proofs.Lists.{tab-append, total-last}
 use Rattle.laws.proofs.Tests.{both}

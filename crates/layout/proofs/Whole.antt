@@ -7,9 +7,9 @@ use native.Mathlib.Omega.{arith}
 use lib.Dec.{eqb, leb, ltb}
 use lib.ListN.{length, length-append}
 use borrow.Author.Tests.{eq-eqb, eqb-true, le-leb, leb-true}
-use Rattle.model.specs.Basic.{all, gather, total, same}
+use Rattle.model.specs.Basic.{all, gather, total, same, tab}
 use Rattle.model.specs.Block.{Rule, inputTerms, conclusions, size}
-use Rattle.model.specs.Image.{crispWord, crispOf, nameWords, nameAt, pairWord, accuWord, actWord, terms, points, postfix, inputTable, outputTable, termTable, pointWords, ruleTable, conclusionWords, offsets, endOf, header, words, tab, pointAt, termAt, inputAt, outputAt, conclusionAt, ruleAt, decode}
+use Rattle.model.specs.Image.{crispWord, crispOf, nameWords, nameAt, pairWord, accuWord, actWord, terms, points, postfix, inputTable, outputTable, termTable, pointWords, ruleTable, conclusionWords, offsets, endOf, header, words, pointAt, termAt, inputAt, outputAt, conclusionAt, ruleAt, decode}
 use Rattle.laws.proofs.Conditions.{length-pairs, length-postfix}
 use Rattle.laws.proofs.Lists.{gather-append, length-gather}
 use Rattle.laws.proofs.Tests.{both, and-i, Every, passed, pass}

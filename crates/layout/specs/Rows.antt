@@ -3,8 +3,7 @@
 use mathlib.Core.Bool.{Bool, true, _&&_}
 use mathlib.Core.List.{List, [], _∷_, _++_}
 use Prim.Native.Nat.{ℕ, zero, suc, _+_, _*_}
-use Rattle.model.specs.Basic.{same}
-use Rattle.model.specs.Image.{tab}
+use Rattle.model.specs.Basic.{same, tab}
 
 -- a table of rows, where σ holds the totals before the next row
 unfoldable pub laid : {R S : Type 0} → (S → R → List ℕ) → (S → R → S) → S → List R → List ℕ

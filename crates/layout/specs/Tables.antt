@@ -5,10 +5,10 @@ use mathlib.Core.List.{List, [], _∷_, _++_}
 use Prim.Native.Nat.{ℕ, zero, suc, _+_, _*_}
 use lib.Dec.{leb, eqb}
 use lib.ListN.{length, take}
-use Rattle.model.specs.Basic.{every, all, run, same}
+use Rattle.model.specs.Basic.{every, all, run, same, tab}
 use Rattle.model.specs.Bounds.{M}
 use Rattle.model.specs.Block.{Point, Term, Input, Output, Rule, size}
-use Rattle.model.specs.Image.{nameWords, nameAt, typeWord, rangeWords, defaultWords, pointWords, postfix, singletonTerm, tab, pointAt, termAt, singletonAt, inputAt, outputAt, ruleAt, headerSize, inputWidth, outputWidth, termWidth, pointWidth, ruleWidth, conclusionWidth, INPUTS, OUTPUTS, TERMS, POINTS, RULES, WORDS, CONCLUSIONS, INPUT-TABLE, OUTPUT-TABLE, TERM-TABLE, POINT-TABLE, RULE-TABLE, WORD-TABLE, CONCLUSION-TABLE, PAIR-WORD, ACCU-WORD, ACT-WORD, BLOCK-NAME, RULE-BLOCK-NAME, inputPlace, outputPlace, termPlace, rulePlace, wordPlace}
+use Rattle.model.specs.Image.{nameWords, nameAt, typeWord, rangeWords, defaultWords, pointWords, postfix, singletonTerm, pointAt, termAt, singletonAt, inputAt, outputAt, ruleAt, headerSize, inputWidth, outputWidth, termWidth, pointWidth, ruleWidth, conclusionWidth, INPUTS, OUTPUTS, TERMS, POINTS, RULES, WORDS, CONCLUSIONS, INPUT-TABLE, OUTPUT-TABLE, TERM-TABLE, POINT-TABLE, RULE-TABLE, WORD-TABLE, CONCLUSION-TABLE, PAIR-WORD, ACCU-WORD, ACT-WORD, BLOCK-NAME, RULE-BLOCK-NAME, inputPlace, outputPlace, termPlace, rulePlace, wordPlace}
 use Rattle.layout.specs.Rows.{rowsOk}
 
 -- ROWS, n being the first term, point or word of the next one

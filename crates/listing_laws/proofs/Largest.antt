@@ -7,13 +7,12 @@ use Prim.Native.Nat.{ℕ, zero, suc, _+_, _-_}
 use lib.Dec.{ltb}
 use lib.IntN.{ℤ, negsuc}
 use lib.ListN.{length}
-use Rattle.model.specs.Basic.{if_then_else_, bytes}
+use Rattle.model.specs.Basic.{if_then_else_, bytes, tab}
 use Rattle.model.specs.Block.{Term, Input, Output, and, Condition, term, two, Rule, Block, blockOf}
 use Rattle.model.specs.declared.InputType.the-variants.{Real as real}
 use Rattle.model.specs.declared.Pair.the-variants.{ProdAsum as prod-asum}
 use Rattle.model.specs.declared.Accumulation.the-variants.{Bsum as by-bsum}
 use Rattle.model.specs.declared.Activation.the-variants.{Prod as by-prod}
-use Rattle.model.specs.Image.{tab}
 use Rattle.model.proofs.Opened.{opened}
 use Rattle.model.specs.Listing.{listing}
 use Rattle.model.specs.WellFormed.{wellFormed}

@@ -4,8 +4,7 @@ use mathlib.Core.List.{List, [], _∷_, _++_, map}
 use Prim.Native.Nat.{ℕ, suc, _+_, _-_, _≤_, _<_}
 use native.Mathlib.Omega.{arith}
 use lib.ListN.{length, length-map}
-use Rattle.model.specs.Basic.{bytes, gather}
-use Rattle.model.specs.Image.{tab}
+use Rattle.model.specs.Basic.{bytes, gather, tab}
 use Rattle.model.specs.Listing.{commaed}
 use Rattle.laws.proofs.Places.{length-tab}
 use Rattle.listing_writer.specs.Prepends.{Prepends}

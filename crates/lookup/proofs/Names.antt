@@ -9,9 +9,8 @@ use lib.Arith.{lt-of-le-ne}
 use lib.Dec.{eqb}
 use lib.ListN.{length, getD, set, length-set}
 use lib.Seq.{slice, slice-cons, slice-empty, length-slice, getD-set-same, getD-set-other}
-use Rattle.model.specs.Basic.{indexOf, capital}
+use Rattle.model.specs.Basic.{indexOf, capital, tab}
 use Rattle.model.specs.Tokens.{sameName}
-use Rattle.model.specs.Image.{tab}
 use Rattle.laws.proofs.Words.{other-word}
 use Rattle.lookup.specs.Names.{nameOf, Placed}
 

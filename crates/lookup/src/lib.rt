@@ -3,10 +3,9 @@ ghost use mathlib.Core.Path.{_≡_};
 ghost use Prim.Native.Nat.{_+_, _≤_};
 ghost use lib.ListN.{length};
 ghost use lib.Seq.{slice};
-ghost use Rattle.model.specs.Basic.{indexOf};
+ghost use Rattle.model.specs.Basic.{indexOf, tab};
 ghost use Rattle.model.specs.Bounds.{symbolLimit};
 ghost use Rattle.model.specs.Tokens.{sameName};
-ghost use Rattle.model.specs.Image.{tab};
 ghost use Rattle.lookup.specs.Names.{nameOf, Placed};
 
 // Names as places in the text: name k starts at place k of them and ends at place ENDS + k. Name v is that of variable

@@ -1,7 +1,7 @@
 -- Every definition of specs/, opened: an example whose line says `unfolding opened` is computed.
 use Prim.Native.Nat.{ℕ}
 use lib.Ieee
-use Rattle.model.specs.Basic.{every, all, total, gather, run, distinct, update, updateLast}
+use Rattle.model.specs.Basic.{every, all, total, gather, run, distinct, update, updateLast, tab}
 use Rattle.model.specs.Outcome.{into}
 use Rattle.model.specs.Keywords.{isKeyword}
 use Rattle.model.specs.Tokens.{tidy, sameName, isName, decimalFrom, magnitude, valueOf, isCrisp, isUnit, unitOf, isRuleNumber, wordKind, numberPart, commentPart, wordPiece, pieceAt, scan, tokens}
@@ -12,7 +12,7 @@ use Rattle.model.specs.Rules.{word, conditionTerm, termOrNot, subconditi
 use Rattle.model.specs.Reader.{partsThere, endOfBlock, functionBlock, reads}
 use Rattle.model.specs.Parentheses.{form, depth}
 use Rattle.model.specs.WellFormed.{unitOk, pointOk, inOrder, termOk, inputOk, singletonOk, outputOk, termsBelow, conditionOk, conclusionOk, ruleOk, wellFormed}
-use Rattle.model.specs.Image.{bytesOf, wordAt, crispOf, nameWords, postfix, inputTable, outputTable, termTable, ruleTable, offsets, endOf, header, words, image, tab, nameAt, pointAt, termAt, singletonAt, inputAt, outputAt, grown, trees, treeOf, conclusionAt, ruleAt, decode, isImageOf, loads}
+use Rattle.model.specs.Image.{bytesOf, wordAt, crispOf, nameWords, postfix, inputTable, outputTable, termTable, ruleTable, offsets, endOf, header, words, image, nameAt, pointAt, termAt, singletonAt, inputAt, outputAt, grown, trees, treeOf, conclusionAt, ruleAt, decode, isImageOf, loads}
 use Rattle.model.specs.Listing.{commaed, digitsOn, digits, trimmed, thousandthsText, crispText, inputTermNames, inputTermName, conditionText, termLine, fuzzifyText, singletonLine, defuzzifyText, conclusionText, ruleLine, ruleBlockText, listing}
 use Rattle.model.specs.Buffers.{readsInto, listsInto}
 use Rattle.model.specs.Printed.{refusedLine, printed}

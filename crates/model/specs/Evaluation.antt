@@ -9,13 +9,13 @@ use lib.Ieee.{fin}
 use lib.IntN.{ℤ, pos, natAbs, _+ℤ_, _*ℤ_}
 use lib.ListN.{length, replicate}
 use lib.Signed.{ltZ}
-use Rattle.model.specs.Basic.{if_then_else_, all, total, gather}
+use Rattle.model.specs.Basic.{if_then_else_, all, total, gather, tab}
 use Rattle.model.specs.Bounds.{outputLimit}
 use Rattle.model.specs.Tokens.{inCrisp}
 use Rattle.model.specs.Block.{Input, Range, Output, Rule, Accumulation, by-max, by-bsum, Block, outputFirst, inRange}
 use Rattle.model.specs.Outcome.{Outcome, accepted, refused, andThen, verdictIn}
 use Rattle.model.specs.Refusals.{verdictOf}
-use Rattle.model.specs.Image.{tab, loads}
+use Rattle.model.specs.Image.{loads}
 use Rattle.model.specs.Degrees.{nearestℤ, prodOf, bsumOf, termDegree, conditionDegree}
 use Rattle.model.specs.Readings.{taken, valueIn, floatOf}
 use Rattle.model.specs.declared.Reading.{Reading}

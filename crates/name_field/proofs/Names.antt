@@ -8,8 +8,8 @@ use borrow.Author.Tests.{ltb-false, ltb-true}
 use lib.Dec.{ltb, eqb}
 use lib.ListN.{length, take, drop, getD, length-drop, List·getD-eq-default}
 use lib.Seq.{length-take-le, getD-take, getD-drop}
-use Rattle.model.specs.Basic.{run}
-use Rattle.model.specs.Image.{wordAt, bytesOf, tab, nameAt}
+use Rattle.model.specs.Basic.{run, tab}
+use Rattle.model.specs.Image.{wordAt, bytesOf, nameAt}
 use Rattle.laws.proofs.Places.{At, tab-nth}
 use Rattle.words.proofs.Bytes.{bytes-at, part-word}
 

@@ -4,8 +4,8 @@ ghost use mathlib.Core.Bool.{not};
 ghost use Prim.Native.Nat.{_≤_};
 ghost use lib.Dec.{eqb};
 ghost use lib.ListN.{length};
-ghost use Rattle.model.specs.Basic.{run};
-ghost use Rattle.model.specs.Image.{wordAt, bytesOf, tab};
+ghost use Rattle.model.specs.Basic.{run, tab};
+ghost use Rattle.model.specs.Image.{wordAt, bytesOf};
 
 // The bytes of the four words from place o on.
 pub fn bytes_at(img: &[u8], o: usize) -> [u8; bounds::NAME]

@@ -7,9 +7,9 @@ use native.Mathlib.Nat.{zero-add}
 use native.Mathlib.Omega.{arith}
 use borrow.Author.Tests.{ltb-true}
 use lib.ListN.{length, getD}
-use Rattle.model.specs.Basic.{bytes, gather}
+use Rattle.model.specs.Basic.{bytes, gather, tab}
 use Rattle.model.specs.Block.{Term, outputFirst, singletonsOf}
-use Rattle.model.specs.Image.{tab, terms, nameAt, termAt, singletonAt, outputAt, conclusionAt, decode, outputPlace, termPlace, rulePlace, ruleAt, conclusionPlace, pairOf, accuOf, actOf, PAIR-WORD, ACCU-WORD, ACT-WORD, RULE-BLOCK-NAME}
+use Rattle.model.specs.Image.{terms, nameAt, termAt, singletonAt, outputAt, conclusionAt, decode, outputPlace, termPlace, rulePlace, ruleAt, conclusionPlace, pairOf, accuOf, actOf, PAIR-WORD, ACCU-WORD, ACT-WORD, RULE-BLOCK-NAME}
 use Rattle.model.specs.Listing.{commaed, digits, inputTermName, conditionText, andText, orText, actText, accuText, conclusionText, weightText, ruleLine, ruleBlockText}
 use Rattle.model.specs.WellFormed.{conclusionOk}
 use Rattle.laws.proofs.Lists.{map-tab, tab-append}

@@ -8,10 +8,11 @@ use native.Mathlib.Omega.{arith}
 use borrow.Author.Tests.{lt-ltb, ltb-true, le-leb, eqb-true, leb-true}
 use lib.Dec.{leb, ltb, eqb}
 use lib.ListN.{length}
+use Rattle.model.specs.Basic.{tab}
 use Rattle.model.specs.Bounds.{depthLimit}
 use Rattle.model.specs.Block.{Op, and, or, Condition, term, neg, two}
 use Rattle.model.specs.Parentheses.{depth}
-use Rattle.model.specs.Image.{postfix, opWord, tab}
+use Rattle.model.specs.Image.{postfix, opWord}
 use Rattle.stored_conditions.specs.Machine.{Meaning, NOT-WORD, TERM-WORD, room, added, unary, binary, step, turn}
 use Rattle.stored_conditions.proofs.Room.{Fits, fits, fits-left, fits-right, fits-neg, fits-one}
 

@@ -8,10 +8,10 @@ use native.Mathlib.Omega.{arith}
 use borrow.Author.Tests.{ne-eqb, lt-ltb, le-ltb, ltb-true, ltb-false, le-leb, lt-leb}
 use lib.Dec.{eqb, ltb, leb}
 use lib.ListN.{length, getD, set}
+use Rattle.model.specs.Basic.{tab}
 use Rattle.model.specs.Bounds.{depthLimit}
 use Rattle.model.specs.Block.{Op, and, or}
 use Rattle.model.specs.Parentheses.{rank, negatedForm, bareBehindNot, bareLeft, bareRight, opened}
-use Rattle.model.specs.Image.{tab}
 use Rattle.stored_conditions.specs.Machine.{room, added, unary, binary, stackOf}
 use Rattle.stored_conditions.specs.Shapes.{forms, shape, formOf, depthOf, shapes, negatedShape, joinedShape, view}
 use Rattle.stored_conditions.specs.Stored.{conditionStored}

@@ -4,8 +4,9 @@ use mathlib.Core.List.{List, [], _∷_, _++_, append-assoc, append-nil}
 use Prim.Native.Nat.{ℕ, _+_, _-_}
 use native.Mathlib.Omega.{arith}
 use borrow.Author.Tests.{le-leb}
+use Rattle.model.specs.Basic.{tab}
 use Rattle.model.specs.Block.{Op, and, or, Condition, term, neg, two, size}
-use Rattle.model.specs.Image.{tab, postfix, opWord, joinTop, grown, trees, treeOf}
+use Rattle.model.specs.Image.{postfix, opWord, joinTop, grown, trees, treeOf}
 use Rattle.laws.proofs.Places.{At, tab-at}
 use Rattle.laws.proofs.Conditions.{length-postfix}
 use Rattle.stored_conditions.specs.Machine.{NOT-WORD, TERM-WORD}

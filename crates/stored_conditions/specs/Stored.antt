@@ -4,11 +4,11 @@ use mathlib.Core.Bool.{Bool, _&&_}
 use mathlib.Core.List.{List}
 use Prim.Native.Nat.{ℕ}
 use lib.Dec.{leb}
-use Rattle.model.specs.Basic.{same}
+use Rattle.model.specs.Basic.{same, tab}
 use Rattle.model.specs.Bounds.{depthLimit}
 use Rattle.model.specs.Parentheses.{depth}
 use Rattle.model.specs.WellFormed.{termsBelow}
-use Rattle.model.specs.Image.{postfix, treeOf, tab}
+use Rattle.model.specs.Image.{postfix, treeOf}
 
 -- the words are a condition over the first m terms that can be written with at most eight open parentheses
 abbrev pub isCondition : ℕ → List ℕ → Bool

@@ -7,8 +7,8 @@ use native.Mathlib.Omega.{arith}
 use lib.Dec.{leb, ltb, eqb}
 use lib.ListN.{length, getD}
 use borrow.Author.Tests.{eq-eqb, ne-eqb, eqb-true, ltb-true, ltb-false}
-use Rattle.model.specs.Basic.{if_then_else_, run, gather}
-use Rattle.model.specs.Image.{wordAt, wordBytes, bytesOf, nameWords, nameAt, tab}
+use Rattle.model.specs.Basic.{if_then_else_, run, gather, tab}
+use Rattle.model.specs.Image.{wordAt, wordBytes, bytesOf, nameWords, nameAt}
 use Rattle.laws.proofs.Tests.{iff, clash}
 use Rattle.words.proofs.Bytes.{words-at}
 use Rattle.layout.specs.Tables.{nameExact, front}

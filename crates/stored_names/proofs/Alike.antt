@@ -9,9 +9,9 @@ use borrow.Author.Tests.{ne-eqb, eqb-true, lt-leb, ltb-true, ltb-false}
 use lib.Dec.{leb, ltb, eqb}
 use lib.ListN.{length, getD}
 use lib.Seq.{ext-getD}
-use Rattle.model.specs.Basic.{if_then_else_, between, all, run, gather, capital, capitals, same}
+use Rattle.model.specs.Basic.{if_then_else_, between, all, run, gather, capital, capitals, same, tab}
 use Rattle.model.specs.Tokens.{startsName, isNameByte, starts, isName, sameName}
-use Rattle.model.specs.Image.{bytesOf, tab, nameAt}
+use Rattle.model.specs.Image.{bytesOf, nameAt}
 use Rattle.laws.proofs.Tests.{iff, both, and-i, clash}
 use Rattle.laws.proofs.Lists.{all-at}
 use Rattle.laws.proofs.Places.{same-eq, same-refl}

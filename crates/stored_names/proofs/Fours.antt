@@ -4,8 +4,7 @@ use mathlib.Core.Bool.{Bool, true, false, _&&_, and-true}
 use Prim.Native.Nat.{ℕ, suc, _+_}
 use native.Mathlib.Omega.{arith}
 use lib.Dec.{eqb}
-use Rattle.model.specs.Basic.{same}
-use Rattle.model.specs.Image.{tab}
+use Rattle.model.specs.Basic.{same, tab}
 
 module _ (w : ℕ → ℕ) (o q : ℕ) where
   spread : same (tab w 4 o) (tab w 4 q)

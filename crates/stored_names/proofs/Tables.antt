@@ -5,9 +5,9 @@ use mathlib.Core.Bool.{Bool, true, false, _&&_, not}
 use Prim.Native.Nat.{ℕ, zero, suc, _+_, _*_, _≤_, _<_}
 use native.Mathlib.Omega.{arith}
 use native.Mathlib.Nat.{mul-le-mul-right, suc-mul}
-use Rattle.model.specs.Basic.{all, distinct, same}
+use Rattle.model.specs.Basic.{all, distinct, same, tab}
 use Rattle.model.specs.Tokens.{isName, sameName}
-use Rattle.model.specs.Image.{tab, nameAt}
+use Rattle.model.specs.Image.{nameAt}
 use Rattle.laws.proofs.Lists.{all-append}
 use Rattle.layout.specs.Tables.{nameExact}
 use Rattle.stored_names.specs.Stored.{lettersAt, wordsIn, absent, apart}

@@ -4,9 +4,8 @@
 use mathlib.Core.Bool.{Bool, not}
 use mathlib.Core.List.{List, [], _∷_}
 use Prim.Native.Nat.{ℕ, suc, _+_, _*_, _/_, _%_}
-use Rattle.model.specs.Basic.{if_then_else_, all}
+use Rattle.model.specs.Basic.{if_then_else_, all, tab}
 use Rattle.model.specs.Tokens.{isUnderscore, isNameByte}
-use Rattle.model.specs.Image.{tab}
 
 -- no name byte, or an underscore behind another; u: an underscore stands before it
 abbrev pub endsName : Bool → ℕ → Bool

@@ -8,11 +8,11 @@ use native.Mathlib.Omega.{arith}
 use lib.Dec.{leb, eqb}
 use lib.ListN.{length}
 use borrow.Author.Tests.{eq-eqb, ne-eqb, lt-leb}
-use Rattle.model.specs.Basic.{if_then_else_, every, same}
+use Rattle.model.specs.Basic.{if_then_else_, every, same, tab}
 use Rattle.model.specs.Bounds.{M}
 use Rattle.model.specs.Block.{Range}
 use Rattle.model.specs.declared.InputType.the-variants.{Real, Int}
-use Rattle.model.specs.Image.{crispWord, crispOf, nameWords, nameAt, typeWord, rangeWords, defaultWords, pointWords, tab, pointAt, termAt, singletonAt, inputAt, outputAt}
+use Rattle.model.specs.Image.{crispWord, crispOf, nameWords, nameAt, typeWord, rangeWords, defaultWords, pointWords, pointAt, termAt, singletonAt, inputAt, outputAt}
 use Rattle.laws.proofs.Lists.{tab-append}
 use Rattle.laws.proofs.Tests.{and-i, and-assoc}
 use Rattle.laws.proofs.Places.{length-tab}

@@ -9,8 +9,7 @@ use borrow.Author.Tests.{ne-eqb, eqb-true, eqb-false}
 use lib.Dec.{eqb}
 use lib.ListN.{length, getD, set}
 use lib.Seq.{getD-set-same, getD-set-other}
-use Rattle.model.specs.Basic.{all, distinct}
-use Rattle.model.specs.Image.{tab}
+use Rattle.model.specs.Basic.{all, distinct, tab}
 use Rattle.laws.proofs.Tests.{and-i, clash}
 
 -- none of the k numbers from s on is n

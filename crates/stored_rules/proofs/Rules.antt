@@ -7,11 +7,11 @@ use native.Mathlib.Omega.{arith}
 use borrow.Author.Tests.{eq-eqb, eqb-true, le-leb, leb-true}
 use lib.Dec.{leb, eqb}
 use lib.ListN.{length}
-use Rattle.model.specs.Basic.{every, all, same, between, distinct, isEmpty}
+use Rattle.model.specs.Basic.{every, all, same, between, distinct, isEmpty, tab}
 use Rattle.model.specs.Bounds.{ruleLimit, wordLimit, conclusionLimit, ruleNumberLeast, ruleNumberLimit}
 use Rattle.model.specs.Block.{Rule, size}
 use Rattle.model.specs.WellFormed.{unitOk, conditionOk, conclusionOk, ruleOk}
-use Rattle.model.specs.Image.{tab, postfix, conclusionAt, ruleAt, decode}
+use Rattle.model.specs.Image.{postfix, conclusionAt, ruleAt, decode}
 use Rattle.laws.proofs.Conditions.{length-postfix}
 use Rattle.laws.proofs.Lists.{map-tab}
 use Rattle.laws.proofs.Tests.{both, and-i, passed, pass, iff}

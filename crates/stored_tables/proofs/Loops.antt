@@ -5,8 +5,7 @@ use mathlib.Core.Bool.{Bool, true, false}
 use Prim.Native.Nat.{ℕ, _+_, _*_, _-_, _≤_, _<_}
 use native.Mathlib.Omega.{arith}
 use native.Mathlib.Numerals.{add-one}
-use Rattle.model.specs.Basic.{same}
-use Rattle.model.specs.Image.{tab}
+use Rattle.model.specs.Basic.{same, tab}
 use Rattle.laws.proofs.Places.{step, gone}
 use Rattle.layout.specs.Rows.{rowsOk}
 use Rattle.layout.specs.Tables.{sums}

@@ -7,8 +7,8 @@ use Prim.Native.Nat.{ℕ, zero, suc, _+_, _*_, _≤_, _<_}
 use native.Mathlib.Omega.{arith}
 use lib.Dec.{eqb}
 use borrow.Author.Tests.{eqb-true, eqb-false}
-use Rattle.model.specs.Basic.{same}
-use Rattle.model.specs.Image.{nameWords, nameAt, tab, termAt, singletonAt, inputAt, outputAt}
+use Rattle.model.specs.Basic.{same, tab}
+use Rattle.model.specs.Image.{nameWords, nameAt, termAt, singletonAt, inputAt, outputAt}
 use Rattle.laws.proofs.Tests.{both, passed}
 use Rattle.laws.proofs.Places.{at-cut}
 use Rattle.layout.specs.Rows.{rowsOk}

@@ -6,9 +6,9 @@ use Prim.Native.Nat.{ℕ, zero, suc, _+_, _-_, _≤_, _<_}
 use native.Mathlib.Omega.{arith}
 use lib.IntN.{ℤ}
 use lib.Signed.{ltZ, leZ, <ℤ-≤ℤ-trans}
+use Rattle.model.specs.Basic.{tab}
 use Rattle.model.specs.Block.{Point, mayFollow}
 use Rattle.model.specs.WellFormed.{inOrder}
-use Rattle.model.specs.Image.{tab}
 use Rattle.laws.proofs.Comparison.{at-most, below, lt-passes, less-le}
 use Rattle.laws.proofs.Places.{step, gone}
 use Rattle.laws.proofs.Positions.{positions, order-two}

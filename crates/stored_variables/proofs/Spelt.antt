@@ -8,12 +8,12 @@ use lib.Dec.{eqb}
 use lib.IntN.{ℤ}
 use lib.Signed.{ltZ}
 use borrow.Author.Tests.{eq-eqb, ne-eqb}
-use Rattle.model.specs.Basic.{if_then_else_, between, every, all, distinct, same}
+use Rattle.model.specs.Basic.{if_then_else_, between, every, all, distinct, same, tab}
 use Rattle.model.specs.Bounds.{termLimit, pointLeast, pointLimit}
 use Rattle.model.specs.Block.{Range, inRange}
 use Rattle.model.specs.Tokens.{isName, inCrisp}
 use Rattle.model.specs.WellFormed.{unitOk, pointOk, inOrder, termOk, rangeOk, figureOk, defaultOk, singletonOk}
-use Rattle.model.specs.Image.{crispOf, tab, inputPlace, outputPlace, termPlace, nameAt, pointAt, termAt, singletonAt}
+use Rattle.model.specs.Image.{crispOf, inputPlace, outputPlace, termPlace, nameAt, pointAt, termAt, singletonAt}
 use Rattle.crisp.specs.Crisp.{rangeGiven}
 use Rattle.laws.proofs.Places.{length-tab}
 use Rattle.stored_names.specs.Stored.{lettersAt, wordsIn, apart}

@@ -5,11 +5,11 @@ use mathlib.Core.Bool.{Bool, true, false, _&&_}
 use mathlib.Core.Option.{Option}
 use Prim.Native.Nat.{ℕ, zero, suc, _+_, _-_, _*_}
 use native.Mathlib.Omega.{arith}
-use Rattle.model.specs.Basic.{between, every, all, distinct}
+use Rattle.model.specs.Basic.{between, every, all, distinct, tab}
 use Rattle.model.specs.Bounds.{inputLimit, outputLimit, termLimit}
 use Rattle.model.specs.Tokens.{isName, sameName}
 use Rattle.model.specs.WellFormed.{termOk, inputOk, rangeOk, defaultOk, singletonOk, outputOk}
-use Rattle.model.specs.Image.{nameAt, tab, termAt, singletonAt, inputAt, outputAt, decode}
+use Rattle.model.specs.Image.{nameAt, termAt, singletonAt, inputAt, outputAt, decode}
 use Rattle.model.specs.Block.{Range}
 use Rattle.laws.proofs.Lists.{map-tab, all-at}
 use Rattle.laws.proofs.Places.{length-tab, tab-ext}

@@ -6,12 +6,12 @@ use mathlib.Core.Option.{Option, none, some}
 use Prim.Native.Nat.{ℕ, _+_, _-_}
 use lib.Dec.{eqb}
 use lib.IntN.{ℤ}
-use Rattle.model.specs.Basic.{if_then_else_, between, every, all, distinct, same}
+use Rattle.model.specs.Basic.{if_then_else_, between, every, all, distinct, same, tab}
 use Rattle.model.specs.Bounds.{termLimit}
 use Rattle.model.specs.Block.{Range}
 use Rattle.model.specs.Tokens.{isName}
 use Rattle.model.specs.WellFormed.{termOk, rangeOk, defaultOk, singletonOk}
-use Rattle.model.specs.Image.{inputWidth, outputWidth, termWidth, INPUTS, OUTPUTS, INPUT-TABLE, OUTPUT-TABLE, inputPlace, outputPlace, termPlace, crispOf, tab, nameAt, pointAt, termAt, singletonAt}
+use Rattle.model.specs.Image.{inputWidth, outputWidth, termWidth, INPUTS, OUTPUTS, INPUT-TABLE, OUTPUT-TABLE, inputPlace, outputPlace, termPlace, crispOf, nameAt, pointAt, termAt, singletonAt}
 use Rattle.stored_names.specs.Stored.{lettersAt, wordsIn, apart}
 
 -- the positions of the points from i on, those before e

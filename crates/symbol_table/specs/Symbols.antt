@@ -4,12 +4,11 @@ use mathlib.Core.Path.{_≡_}
 use mathlib.Core.List.{List}
 use Prim.Native.Nat.{ℕ, _+_, _-_, _*_, _≤_, _<_}
 use lib.ListN.{length, getD}
-use Rattle.model.specs.Basic.{indexOf}
+use Rattle.model.specs.Basic.{indexOf, tab}
 use Rattle.model.specs.Bounds.{inputLimit, outputLimit, termLimit, variableLimit, allTermLimit}
 use Rattle.model.specs.Tokens.{sameName}
 use Rattle.model.specs.Block.{Block, termsOf, singletonsOf, inputFirst, outputFirst}
 use Rattle.model.specs.Declarations.{inputOf, outputOf, termOf, singletonOf}
-use Rattle.model.specs.Image.{tab}
 use Rattle.lookup.specs.Names.{Placed, nameOf}
 
 abbrev pub first : List ℕ → ℕ → ℕ

@@ -4,11 +4,12 @@ use mathlib.Core.List.{List}
 use Prim.Native.Nat.{ℕ, _+_, _*_, _-_, _≤_, _<_}
 use native.Mathlib.Omega.{arith}
 use lib.ListN.{length, getD}
+use Rattle.model.specs.Basic.{tab}
 use Rattle.model.specs.Bounds.{ruleLimit, outputTermLimit}
 use Rattle.model.specs.Block.{Conclusion}
 use Rattle.model.specs.Degrees.{prodOf}
 use Rattle.model.specs.Evaluation.{ruleDegree}
-use Rattle.model.specs.Image.{wordAt, tab, decode, rulePlace, ruleAt, conclusionAt}
+use Rattle.model.specs.Image.{wordAt, decode, rulePlace, ruleAt, conclusionAt}
 use Rattle.laws.proofs.Places.{field}
 use Rattle.layout.proofs.Rules.{rules-few, rule-conclusions}
 use Rattle.layout.proofs.Within.{conclusions-within}

@@ -4,8 +4,7 @@ use Rattle.block_text.proofs.Laws as laws
 use Prim.Native.Nat.{_+_, _-_, _≤_}
 use borrow.Author.Tests.{lt-ltb, le-ltb}
 use lib.Dec.{ltb}
-use Rattle.model.specs.Basic.{all}
-use Rattle.model.specs.Image.{tab}
+use Rattle.model.specs.Basic.{all, tab}
 use Rattle.laws.proofs.Places.{all-more, all-stop, all-end}
 use Rattle.symbol_table.specs.Symbols.{first}
 use Rattle.block_text.specs.Block.{haveTerms}

@@ -5,9 +5,9 @@ use Prim.Native.Nat.{ℕ, _+_, _*_, _-_, _≤_, _<_}
 use native.Mathlib.Omega.{arith}
 use lib.IntN.{ℤ, pos}
 use lib.ListN.{length, length-map, getD, set, replicate}
-use Rattle.model.specs.Basic.{total}
+use Rattle.model.specs.Basic.{total, tab}
 use Rattle.model.specs.Bounds.{M, outputLimit, termLimit, outputTermLimit}
-use Rattle.model.specs.Image.{wordAt, tab, singletonAt}
+use Rattle.model.specs.Image.{wordAt, singletonAt}
 use Rattle.model.specs.Evaluation.{noAnswer, padded, heldOf}
 use Rattle.model.specs.declared.Answer.{Answer}
 use Rattle.model.specs.declared.Crisp.{Crisp}

@@ -5,9 +5,10 @@ use Prim.Native.Nat.{ℕ, _+_, _-_, _≤_, _<_}
 use native.Mathlib.Omega.{arith}
 use lib.IntN.{ℤ}
 use lib.Signed.{_≤ℤ_, _<ℤ_, ltZ}
+use Rattle.model.specs.Basic.{tab}
 use Rattle.model.specs.Block.{Point}
 use Rattle.model.specs.Degrees.{onLine, degreeFrom}
-use Rattle.model.specs.Image.{wordAt, tab, pointAt}
+use Rattle.model.specs.Image.{wordAt, pointAt}
 use Rattle.model.specs.WellFormed.{pointOk}
 use Rattle.laws.proofs.Comparison.{below, not-below}
 use Rattle.laws.proofs.Lists.{all-at}

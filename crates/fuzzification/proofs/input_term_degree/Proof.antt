@@ -5,10 +5,10 @@ use mathlib.Core.List.{List}
 use Prim.Native.Nat.{ℕ, _+_, _-_, _≤_, _<_}
 use native.Mathlib.Omega.{arith}
 use lib.Signed.{ltZ}
-use Rattle.model.specs.Basic.{all}
+use Rattle.model.specs.Basic.{all, tab}
 use Rattle.model.specs.Block.{Point}
 use Rattle.model.specs.Degrees.{termDegree}
-use Rattle.model.specs.Image.{wordAt, tab, pointAt, termPlace, termAt}
+use Rattle.model.specs.Image.{wordAt, pointAt, termPlace, termAt}
 use Rattle.model.specs.WellFormed.{pointOk}
 use Rattle.laws.proofs.Comparison.{not-below}
 use Rattle.laws.proofs.Lists.{all-at}

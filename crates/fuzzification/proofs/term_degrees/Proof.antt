@@ -10,10 +10,10 @@ use lib.Seq.{sets}
 use Rattle.model.specs.Bounds.{M, inputLimit, termLimit, inputTermLimit}
 use Rattle.model.specs.declared.Crisp.{Crisp}
 use Rattle.model.specs.declared.Degree.{Degree}
-use Rattle.model.specs.Basic.{all}
+use Rattle.model.specs.Basic.{all, tab}
 use Rattle.model.specs.Degrees.{termDegree}
 use Rattle.model.specs.Evaluation.{termDegrees}
-use Rattle.model.specs.Image.{wordAt, tab, termAt, inputAt, decode}
+use Rattle.model.specs.Image.{wordAt, termAt, inputAt, decode}
 use Rattle.model.specs.WellFormed.{termOk}
 use Rattle.laws.proofs.Arrays.{each-start, each-set, map-set}
 use Rattle.laws.proofs.Lists.{all-at}

@@ -3,8 +3,9 @@ use mathlib.Core.Path.{_≡_, sym, ap, _∙_}
 use Prim.Native.Nat.{ℕ, _+_, _*_, _≤_}
 use lib.ListN.{length}
 use lib.Seq.{length-take-le}
+use Rattle.model.specs.Basic.{tab}
 use Rattle.model.specs.Block.{Term}
-use Rattle.model.specs.Image.{wordAt, tab, nameAt, termPlace, pointAt, termAt}
+use Rattle.model.specs.Image.{wordAt, nameAt, termPlace, pointAt, termAt}
 use Rattle.layout.specs.Tables.{termCount}
 use Rattle.layout.proofs.Within.{inputs-first, points-within}
 use Rattle.layout.proofs.Inputs.{points-few}

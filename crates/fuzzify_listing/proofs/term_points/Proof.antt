@@ -6,8 +6,9 @@ use native.Mathlib.Numerals.{add-one}
 use native.Mathlib.Omega.{arith}
 use lib.ListN.{length, take, set, length-set}
 use lib.Seq.{take-suc-set}
+use Rattle.model.specs.Basic.{tab}
 use Rattle.model.specs.Bounds.{pointLimit}
-use Rattle.model.specs.Image.{wordAt, tab, pointAt}
+use Rattle.model.specs.Image.{wordAt, pointAt}
 use Rattle.terms.specs.declared.Point.{Point}
 use Rattle.terms.specs.Points.{pointView, pointViews}
 use Rattle.laws.proofs.Lists.{tab-append}

@@ -6,8 +6,8 @@ use native.Mathlib.Omega.{arith}
 use lib.Ieee.{nan, ofBits}
 use lib.IntN.{pos}
 use lib.ListN.{length, getD, set, replicate}
+use Rattle.model.specs.Basic.{tab}
 use Rattle.model.specs.Evaluation.{noAnswer}
-use Rattle.model.specs.Image.{tab}
 use Rattle.model.specs.declared.Answer.{Answer}
 use Rattle.model.specs.declared.Mark.the-variants.{None}
 use Rattle.laws.proofs.Places.{fill-front}

@@ -4,10 +4,10 @@ use mathlib.Core.Bool.{Bool, _&&_}
 use Prim.Native.Nat.{ℕ, _-_, _≤_}
 use native.Mathlib.Omega.{arith}
 use borrow.Author.Tests.{not-true, not-false}
-use Rattle.model.specs.Basic.{all}
+use Rattle.model.specs.Basic.{all, tab}
 use Rattle.model.specs.Bounds.{outputLimit}
 use Rattle.model.specs.Block.{inRange}
-use Rattle.model.specs.Image.{wordAt, outputAt, tab}
+use Rattle.model.specs.Image.{wordAt, outputAt}
 use Rattle.model.specs.declared.Held.{Held}
 use Rattle.laws.proofs.Places.{all-more, all-stop, all-end}
 use Rattle.held.specs.Places.{figureAt, fits}

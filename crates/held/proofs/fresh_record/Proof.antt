@@ -5,8 +5,9 @@ use Prim.Native.Nat.{ℕ, _+_, _-_, _≤_, _<_}
 use native.Mathlib.Omega.{arith}
 use lib.IntN.{ℤ, pos}
 use lib.ListN.{set, replicate}
+use Rattle.model.specs.Basic.{tab}
 use Rattle.model.specs.Bounds.{outputLimit}
-use Rattle.model.specs.Image.{wordAt, tab, outputAt, decode}
+use Rattle.model.specs.Image.{wordAt, outputAt, decode}
 use Rattle.model.specs.Evaluation.{startOf, heldOf, freshOf}
 use Rattle.model.specs.declared.Crisp.{Crisp}
 use Rattle.laws.proofs.Lists.{map-tab}

@@ -4,9 +4,9 @@ use Prim.Native.Nat.{_-_, _≤_}
 use native.Mathlib.Omega.{arith}
 use borrow.Author.Tests.{not-true, not-false}
 use lib.ListN.{length, length-map}
-use Rattle.model.specs.Basic.{all}
+use Rattle.model.specs.Basic.{all, tab}
 use Rattle.model.specs.Bounds.{outputLimit}
-use Rattle.model.specs.Image.{wordAt, tab, decode}
+use Rattle.model.specs.Image.{wordAt, decode}
 use Rattle.model.specs.Evaluation.{figuresOf, heldOk}
 use Rattle.layout.proofs.Sound.{outputs-few}
 use Rattle.held.specs.Places.{fits, isZero}

@@ -2,9 +2,8 @@ use borrow.Author.Needs.{needs}
 use mathlib.Core.Path.{_≡_, refl, sym, _∙_}
 use Prim.Native.Nat.{_-_, _≤_}
 use borrow.Author.Tests.{not-true, not-false}
-use Rattle.model.specs.Basic.{all}
+use Rattle.model.specs.Basic.{all, tab}
 use Rattle.model.specs.Bounds.{outputLimit}
-use Rattle.model.specs.Image.{tab}
 use Rattle.model.specs.declared.Held.{Held}
 use Rattle.laws.proofs.Places.{all-more, all-stop, all-end}
 use Rattle.held.specs.Places.{isZero}

@@ -3,7 +3,7 @@ use mathlib.Core.Path.{_≡_, ap, _∙_}
 use mathlib.Core.List.{_++_}
 use Prim.Native.Nat.{ℕ, _+_, _*_, _-_, _≤_}
 use native.Mathlib.Omega.{arith}
-use Rattle.model.specs.Image.{tab}
+use Rattle.model.specs.Basic.{tab}
 use Rattle.image.specs.Rows.{inputSize, slotRow, slotsOf, Listed, listOf, rows, onward}
 use Rattle.image.proofs.Lists.{listed-none, slots-more, slots-end}
 use Rattle.image.proofs.input_slots.Statement.{statement}

@@ -3,7 +3,7 @@ use mathlib.Core.Path.{_≡_, refl, sym}
 use mathlib.Core.List.{_++_, append-nil}
 use Prim.Native.Nat.{_+_, _*_, _-_, _≤_}
 use native.Mathlib.Omega.{arith}
-use Rattle.model.specs.Image.{tab}
+use Rattle.model.specs.Basic.{tab}
 use Rattle.image.specs.Rows.{Listed, listOf}
 use Rattle.image.proofs.Lists.{slot-more, listed-more}
 use Rattle.image.proofs.with_slots.Statement.{statement}

@@ -4,7 +4,7 @@ use Prim.Native.Nat.{ℕ, _-_, _≤_}
 use native.Mathlib.Omega.{arith}
 use lib.ListN.{length, set, replicate, length-set}
 use borrow.Author.Needs.{needs}
-use Rattle.model.specs.Image.{tab}
+use Rattle.model.specs.Basic.{tab}
 use Rattle.laws.proofs.Places.{fill-front}
 use Rattle.name_field.proofs.Names.{byteOf, four-words}
 use Rattle.name_field.proofs.bytes_at.Statement.{statement}

@@ -5,7 +5,8 @@ use native.Mathlib.Omega.{arith}
 use lib.ListN.{take, drop}
 use lib.Seq.{length-take-le, take-take}
 use borrow.Author.Needs.{needs}
-use Rattle.model.specs.Image.{wordAt, bytesOf, tab}
+use Rattle.model.specs.Basic.{tab}
+use Rattle.model.specs.Image.{wordAt, bytesOf}
 use Rattle.laws.proofs.Slices.{rest}
 use Rattle.name_field.proofs.Names.{part-bytes, name-front}
 use Rattle.name_listing.proofs.name.Statement.{statement}

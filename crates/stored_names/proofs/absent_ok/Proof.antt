@@ -3,8 +3,8 @@ use mathlib.Core.Bool.{not}
 use Prim.Native.Nat.{_-_, _≤_}
 use native.Mathlib.Omega.{arith}
 use borrow.Author.Needs.{needs}
-use Rattle.model.specs.Basic.{same}
-use Rattle.model.specs.Image.{wordAt, tab}
+use Rattle.model.specs.Basic.{same, tab}
+use Rattle.model.specs.Image.{wordAt}
 use Rattle.laws.proofs.Places.{all-more, all-stop, all-end}
 use Rattle.stored_names.specs.Stored.{lettersAt, wordsIn, absent}
 use Rattle.stored_names.proofs.Tables.{entry}

@@ -5,9 +5,9 @@ use mathlib.Core.Path.{_≡_, sym, ap, _∙_}
 use mathlib.Core.Bool.{Bool, _&&_, and-true, and-false}
 use Prim.Native.Nat.{_+_, _-_}
 use lib.Dec.{leb}
-use Rattle.model.specs.Basic.{all}
+use Rattle.model.specs.Basic.{all, tab}
 use Rattle.model.specs.WellFormed.{conclusionOk}
-use Rattle.model.specs.Image.{wordAt, tab, conclusionAt, decode}
+use Rattle.model.specs.Image.{wordAt, conclusionAt, decode}
 use Rattle.laws.proofs.Places.{all-more, all-stop, all-end, all-start}
 use Rattle.stored_rules.proofs.conclusions_ok.Statement.{statement}
 use Rattle.stored_rules.proofs.conclusions_ok.Tie as tie

@@ -5,8 +5,8 @@ use mathlib.Core.Bool.{not}
 use Prim.Native.Nat.{ℕ, _+_, _-_}
 use borrow.Author.Tests.{eq-eqb, ne-eqb, not-true}
 use lib.Dec.{eqb}
-use Rattle.model.specs.Basic.{all}
-use Rattle.model.specs.Image.{wordAt, tab}
+use Rattle.model.specs.Basic.{all, tab}
+use Rattle.model.specs.Image.{wordAt}
 use Rattle.laws.proofs.Places.{all-more, all-stop, all-end}
 use Rattle.stored_rules.specs.Walk.{ruleNumber}
 use Rattle.stored_rules.proofs.differs.Statement.{statement}

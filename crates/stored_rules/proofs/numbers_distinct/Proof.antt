@@ -7,8 +7,8 @@ use native.Mathlib.Nat.{sub-zero}
 use borrow.Author.Tests.{not-true, not-false}
 use lib.Dec.{eqb}
 use lib.ListN.{length, set, length-set}
-use Rattle.model.specs.Basic.{all, distinct}
-use Rattle.model.specs.Image.{wordAt, tab}
+use Rattle.model.specs.Basic.{all, distinct, tab}
+use Rattle.model.specs.Image.{wordAt}
 use Rattle.laws.proofs.Places.{distinct-more, distinct-stop, distinct-end}
 use Rattle.stored_rules.specs.Walk.{ruleNumber}
 use Rattle.stored_rules.proofs.Numbers.{Met, unmet, met-more, distinct-less}

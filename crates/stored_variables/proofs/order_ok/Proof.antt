@@ -7,8 +7,9 @@ use native.Mathlib.Omega.{arith}
 use lib.Signed.{ltZ}
 use borrow.Author.Needs.{needs}
 use borrow.Author.Tests.{not-true, not-false}
+use Rattle.model.specs.Basic.{tab}
 use Rattle.model.specs.WellFormed.{inOrder}
-use Rattle.model.specs.Image.{wordAt, tab, pointAt}
+use Rattle.model.specs.Image.{wordAt, pointAt}
 use Rattle.stored_variables.specs.Stored.{positionsFrom}
 use Rattle.stored_variables.proofs.Order.{next-above, order-end, order-start}
 use Rattle.stored_variables.proofs.order_ok.Statement.{statement}

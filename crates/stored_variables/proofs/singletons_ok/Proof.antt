@@ -3,9 +3,9 @@ use Prim.Native.Nat.{_+_, _-_, _≤_}
 use native.Mathlib.Omega.{arith}
 use borrow.Author.Needs.{needs}
 use borrow.Author.Tests.{not-true, not-false}
-use Rattle.model.specs.Basic.{all}
+use Rattle.model.specs.Basic.{all, tab}
 use Rattle.model.specs.WellFormed.{singletonOk}
-use Rattle.model.specs.Image.{wordAt, tab, singletonAt}
+use Rattle.model.specs.Image.{wordAt, singletonAt}
 use Rattle.laws.proofs.Places.{all-more, all-stop, all-end, all-start}
 use Rattle.stored_variables.specs.Stored.{rangeAt}
 use Rattle.stored_variables.proofs.singletons_ok.Statement.{statement}

@@ -3,9 +3,9 @@ use Prim.Native.Nat.{_+_, _-_, _≤_}
 use native.Mathlib.Omega.{arith}
 use borrow.Author.Needs.{needs}
 use borrow.Author.Tests.{not-true, not-false}
-use Rattle.model.specs.Basic.{all}
+use Rattle.model.specs.Basic.{all, tab}
 use Rattle.model.specs.WellFormed.{termOk}
-use Rattle.model.specs.Image.{wordAt, tab, termAt}
+use Rattle.model.specs.Image.{wordAt, termAt}
 use Rattle.laws.proofs.Places.{all-more, all-stop, all-end, all-start}
 use Rattle.layout.proofs.Within.{inputs-first}
 use Rattle.stored_variables.proofs.terms_ok.Statement.{statement}
