@@ -2,7 +2,7 @@
 use mathlib.Core.Path.{_≡_, refl, sym, ap, _∙_}
 use mathlib.Core.List.{List, [], _∷_, _++_}
 use mathlib.Core.Bool.{Bool, true, false}
-use Prim.Native.Nat.{ℕ, suc, _+_, _-_, _≤_, _<_}
+use Prim.Native.Nat.{ℕ, zero, suc, _+_, _-_, _≤_, _<_}
 use native.Mathlib.Omega.{arith}
 use borrow.Author.Tests.{eqb-true, eqb-false}
 use lib.Dec.{eqb}
@@ -12,12 +12,11 @@ use Rattle.model.specs.Basic.{if_then_else_, gather, tab}
 use Rattle.model.specs.declared.Accumulation.{Accumulation}
 use Rattle.model.specs.Block.{Conclusion, Rule, Block}
 use Rattle.model.specs.Evaluation.{ruleDegree, accumulated, accumulateAll, subconclusions, height}
-use Rattle.model.specs.Image.{decode, ruleAt}
+use Rattle.model.specs.Image.{accuOf, decode, ruleAt, RULES, ACCU-WORD}
 use Rattle.model.specs.declared.Degree.{Degree}
-use Rattle.model.specs.Bounds.{M}
 use Rattle.laws.proofs.Arrays.{replicate-at}
-use Rattle.degrees.specs.Tables.{numbers, Low}
-use Rattle.aggregation.proofs.Degrees.{low-set, numbers-set, numbers-zeros, number-at}
+use Rattle.degrees.specs.Tables.{numbers}
+use Rattle.aggregation.proofs.Degrees.{numbers-set, numbers-zeros, number-at}
 use Rattle.accumulation.specs.Heights.{afterConclusions}
 
 -- THE BLOCK'S HEIGHT
@@ -38,25 +37,30 @@ conclusions-give a d t (k ∷ ks) h = go (eqb (k .term) t) ∙ conclusions-give 
     go true = refl
     go false = refl
 
--- after some rules
-unfoldable pub afterRules : Block → List ℕ → ℕ → List Rule → ℕ → ℕ
-afterRules b ds t [] h = h
-afterRules b ds t (r ∷ rs) h = afterRules b ds t rs (afterConclusions (b .accu) (ruleDegree b ds r) t (r .conclusions) h)
+-- after k rules of f from the i-th on, whose degrees are d
+unfoldable pub afterRules : Accumulation → (ℕ → ℕ) → (ℕ → Rule) → ℕ → ℕ → ℕ → ℕ → ℕ
+afterRules a d f t zero i h = h
+afterRules a d f t (suc k) i h = afterRules a d f t k (suc i) (afterConclusions a (d i) t (f i .conclusions) h)
 
-module _ (b : Block) (ds : List ℕ) (t : ℕ) where
-  rules-give : (rs : List Rule) (h : ℕ) → accumulateAll (b .accu) h (gather (λ r. given t (ruleDegree b ds r) (r .conclusions)) rs) ≡ afterRules b ds t rs h
-  unfolding accumulateAll afterRules gather
-  rules-give [] h = refl
-  rules-give (r ∷ rs) h =
-      let g = given t (ruleDegree b ds r) (r .conclusions) in
-      let rest = gather (λ r. given t (ruleDegree b ds r) (r .conclusions)) rs in
-      accumulate-append (b .accu) h g rest
-      ∙ ap (λ (x : ℕ). accumulateAll (b .accu) x rest) (conclusions-give (b .accu) (ruleDegree b ds r) t (r .conclusions) h)
-      ∙ rules-give rs (afterConclusions (b .accu) (ruleDegree b ds r) t (r .conclusions) h)
+module _ (b : Block) (ds : List ℕ) (t : ℕ) (f : ℕ → Rule) (d : ℕ → ℕ) where
+  rules-give : (k i h : ℕ) → ((j : ℕ) → j < i + k → d j ≡ ruleDegree b ds (f j))
+      → accumulateAll (b .accu) h (gather (λ r. given t (ruleDegree b ds r) (r .conclusions)) (tab f k i)) ≡ afterRules (b .accu) d f t k i h
+  unfolding accumulateAll afterRules gather tab
+  rules-give zero i h e = refl
+  rules-give (suc k) i h e =
+      let ks = f i .conclusions in
+      let rest = gather (λ r. given t (ruleDegree b ds r) (r .conclusions)) (tab f k (suc i)) in
+      let own = conclusions-give (b .accu) (ruleDegree b ds (f i)) t ks h ∙ ap (λ (x : ℕ). afterConclusions (b .accu) x t ks h) (sym (e i (omega arith))) in
+      accumulate-append (b .accu) h (given t (ruleDegree b ds (f i)) ks) rest
+      ∙ ap (λ (x : ℕ). accumulateAll (b .accu) x rest) own
+      ∙ rules-give k (suc i) (afterConclusions (b .accu) (d i) t ks h) (λ j l. e j (omega arith))
 
-  height-is : height b ds t ≡ afterRules b ds t (b .rules) 0
-  unfolding height subconclusions
-  height-is = rules-give (b .rules) 0
+pub height-is : (w : ℕ → ℕ) (ds : List ℕ) (t : ℕ) (a : Accumulation) (d : ℕ → ℕ) (n : ℕ) → a ≡ accuOf (w ACCU-WORD) → n ≡ w RULES
+    → ((j : ℕ) → j < n → d j ≡ ruleDegree (decode w) ds (ruleAt w j)) → afterRules a d (ruleAt w) t n 0 0 ≡ height (decode w) ds t
+unfolding height subconclusions decode
+height-is w ds t a d n ea en e =
+    let given-so = rules-give (decode w) ds t (ruleAt w) d (w RULES) 0 0 (λ j l. e j (omega (arith, en))) in
+    rw (ea, en) (sym given-so)
 
 -- WHAT IS LEFT FROM j UP TO n
 module _ (a : Accumulation) (d : ℕ) (f : ℕ → Conclusion) (s n j : ℕ) (t h : ℕ) where
@@ -78,17 +82,20 @@ module _ (a : Accumulation) (d : ℕ) (f : ℕ → Conclusion) (s n j : ℕ) (t 
   unfolding afterConclusions tab
   conclusions-end l = let e : n - j ≡ 0 = omega arith in rw e refl
 
-module _ (b : Block) (ds : List ℕ) (f : ℕ → Rule) (n i : ℕ) (t h : ℕ) where
-  pub rule-turn : (d h′ : ℕ) → i < n → d ≡ ruleDegree b ds (f i) → h′ ≡ afterConclusions (b .accu) d t (f i .conclusions) h
-      → afterRules b ds t (tab f (n - (i + 1)) (i + 1)) h′ ≡ afterRules b ds t (tab f (n - i) i) h
-  unfolding afterRules tab
-  rule-turn d h′ l e q =
+module _ (a : Accumulation) (d : ℕ → ℕ) (f : ℕ → Rule) (n i : ℕ) (t h : ℕ) where
+  pub rule-turn : (x h′ : ℕ) → i < n → x ≡ d i → h′ ≡ afterConclusions a x t (f i .conclusions) h
+      → afterRules a d f t (n - (i + 1)) (i + 1) h′ ≡ afterRules a d f t (n - i) i h
+  unfolding afterRules
+  rule-turn x h′ l e q =
       let k : i + 1 ≡ suc i = omega arith in
       let g : n - i ≡ suc (n - (i + 1)) = omega arith in
       rw (q, e, g, k) refl
 
-  pub rules-end : n ≤ i → afterRules b ds t (tab f (n - i) i) h ≡ h
-  unfolding afterRules tab
+  pub rules-start : h ≡ 0 → afterRules a d f t (n - 0) 0 h ≡ afterRules a d f t n 0 0
+  rules-start z = let e : n - 0 ≡ n = omega arith in rw (e, z) refl
+
+  pub rules-end : n ≤ i → afterRules a d f t (n - i) i h ≡ h
+  unfolding afterRules
   rules-end l = let e : n - i ≡ 0 = omega arith in rw e refl
 
 -- a conclusion changes only its own term's height
@@ -116,14 +123,5 @@ module _ (a : Accumulation) (d : ℕ) (f : ℕ → Conclusion) (s n j m : ℕ) (
       let c : getD (numbers (set r (t - m) v)) p 0 ≡ after (f (s + j) .term) = ap (λ (y : List ℕ). getD y p 0) (numbers-set r (t - m) v) ∙ o ∙ ap after e in
       ap (afterConclusions a d (m + p) (tab f (n - (j + 1)) (s + (j + 1)))) c ∙ sym (conclusions-turn a d f s n j (m + p) g l)
 
-pub low-turn : (r : List Degree) (n : ℕ) (v : Degree) → Low (numbers r) → v .0 ≤ M → Low (numbers (set r n v))
-low-turn r n v low h = rw (numbers-set r n v) (low-set (numbers r) n (v .0) low h)
-
 pub zeros : (n p : ℕ) → let z : Degree = record { 0 = 0 } in getD (numbers (replicate n z)) p 0 ≡ 0
 zeros n p = rw (numbers-zeros n) (replicate-at n p 0)
-
-pub rules-start : (w : ℕ → ℕ) (ds : List ℕ) (n t h : ℕ) → n ≡ w 6 → h ≡ 0 → afterRules (decode w) ds t (tab (ruleAt w) (n - 0) 0) h ≡ height (decode w) ds t
-unfolding decode
-rules-start w ds n t h e z =
-    let q : n - 0 ≡ w 6 = omega (arith, e) in
-    rw (q, z) (sym (height-is (decode w) ds t))

@@ -23,3 +23,6 @@ numbers-zeros n = map-replicate (λ (d : Degree). d .0) n (record { 0 = 0 })
 
 pub number-at : (ds : List Degree) (t : ℕ) → getD ds t (record { 0 = 0 }) .0 ≡ getD (numbers ds) t 0
 number-at ds t = sym (List·getD-map (λ (x : Degree). x .0) ds t (record { 0 = 0 }))
+
+pub low-turn : (r : List Degree) (n : ℕ) (v : Degree) → Low (numbers r) → v .0 ≤ M → Low (numbers (set r n v))
+low-turn r n v low h = rw (numbers-set r n v) (low-set (numbers r) n (v .0) low h)

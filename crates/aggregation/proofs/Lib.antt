@@ -1,2 +1,3 @@
 pub mod Degrees
+pub mod Passes
 pub mod Steps

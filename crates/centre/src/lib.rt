@@ -6,7 +6,7 @@ ghost use mathlib.Core.List.{List, [], _∷_, _++_};
 ghost use Prim.Native.Nat.{ℕ, _+_, _*_, _≤_, _<_};
 ghost use lib.IntN.{ℤ, pos};
 ghost use lib.ListN.{length, getD};
-ghost use Rattle.model.specs.Bounds.{M};
+ghost use Rattle.model.specs.Bounds.{M, termLimit};
 ghost use Rattle.crisp.specs.Crisp.{InCrisp};
 ghost use Rattle.centre.specs.Centre.{SumsOf, figureOf};
 
@@ -24,7 +24,7 @@ pub struct Centre {
 
 // With one singleton more, of height h at p.
 pub fn added(s: Sums, p: Crisp, h: Degree) -> Sums
-    requires { ⌜ InCrisp (p .0) × (h .0 ≤ M) × (s .heights ≤ 6000000) × (s .moment ≤ 2000000000 * s .heights) ⌝ }
+    requires { ⌜ InCrisp (p .0) × (h .0 ≤ M) × (s .heights + M ≤ termLimit * M) × (s .moment ≤ 2000000000 * s .heights) ⌝ }
     ensures { λ r. ⌜ ((ps : List ℤ) (hs : List ℕ) → SumsOf s ps hs
         → SumsOf r (ps ++ (p .0 ∷ [])) (hs ++ (h .0 ∷ []))) ⌝ }
     ensures small { λ r. ⌜ (r .heights ≤ s .heights + M) × (r .moment ≤ 2000000000 * r .heights) ⌝ }
@@ -38,7 +38,7 @@ pub fn added(s: Sums, p: Crisp, h: Degree) -> Sums
 }
 
 pub fn centre_of(s: Sums) -> Centre
-    requires { ⌜ (s .heights ≤ 7000000) × (s .moment ≤ 2000000000 * s .heights) ⌝ }
+    requires { ⌜ (s .heights ≤ termLimit * M) × (s .moment ≤ 2000000000 * s .heights) ⌝ }
     ensures { λ r. ⌜ ((ps : List ℤ) (hs : List ℕ) → SumsOf s ps hs
         → ((k : ℕ) → k < length ps → InCrisp (getD ps k (pos 0))) → r .figure .0 ≡ figureOf ps hs) ⌝ }
     ensures sum { λ r. ⌜ (r .sum ≡ s .heights) × InCrisp (r .figure .0) ⌝ }

@@ -12,7 +12,8 @@ use Rattle.model.specs.Block.{Op, and, or, Condition, term, neg, two}
 use Rattle.model.specs.Image.{opWord, postfix}
 use Rattle.model.specs.Parentheses.{rank, negatedForm, form}
 use Rattle.laws.proofs.Places.{At, at-cut, at-tab, length-tab}
-use Rattle.condition_listing.specs.Spans.{Spans, Forms, operatorOf}
+use Rattle.stored_conditions.specs.Machine.{NOT-WORD, TERM-WORD, operatorOf}
+use Rattle.condition_listing.specs.Spans.{Spans, Forms}
 
 pub operator-word : (o : Op) → (0 < opWord o) × (opWord o ≤ 2)
 operator-word and = (omega arith, omega arith)
@@ -61,7 +62,7 @@ module _ (f : ℕ → ℕ) where
   none-ends e i (two o a b) h (j, p, s, s′, w) = omega arith
 
   -- THE FORM, by the last words
-  pub term-form : (e : ℕ) → 16 ≤ f (e - 1) → Forms f e 0
+  pub term-form : (e : ℕ) → TERM-WORD ≤ f (e - 1) → Forms f e 0
   unfolding Spans form
   term-form e h i (term t) sp = refl
   term-form e h i (neg c) (p, s, w) = absurd (omega arith)
@@ -73,44 +74,44 @@ module _ (f : ℕ → ℕ) where
   two-form o e z i (neg c) (p, s, w) = absurd (omega (arith, operator-word o))
   two-form o e z i (two o′ a b) (j, p, s, s′, w) = same-rank o o′ (sym z ∙ w)
 
-  or-form : (e : ℕ) → f (e - 1) < 16 → (f (e - 1) ≡ 0 → ⊥) → (f (e - 1) ≡ 1 → ⊥) → Forms f e 4
+  or-form : (e : ℕ) → f (e - 1) < TERM-WORD → (f (e - 1) ≡ NOT-WORD → ⊥) → (f (e - 1) ≡ opWord and → ⊥) → Forms f e 4
   unfolding Spans form
   or-form e h n m i (term t) (p, s, w) = absurd (omega arith)
   or-form e h n m i (neg c) (p, s, w) = absurd (n w)
   or-form e h n m i (two and a b) (j, p, s, s′, w) = absurd (m w)
   or-form e h n m i (two or a b) sp = refl
 
-  pub operator-form : (e : ℕ) → f (e - 1) < 16 → (f (e - 1) ≡ 0 → ⊥) → Forms f e (rank (operatorOf (f (e - 1))))
-  operator-form e h n = go (eqb (f (e - 1)) 1) refl
+  pub operator-form : (e : ℕ) → f (e - 1) < TERM-WORD → (f (e - 1) ≡ NOT-WORD → ⊥) → Forms f e (rank (operatorOf (f (e - 1))))
+  operator-form e h n = go (eqb (f (e - 1)) (opWord and)) refl
     where
-      go : (b : Bool) → eqb (f (e - 1)) 1 ≡ b → Forms f e (rank (operatorOf (f (e - 1))))
-      go true q = rw q (two-form and e (eqb-true (f (e - 1)) 1 q))
-      go false q = rw q (or-form e h n (eqb-false (f (e - 1)) 1 q))
+      go : (b : Bool) → eqb (f (e - 1)) (opWord and) ≡ b → Forms f e (rank (operatorOf (f (e - 1))))
+      go true q = rw q (two-form and e (eqb-true (f (e - 1)) (opWord and) q))
+      go false q = rw q (or-form e h n (eqb-false (f (e - 1)) (opWord and) q))
 
   -- of a NOT, by the word before it
-  not-form : (e k : ℕ) → f (e - 1) ≡ 0 → ((i : ℕ) (c : Condition) → Spans f i (e - 1) c → k ≡ negatedForm (form c)) → Forms f e k
+  not-form : (e k : ℕ) → f (e - 1) ≡ NOT-WORD → ((i : ℕ) (c : Condition) → Spans f i (e - 1) c → k ≡ negatedForm (form c)) → Forms f e k
   unfolding Spans form
   not-form e k z g i (term t) (p, s, w) = absurd (omega arith)
   not-form e k z g i (neg c) (p, s, w) = g i c s
   not-form e k z g i (two o a b) (j, p, s, s′, w) = absurd (omega (arith, operator-word o))
 
-  pub not-term-form : (e : ℕ) → f (e - 1) ≡ 0 → 16 ≤ f (e - 2) → Forms f e 1
+  pub not-term-form : (e : ℕ) → f (e - 1) ≡ NOT-WORD → TERM-WORD ≤ f (e - 2) → Forms f e 1
   not-term-form e z h =
       let q : e - 1 - 1 ≡ e - 2 = omega arith in
       let t = term-form (e - 1) (rw q h) in
       not-form e 1 z (λ i c s. ap negatedForm (t i c s))
 
-  loose : (e : ℕ) → f (e - 1) < 16 → (i : ℕ) (c : Condition) → Spans f i e c → 0 < form c
+  loose : (e : ℕ) → f (e - 1) < TERM-WORD → (i : ℕ) (c : Condition) → Spans f i e c → 0 < form c
   unfolding Spans form
   loose e h i (term t) (p, s, w) = absurd (omega arith)
   loose e h i (neg c) sp = negated-low (form c) .0
   loose e h i (two and a b) sp = omega arith
   loose e h i (two or a b) sp = omega arith
 
-  pub not-front-form : (e : ℕ) → f (e - 1) ≡ 0 → f (e - 2) < 16 → Forms f e 2
+  pub not-front-form : (e : ℕ) → f (e - 1) ≡ NOT-WORD → f (e - 2) < TERM-WORD → Forms f e 2
   not-front-form e z h =
       let q : e - 1 - 1 ≡ e - 2 = omega arith in
       not-form e 2 z (λ i c s. rw (ne-eqb (form c) 0 (λ x. omega (arith, loose (e - 1) (rw q h) i c s))) refl)
 
-  pub lone-not-form : (e k : ℕ) → e < 2 → f (e - 1) ≡ 0 → Forms f e k
+  pub lone-not-form : (e k : ℕ) → e < 2 → f (e - 1) ≡ NOT-WORD → Forms f e k
   lone-not-form e k h z = not-form e k z (λ i c s. absurd (none-ends (e - 1) i c (omega arith) s))

@@ -8,6 +8,7 @@ use Rattle.model.specs.Basic.{bytes}
 use Rattle.model.specs.Block.{Op, and, or, Condition, term, neg, two}
 use Rattle.model.specs.Parentheses.{rank, form, bareBehindNot, bareLeft, bareRight}
 use Rattle.model.specs.Listing.{TermNames, operator, wrapped, conditionText}
+use Rattle.stored_conditions.specs.Machine.{TERM-WORD}
 use Rattle.listing_writer.specs.Prepends.{Prepends}
 use Rattle.listing_writer.proofs.Prepends.{joined}
 use Rattle.condition_listing.specs.Spans.{Spans, Forms, Writes}
@@ -47,15 +48,15 @@ module _ (f : ℕ → ℕ) (g : ℕ → TermNames) where
       rw (lt-ltb l (form c) q) (u .0, joined (joined v (u .1)) w)
 
   -- NOT
-  pub not-term : (e k r : ℕ) (old new : List ℕ) → 16 ≤ f (e - 1)
-      → Prepends k r (g (f (e - 1) - 16) .variable ++ (bytes " IS NOT " ++ g (f (e - 1) - 16) .term)) old new
+  pub not-term : (e k r : ℕ) (old new : List ℕ) → TERM-WORD ≤ f (e - 1)
+      → Prepends k r (g (f (e - 1) - TERM-WORD) .variable ++ (bytes " IS NOT " ++ g (f (e - 1) - TERM-WORD) .term)) old new
       → Writes f negated e k (e - 1) r old new
   unfolding Spans conditionText
-  not-term e k r old new h v i (term t) (p, s, w) = let q : f (e - 1) - 16 ≡ t = omega arith in (sym s, rw q at v)
+  not-term e k r old new h v i (term t) (p, s, w) = let q : f (e - 1) - TERM-WORD ≡ t = omega arith in (sym s, rw q at v)
   not-term e k r old new h v i (neg c) (p, s, w) = absurd (omega arith)
   not-term e k r old new h v i (two o a b) (j, p, s, s′, w) = absurd (omega (arith, operator-word o))
 
-  pub not-front : (e k s n r : ℕ) (old mid new : List ℕ) → f (e - 1) < 16 → Writes f (within bareBehindNot) e k s n old mid
+  pub not-front : (e k s n r : ℕ) (old mid new : List ℕ) → f (e - 1) < TERM-WORD → Writes f (within bareBehindNot) e k s n old mid
       → Prepends n r (bytes "NOT ") mid new → Writes f negated e k s r old new
   unfolding Spans conditionText
   not-front e k s n r old mid new h t v i (term x) (p, q, w) = absurd (omega arith)
@@ -63,11 +64,11 @@ module _ (f : ℕ → ℕ) (g : ℕ → TermNames) where
   not-front e k s n r old mid new h t v i (two o a b) sp = let u = t i (two o a b) sp in (u .0, joined (u .1) v)
 
   -- CONDITIONS
-  pub term-written : (e k r : ℕ) (old new : List ℕ) → 16 ≤ f (e - 1)
-      → Prepends k r (g (f (e - 1) - 16) .variable ++ (bytes " IS " ++ g (f (e - 1) - 16) .term)) old new
+  pub term-written : (e k r : ℕ) (old new : List ℕ) → TERM-WORD ≤ f (e - 1)
+      → Prepends k r (g (f (e - 1) - TERM-WORD) .variable ++ (bytes " IS " ++ g (f (e - 1) - TERM-WORD) .term)) old new
       → Writes f text e k (e - 1) r old new
   unfolding Spans conditionText
-  term-written e k r old new h v i (term t) (p, s, w) = let q : f (e - 1) - 16 ≡ t = omega arith in (sym s, rw q at v)
+  term-written e k r old new h v i (term t) (p, s, w) = let q : f (e - 1) - TERM-WORD ≡ t = omega arith in (sym s, rw q at v)
   term-written e k r old new h v i (neg c) (p, s, w) = absurd (omega arith)
   term-written e k r old new h v i (two o a b) (j, p, s, s′, w) = absurd (omega (arith, operator-word o))
 

@@ -3,17 +3,16 @@
 use mathlib.Core.Path.{_≡_}
 use mathlib.Core.List.{List}
 use Prim.Native.Nat.{ℕ, _+_, _-_, _<_}
-use lib.Dec.{eqb}
-use Rattle.model.specs.Basic.{if_then_else_}
-use Rattle.model.specs.Block.{Op, and, or, Condition, term, neg, two}
+use Rattle.model.specs.Block.{Condition, term, neg, two}
 use Rattle.model.specs.Image.{opWord}
 use Rattle.model.specs.Parentheses.{form}
+use Rattle.stored_conditions.specs.Machine.{NOT-WORD, TERM-WORD}
 use Rattle.listing_writer.specs.Prepends.{Prepends}
 
 -- the words of c are those from place i to below e, f giving the word at each place
 unfoldable pub Spans : (ℕ → ℕ) → ℕ → ℕ → Condition → Type 0
-Spans f i e (term t) = (0 < e) × (i ≡ e - 1) × (f (e - 1) ≡ 16 + t)
-Spans f i e (neg c) = (0 < e) × Spans f i (e - 1) c × (f (e - 1) ≡ 0)
+Spans f i e (term t) = (0 < e) × (i ≡ e - 1) × (f (e - 1) ≡ TERM-WORD + t)
+Spans f i e (neg c) = (0 < e) × Spans f i (e - 1) c × (f (e - 1) ≡ NOT-WORD)
 Spans f i e (two o a b) = (j : ℕ) × (0 < e) × Spans f i j a × Spans f j (e - 1) b × (f (e - 1) ≡ opWord o)
 
 -- k is the form of the condition that ends before e
@@ -23,7 +22,3 @@ Forms f e k = (i : ℕ) (c : Condition) → Spans f i e c → k ≡ form c
 -- the condition that ends before e starts at s, and what `text` makes of it was written
 abbrev pub Writes : (ℕ → ℕ) → (Condition → List ℕ) → ℕ → ℕ → ℕ → ℕ → List ℕ → List ℕ → Type 0
 Writes f text e k s r old new = (i : ℕ) (c : Condition) → Spans f i e c → (s ≡ i) × Prepends k r (text c) old new
-
--- the operator of a word that is none else
-abbrev pub operatorOf : ℕ → Op
-operatorOf w = if eqb w 1 then and else or

@@ -8,10 +8,10 @@ ghost use Rattle.model.specs.Block.{neg};
 ghost use Rattle.model.specs.Parentheses.{form as formOf, rank};
 ghost use Rattle.model.specs.Image.{wordAt, nameAt, decode, ruleAt, inputPlace, termPlace, RULES};
 ghost use Rattle.model.specs.Listing.{inputTermName, operator as operatorText, wrapped, conditionText};
-ghost use Rattle.header.specs.Header.{Heads, Holds};
-ghost use Rattle.layout.specs.Groups.{Sound};
+ghost use Rattle.stored_conditions.specs.Machine.{operatorOf};
+ghost use Rattle.layout.specs.Checked.{Checked};
 ghost use Rattle.listing_writer.specs.Prepends.{Prepends};
-ghost use Rattle.condition_listing.specs.Spans.{Forms, Writes, operatorOf};
+ghost use Rattle.condition_listing.specs.Spans.{Forms, Writes};
 use header::Header;
 use listing_writer::puts;
 use name_listing::name;
@@ -33,7 +33,7 @@ struct Written {
 
 // The input that has term t; the number of inputs where none has.
 fn owner(img: &[u8], h: Header, t: usize) -> usize
-    requires { ⌜ Sound (wordAt (now img)) × Heads (wordAt (now img)) h × Holds (now img) h ⌝ }
+    requires { ⌜ Checked (now img) h ⌝ }
     ensures { λ r. ⌜ (r < h .inputs → inputTermName (decode (wordAt (now (img .entry)))) t ≡ record {
       variable = nameAt (wordAt (now (img .entry))) (inputPlace (wordAt (now (img .entry))) r);
       term = nameAt (wordAt (now (img .entry))) (termPlace (wordAt (now (img .entry))) t);
@@ -56,7 +56,7 @@ fn owner(img: &[u8], h: Header, t: usize) -> usize
 
 // The input that has term t, what stands between, and the term.
 fn term(out: &mut [u8], k: usize, img: &[u8], h: Header, t: usize, between: &[u8]) -> usize
-    requires { ⌜ Sound (wordAt (now img)) × Heads (wordAt (now img)) h × (t ≤ 4294967295) × Holds (now img) h ⌝ }
+    requires { ⌜ Checked (now img) h × (t ≤ 4294967295) ⌝ }
     ensures { λ r. ⌜ Prepends k r
         (inputTermName (decode (wordAt (now (img .entry)))) t .variable
         ++ (now (between .entry) ++ inputTermName (decode (wordAt (now (img .entry)))) t .term))
@@ -116,8 +116,7 @@ fn form(img: &[u8], e: usize) -> u8
 
 // The condition that ends before word e, in parentheses if its form is looser than l.
 fn operand(out: &mut [u8], k: usize, img: &[u8], h: Header, e: usize, l: u8) -> Written
-    requires { ⌜ Sound (wordAt (now img)) × Heads (wordAt (now img)) h × (e * 4 ≤ length (now img))
-        × Holds (now img) h ⌝ }
+    requires { ⌜ Checked (now img) h × (e * 4 ≤ length (now img)) ⌝ }
     ensures { λ r. ⌜ Writes (wordAt (now (img .entry)))
         (λ c. wrapped l (formOf c) (conditionText (inputTermName (decode (wordAt (now (img .entry))))) c))
         e k (r .first) (r .k) (now (out .entry)) (now (out .exit)) ⌝ }
@@ -137,8 +136,7 @@ fn operand(out: &mut [u8], k: usize, img: &[u8], h: Header, e: usize, l: u8) -> 
 
 // NOT of the condition that ends before word e; over a term it stands after IS.
 fn negation(out: &mut [u8], k: usize, img: &[u8], h: Header, e: usize) -> Written
-    requires { ⌜ Sound (wordAt (now img)) × Heads (wordAt (now img)) h × (e * 4 ≤ length (now img))
-        × Holds (now img) h ⌝ }
+    requires { ⌜ Checked (now img) h × (e * 4 ≤ length (now img)) ⌝ }
     ensures { λ r. ⌜ Writes (wordAt (now (img .entry)))
         (λ c. conditionText (inputTermName (decode (wordAt (now (img .entry))))) (neg c))
         e k (r .first) (r .k) (now (out .entry)) (now (out .exit)) ⌝ }
@@ -162,8 +160,7 @@ fn negation(out: &mut [u8], k: usize, img: &[u8], h: Header, e: usize) -> Writte
 
 // The condition that ends before word e. Left of an operator its own form stands bare, right of it the next tighter.
 fn condition(out: &mut [u8], k: usize, img: &[u8], h: Header, e: usize) -> Written
-    requires { ⌜ Sound (wordAt (now img)) × Heads (wordAt (now img)) h × (e * 4 ≤ length (now img))
-        × Holds (now img) h ⌝ }
+    requires { ⌜ Checked (now img) h × (e * 4 ≤ length (now img)) ⌝ }
     ensures { λ r. ⌜ Writes (wordAt (now (img .entry)))
         (conditionText (inputTermName (decode (wordAt (now (img .entry))))))
         e k (r .first) (r .k) (now (out .entry)) (now (out .exit)) ⌝ }
@@ -194,8 +191,7 @@ fn condition(out: &mut [u8], k: usize, img: &[u8], h: Header, e: usize) -> Writt
 
 // The condition of rule i.
 pub fn rule_condition(out: &mut [u8], k: usize, img: &[u8], h: Header, i: usize) -> usize
-    requires { ⌜ Sound (wordAt (now img)) × Heads (wordAt (now img)) h × (i < wordAt (now img) RULES)
-        × Holds (now img) h ⌝ }
+    requires { ⌜ Checked (now img) h × (i < wordAt (now img) RULES) ⌝ }
     ensures { λ r. ⌜ Prepends k r
         (conditionText (inputTermName (decode (wordAt (now (img .entry)))))
         (ruleAt (wordAt (now (img .entry))) i .condition))

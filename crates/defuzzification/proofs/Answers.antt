@@ -8,6 +8,7 @@ use lib.ListN.{length, getD, drop, replicate}
 use lib.Seq.{drop-cons}
 use borrow.Author.Tests.{lt-ltb, le-ltb}
 use Rattle.model.specs.Basic.{tab}
+use Rattle.model.specs.Bounds.{outputLimit}
 use Rattle.model.specs.Block.{Output}
 use Rattle.model.specs.Image.{singletonAt, outputAt, decode}
 use Rattle.model.specs.Degrees.{nearestℤ}
@@ -62,13 +63,13 @@ module _ (w h : ℕ → ℕ) (held : List Crisp) (s : Sound w) where
       ∙ (λ j. outputAnswer (outputAt w i) (tab h (n j) (first j)) (getD held i none .0) ∷ rest)
       ∙ ap (λ (rs : List Answer). answerAt w h held i ∷ rs) (answers-on k (suc i) (omega arith) (omega arith))
 
-  pub answers-are : length held ≡ 6 → outputAnswers (decode w) h 0 (decode w .outputs) (map (λ c. c .0) held) ≡ tab (answerAt w h held) (w 3) 0
+  pub answers-are : length held ≡ outputLimit → outputAnswers (decode w) h 0 (decode w .outputs) (map (λ c. c .0) held) ≡ tab (answerAt w h held) (w 3) 0
   unfolding decode
   answers-are l = answers-on (w 3) 0 (omega (arith, outputs-few w s)) (omega arith)
 
-pub padded-is : (f : ℕ → Answer) (n : ℕ) → tab f n 0 ++ replicate (6 - n) noAnswer ≡ padded noAnswer (tab f n 0)
-padded-is f n = ap (λ (k : ℕ). tab f n 0 ++ replicate (6 - k) noAnswer) (sym (length-tab f n 0))
+pub padded-is : (f : ℕ → Answer) (n : ℕ) → tab f n 0 ++ replicate (outputLimit - n) noAnswer ≡ padded noAnswer (tab f n 0)
+padded-is f n = ap (λ (k : ℕ). tab f n 0 ++ replicate (outputLimit - k) noAnswer) (sym (length-tab f n 0))
 
 pub held-is : (f : ℕ → Answer) (n : ℕ)
-    → tab (λ j. f j .thousandths) n 0 ++ replicate (6 - n) (record { 0 = pos 0 }) ≡ heldOf (map (λ a. a .thousandths .0) (tab f n 0)) .figures
+    → tab (λ j. f j .thousandths) n 0 ++ replicate (outputLimit - n) (record { 0 = pos 0 }) ≡ heldOf (map (λ a. a .thousandths .0) (tab f n 0)) .figures
 held-is f n = held-tab (λ j. f j .thousandths .0) n ∙ ap (λ (l : List ℤ). heldOf l .figures) (sym (map-tab (λ a. a .thousandths .0) f n 0))

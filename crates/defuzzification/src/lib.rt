@@ -2,11 +2,11 @@
 ghost use mathlib.Core.Path.{_≡_};
 ghost use mathlib.Core.List.{List, map};
 ghost use Prim.Native.Nat.{ℕ, _*_, _≤_, _<_};
-ghost use Rattle.model.specs.Image.{wordAt, singletonAt, outputAt};
+ghost use Rattle.model.specs.Bounds.{M, termLimit};
+ghost use Rattle.model.specs.Image.{wordAt, singletonAt, outputAt, OUTPUTS};
 ghost use Rattle.model.specs.Evaluation.{unfired, outputAnswer, noAnswer, padded, heldOf};
-ghost use Rattle.header.specs.Header.{Heads, Holds};
 ghost use Rattle.layout.specs.Tables.{inputTermsIn};
-ghost use Rattle.layout.specs.Groups.{Sound};
+ghost use Rattle.layout.specs.Checked.{Checked};
 ghost use Rattle.centre.specs.Centre.{SumsOf};
 ghost use Rattle.defuzzification.specs.Outputs.{positionsOf, HeightsOk, answersBy};
 use centre::Sums;
@@ -22,8 +22,7 @@ use words::whole_word;
 
 // The position of output term t.
 fn position(img: &[u8], h: Header, t: usize) -> Crisp
-    requires { ⌜ Sound (wordAt (now img)) × Heads (wordAt (now img)) h × Holds (now img) h
-        × (inputTermsIn (wordAt (now img)) ≤ t) × (t < h .terms) ⌝ }
+    requires { ⌜ Checked (now img) h × (inputTermsIn (wordAt (now img)) ≤ t) × (t < h .terms) ⌝ }
     ensures { λ r. ⌜ r .0 ≡ singletonAt (wordAt (now (img .entry))) t .at ⌝ }
 {
     let first = whole_word(img, header::term_row(h, t) + header::TERM_FIRST);
@@ -32,7 +31,7 @@ fn position(img: &[u8], h: Header, t: usize) -> Crisp
 
 // The answer of output i where no height is above 0.
 fn without_rule(img: &[u8], h: Header, i: usize, held: Crisp) -> Answer
-    requires { ⌜ Heads (wordAt (now img)) h × Holds (now img) h × (i < h .outputs) ⌝ }
+    requires { ⌜ Checked (now img) h × (i < h .outputs) ⌝ }
     ensures { λ r. ⌜ r ≡ unfired (outputAt (wordAt (now (img .entry))) i .default) (held .0) ⌝ }
 {
     let row = header::output_row(h, i);
@@ -57,9 +56,8 @@ fn without_rule(img: &[u8], h: Header, i: usize, held: Crisp) -> Answer
 
 // The answer of output i by the sums over its terms.
 fn answer(img: &[u8], h: Header, i: usize, sums: Sums, held: Crisp) -> Answer
-    requires { ⌜ Sound (wordAt (now img)) × Heads (wordAt (now img)) h × (i < wordAt (now img) 3)
-        × Holds (now img) h ⌝ }
-    requires { ⌜ (sums .heights ≤ 7000000) × (sums .moment ≤ 2000000000 * sums .heights) ⌝ }
+    requires { ⌜ Checked (now img) h × (i < wordAt (now img) OUTPUTS) ⌝ }
+    requires { ⌜ (sums .heights ≤ termLimit * M) × (sums .moment ≤ 2000000000 * sums .heights) ⌝ }
     ensures { λ r. ⌜ ((hs : List ℕ) → SumsOf sums (positionsOf (wordAt (now (img .entry))) i) hs
         → r ≡ outputAnswer (outputAt (wordAt (now (img .entry))) i) hs (held .0)) ⌝ }
 {
@@ -104,7 +102,7 @@ pub fn outputs(
     m: usize,
     held: Held,
 ) -> Answered
-    requires { ⌜ Sound (wordAt (now img)) × Heads (wordAt (now img)) h × Holds (now img) h ⌝ }
+    requires { ⌜ Checked (now img) h ⌝ }
     requires { ⌜ (m ≡ inputTermsIn (wordAt (now img))) × HeightsOk hs ⌝ }
     ensures { λ r. ⌜ r .answers ≡ padded noAnswer (answersBy (wordAt (now (img .entry))) hs m held) ⌝ }
     ensures { λ r. ⌜ r .held

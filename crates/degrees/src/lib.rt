@@ -10,11 +10,16 @@ ghost use Rattle.model.specs.Degrees.{notOf, prodOf, asumOf, bdifOf, bsumOf, pa
 ghost use Rattle.model.specs.Evaluation.{accumulated};
 ghost use Rattle.model.specs.WellFormed.{unitOk};
 
+// The degree 1, in millionths, and as a divisor.
+const ONE: u32 = bounds::M as u32;
+
+const MILLION: u64 = bounds::M as u64;
+
 pub fn not(a: Degree) -> Degree
     requires { ⌜ a .0 ≤ M ⌝ }
     ensures { λ r. ⌜ (r .0 ≡ notOf (a .0)) × (r .0 ≤ M) ⌝ }
 {
-    Degree(1_000_000 - a.0)
+    Degree(ONE - a.0)
 }
 
 pub fn min(a: Degree, b: Degree) -> Degree
@@ -36,15 +41,15 @@ pub fn prod(a: Degree, b: Degree) -> Degree
     requires { ⌜ (a .0 ≤ M) × (b .0 ≤ M) ⌝ }
     ensures { λ r. ⌜ (r .0 ≡ prodOf (a .0) (b .0)) × (r .0 ≤ M) ⌝ }
 {
-    if b.0 == 1_000_000 {
+    if b.0 == ONE {
         return a;
     }
-    if a.0 == 1_000_000 {
+    if a.0 == ONE {
         return b;
     }
     let x = a.0 as u64;
     let y = b.0 as u64;
-    let r = nearest::nearest_quotient(x * y, 1_000_000) as u32;
+    let r = nearest::nearest_quotient(x * y, MILLION) as u32;
     Degree(r)
 }
 
@@ -61,11 +66,7 @@ pub fn bdif(a: Degree, b: Degree) -> Degree
     ensures { λ r. ⌜ (r .0 ≡ bdifOf (a .0) (b .0)) × (r .0 ≤ M) ⌝ }
 {
     let s = a.0 + b.0;
-    if s < 1_000_000 {
-        Degree(0)
-    } else {
-        Degree(s - 1_000_000)
-    }
+    if s < ONE { Degree(0) } else { Degree(s - ONE) }
 }
 
 pub fn bsum(a: Degree, b: Degree) -> Degree
@@ -73,11 +74,7 @@ pub fn bsum(a: Degree, b: Degree) -> Degree
     ensures { λ r. ⌜ (r .0 ≡ bsumOf (a .0) (b .0)) × (r .0 ≤ M) ⌝ }
 {
     let s = a.0 + b.0;
-    if s < 1_000_000 {
-        Degree(s)
-    } else {
-        Degree(1_000_000)
-    }
+    if s < ONE { Degree(s) } else { Degree(ONE) }
 }
 
 // AND by the pair.
@@ -119,7 +116,7 @@ pub fn accumulate(k: Accumulation, h: Degree, d: Degree) -> Degree
 pub fn is_unit(d: u32) -> bool
     ensures { λ r. ⌜ r ≡ unitOk d ⌝ }
 {
-    if 1_000_000 < d {
+    if ONE < d {
         return false;
     }
     d % 1000 == 0

@@ -10,6 +10,7 @@ use lib.ListN.{length, getD}
 use borrow.Author.Tests.{eq-eqb, ne-eqb}
 use lib.Dec.{eqb}
 use Rattle.model.specs.Basic.{if_then_else_, gather}
+use Rattle.model.specs.Bounds.{inputLimit, inputTermLimit}
 use Rattle.model.specs.Block.{Condition, term, neg, two, Output, Rule, Block, inputTerms, outputFirst}
 use Rattle.model.specs.Degrees.{notOf, pairs, prodOf, conditionDegree}
 use Rattle.model.specs.Image.{wordAt, decode, isImageOf, loads}
@@ -127,13 +128,15 @@ module _ (w : ℕ → ℕ) (s : Sound w) (rs : List Reading) (held : Held) (m : 
   abbrev inputDegrees : List ℕ
   inputDegrees = termDegrees (decode w .inputs) values
 
-  pub answers-are : length (decode w .inputs) ≤ length values → figures xs ≡ filled 8 (pos 0) values
-      → numbers ds ≡ filled 56 0 (termDegrees (decode w .inputs) (figures xs))
+  pub answers-are : length (decode w .inputs) ≤ length values → figures xs ≡ filled inputLimit (pos 0) values
+      → numbers ds ≡ filled inputTermLimit 0 (termDegrees (decode w .inputs) (figures xs))
       → ((p : ℕ) → getD (numbers hs) p 0 ≡ height (decode w) (numbers ds) (m + p)) → answersBy w hs m held ≡ blockAnswers (decode w) values (figuresOf held)
   unfolding blockAnswers
   answers-are l ex ed eh =
-      let e : numbers ds ≡ filled 56 0 inputDegrees = ed ∙ ap (filled 56 0) (degrees-of-call (decode w .inputs) 8 (figures xs) values ex l) in
-      let agree : (t : ℕ) → getD (numbers ds) t 0 ≡ getD inputDegrees t 0 = λ t. ap (λ (x : List ℕ). getD x t 0) e ∙ filled-at 56 0 inputDegrees t in
+      let of-call = degrees-of-call (decode w .inputs) inputLimit (figures xs) values ex l in
+      let e : numbers ds ≡ filled inputTermLimit 0 inputDegrees = ed ∙ ap (filled inputTermLimit 0) of-call in
+      let agree : (t : ℕ) → getD (numbers ds) t 0 ≡ getD inputDegrees t 0 =
+      λ t. ap (λ (x : List ℕ). getD x t 0) e ∙ filled-at inputTermLimit 0 inputDegrees t in
       let n : m ≡ length (inputTerms (decode w)) = em ∙ sym (input-terms w (s .frame)) in
       let H = height (decode w) inputDegrees in
       answers-agree (decode w) (heightOf hs m) H 0 (decode w .outputs) (figuresOf held)

@@ -21,17 +21,16 @@ ghost use Rattle.model.specs.Degrees.{degreeFrom, termDegree};
 ghost use Rattle.model.specs.Evaluation.{termDegrees};
 ghost use Rattle.model.specs.Image.{wordAt, pointAt, termAt, inputAt, decode};
 ghost use Rattle.model.specs.WellFormed.{pointOk, termOk};
-ghost use Rattle.header.specs.Header.{Heads, Holds};
 ghost use Rattle.crisp.specs.Crisp.{InCrisp};
 ghost use Rattle.layout.specs.Tables.{inputTermsIn};
-ghost use Rattle.layout.specs.Groups.{tablesOk, Sound};
+ghost use Rattle.layout.specs.Checked.{Checked};
 ghost use Rattle.degrees.specs.Tables.{numbers, Low};
 ghost use Rattle.fuzzification.specs.Filled.{filled, figures, AllCrisp};
 ghost use Rattle.fuzzification.specs.Values.{valuesRead};
 
 // The degree at x of a term whose points go from the first to the one before `end`, where x is not below the first.
 fn degree_from(img: &[u8], h: Header, first: usize, end: usize, x: Crisp) -> Degree
-    requires { ⌜ Heads (wordAt (now img)) h × (first < end) × (end ≤ h .points) × InCrisp (x .0) × Holds (now img) h ⌝ }
+    requires { ⌜ Checked (now img) h × (first < end) × (end ≤ h .points) × InCrisp (x .0) ⌝ }
     requires { ⌜ (pointAt (wordAt (now img)) first .at ≤ℤ x .0)
         × (all pointOk (tab (pointAt (wordAt (now img))) (end - first) first) ≡ true) ⌝ }
     ensures { λ r. ⌜ (r .0 ≡ degreeFrom (x .0) (pointAt (wordAt (now (img .entry))) first)
@@ -48,8 +47,7 @@ fn degree_from(img: &[u8], h: Header, first: usize, end: usize, x: Crisp) -> Deg
 }
 
 fn input_term_degree(img: &[u8], h: Header, t: usize, x: Crisp) -> Degree
-    requires { ⌜ Heads (wordAt (now img)) h × Holds (now img) h
-        × (tablesOk (wordAt (now img)) ≡ true) × (t < inputTermsIn (wordAt (now img))) ⌝ }
+    requires { ⌜ Checked (now img) h × (t < inputTermsIn (wordAt (now img))) ⌝ }
     requires { ⌜ InCrisp (x .0) × (termOk (termAt (wordAt (now img)) t) ≡ true) ⌝ }
     ensures { λ r. ⌜ (r .0 ≡ termDegree (termAt (wordAt (now (img .entry))) t .points) (x .0)) × (r .0 ≤ M) ⌝ }
 {
@@ -68,7 +66,7 @@ pub fn term_degrees(
     h: Header,
     xs: [Crisp; bounds::INPUTS],
 ) -> [Degree; bounds::INPUT_TERMS]
-    requires { ⌜ Sound (wordAt (now img)) × Heads (wordAt (now img)) h × AllCrisp (figures xs) × Holds (now img) h ⌝ }
+    requires { ⌜ Checked (now img) h × AllCrisp (figures xs) ⌝ }
     ensures { λ r. ⌜ numbers r
         ≡ filled inputTermLimit 0 (termDegrees (decode (wordAt (now (img .entry))) .inputs) (figures xs)) ⌝ }
     ensures low { λ r. ⌜ Low (numbers r) ⌝ }
@@ -99,10 +97,10 @@ pub struct Values {
 }
 
 fn input_type(img: &[u8], h: Header, i: usize) -> InputType
-    requires { ⌜ Heads (wordAt (now img)) h × Holds (now img) h × (i < h .inputs) ⌝ }
+    requires { ⌜ Checked (now img) h × (i < h .inputs) ⌝ }
     ensures { λ r. ⌜ r ≡ inputAt (wordAt (now (img .entry))) i .type ⌝ }
 {
-    if whole_word(img, header::input_row(h, i) + header::INPUT_TYPE) == 0 {
+    if whole_word(img, header::input_row(h, i) + header::INPUT_TYPE) == header::REAL {
         InputType::Real
     } else {
         InputType::Int
@@ -110,7 +108,7 @@ fn input_type(img: &[u8], h: Header, i: usize) -> InputType
 }
 
 pub fn input_values(img: &[u8], h: Header, rs: [Reading; bounds::INPUTS]) -> Values
-    requires { ⌜ Sound (wordAt (now img)) × Heads (wordAt (now img)) h × Holds (now img) h ⌝ }
+    requires { ⌜ Checked (now img) h ⌝ }
     ensures { λ r. ⌜ r .wrong ≡ length (valuesRead (decode (wordAt (now (img .entry))) .inputs) rs) ⌝ }
     ensures at { λ r. ⌜ figures (r .at)
         ≡ filled inputLimit (pos 0) (valuesRead (decode (wordAt (now (img .entry))) .inputs) rs) ⌝ }

@@ -25,10 +25,38 @@ pub struct Header {
     pub conclusion_table: usize,
 }
 
-// The words of the header that are not in the struct.
+// The words of the header.
 pub const LAYOUT: usize = 0;
 
 pub const TOTAL: usize = 1;
+
+pub const INPUTS: usize = 2;
+
+pub const OUTPUTS: usize = 3;
+
+pub const TERMS: usize = 4;
+
+pub const POINTS: usize = 5;
+
+pub const RULES: usize = 6;
+
+pub const WORDS: usize = 7;
+
+pub const CONCLUSIONS: usize = 8;
+
+pub const INPUT_TABLE: usize = 9;
+
+pub const OUTPUT_TABLE: usize = 10;
+
+pub const TERM_TABLE: usize = 11;
+
+pub const POINT_TABLE: usize = 12;
+
+pub const RULE_TABLE: usize = 13;
+
+pub const WORD_TABLE: usize = 14;
+
+pub const CONCLUSION_TABLE: usize = 15;
 
 pub const PAIR: usize = 16;
 
@@ -101,14 +129,33 @@ pub const RULE_WEIGHT: usize = 5;
 
 pub const CONCLUSION_TERM: usize = 1;
 
+// The codes of a pair, of ACCU, of ACT and of an input's type.
+pub const MIN_MAX: usize = 0;
+
+pub const PROD_ASUM: usize = 1;
+
+pub const BDIF_BSUM: usize = 2;
+
+pub const BY_MAX: usize = 0;
+
+pub const BY_BSUM: usize = 1;
+
+pub const BY_MIN: usize = 0;
+
+pub const BY_PROD: usize = 1;
+
+pub const REAL: usize = 0;
+
+pub const INT: usize = 1;
+
 // The greatest code of each choice, from 0 on.
-pub const LAST_PAIR: usize = 2;
+pub const LAST_PAIR: usize = BDIF_BSUM;
 
-pub const LAST_ACCU: usize = 1;
+pub const LAST_ACCU: usize = BY_BSUM;
 
-pub const LAST_ACT: usize = 1;
+pub const LAST_ACT: usize = BY_PROD;
 
-pub const LAST_TYPE: usize = 1;
+pub const LAST_TYPE: usize = INT;
 
 // The flag of RANGE and the kind of DEFAULT where they are given, else 0.
 pub const GIVEN: usize = 1;
@@ -126,20 +173,20 @@ pub fn header_of(img: &[u8]) -> Header
     ensures { λ r. ⌜ Heads (wordAt (now (img .entry))) r ⌝ }
 {
     Header {
-        inputs: whole_word(img, 2),
-        outputs: whole_word(img, 3),
-        terms: whole_word(img, 4),
-        points: whole_word(img, 5),
-        rules: whole_word(img, 6),
-        words: whole_word(img, 7),
-        conclusions: whole_word(img, 8),
-        input_table: whole_word(img, 9),
-        output_table: whole_word(img, 10),
-        term_table: whole_word(img, 11),
-        point_table: whole_word(img, 12),
-        rule_table: whole_word(img, 13),
-        word_table: whole_word(img, 14),
-        conclusion_table: whole_word(img, 15),
+        inputs: whole_word(img, INPUTS),
+        outputs: whole_word(img, OUTPUTS),
+        terms: whole_word(img, TERMS),
+        points: whole_word(img, POINTS),
+        rules: whole_word(img, RULES),
+        words: whole_word(img, WORDS),
+        conclusions: whole_word(img, CONCLUSIONS),
+        input_table: whole_word(img, INPUT_TABLE),
+        output_table: whole_word(img, OUTPUT_TABLE),
+        term_table: whole_word(img, TERM_TABLE),
+        point_table: whole_word(img, POINT_TABLE),
+        rule_table: whole_word(img, RULE_TABLE),
+        word_table: whole_word(img, WORD_TABLE),
+        conclusion_table: whole_word(img, CONCLUSION_TABLE),
     }
 }
 

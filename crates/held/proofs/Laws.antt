@@ -13,6 +13,7 @@ use lib.Signed.{leZ, ltZ}
 use borrow.Author.Tests.{ltb-true, eq-eqb, ne-eqb}
 use native.Mathlib.Decide.{ℕ-discrete}
 use Rattle.model.specs.Basic.{all, tab}
+use Rattle.model.specs.Bounds.{outputLimit}
 use Rattle.model.specs.Block.{Range}
 use Rattle.model.specs.Image.{crispOf, outputPlace, outputAt}
 use Rattle.model.specs.Evaluation.{heldOf, heldOk}
@@ -35,11 +36,11 @@ zero-not-below (pos (suc n)) h = ne-eqb (suc n) 0 (λ e. omega arith) ∙ sym (l
 zero-not-below (negsuc n) h = let z : _≡_ {A = ℕ} 0 1 = cc in absurd (omega arith)
 
 -- a record whose first n figures are values of t
-pub held-tab : (t : ℕ → ℤ) (n : ℕ) → tab (λ j. record { 0 = t j }) n 0 ++ replicate (6 - n) (record { 0 = pos 0 }) ≡ heldOf (tab t n 0) .figures
+pub held-tab : (t : ℕ → ℤ) (n : ℕ) → tab (λ j. record { 0 = t j }) n 0 ++ replicate (outputLimit - n) (record { 0 = pos 0 }) ≡ heldOf (tab t n 0) .figures
 held-tab t n = sym (
-    ap (λ (k : ℕ). map mk (tab t n 0 ++ replicate (6 - k) (pos 0))) (length-tab t n 0)
-    ∙ map-append mk (tab t n 0) (replicate (6 - n) (pos 0))
-    ∙ (λ j. map-tab mk t n 0 j ++ map-replicate mk (6 - n) (pos 0) j))
+    ap (λ (k : ℕ). map mk (tab t n 0 ++ replicate (outputLimit - k) (pos 0))) (length-tab t n 0)
+    ∙ map-append mk (tab t n 0) (replicate (outputLimit - n) (pos 0))
+    ∙ (λ j. map-tab mk t n 0 j ++ map-replicate mk (outputLimit - n) (pos 0) j))
   where
     mk : ℤ → Crisp
     mk x = record { 0 = x }
@@ -96,5 +97,6 @@ module _ (held : Held) where
         ∙ ap (λ (b : Bool). fits w held i && b) (held-on k (suc i) m (omega arith) ∙ ap (both-from k (suc i) m) (omega arith))
         ∙ sym (and-assoc (fits w held i) (all (fits w held) (tab (λ x. x) k (suc i))) (all (isZero held) (tab (λ x. x) m (i + suc k))))
 
-    pub held-tests : (n : ℕ) → length (held .figures) ≡ 6 → n ≤ 6 → heldOk (tab (outputAt w) n 0) (figures (held .figures)) ≡ both-from n 0 (6 - n) n
-    held-tests n e h = held-on n 0 (6 - n) (omega arith) ∙ ap (both-from n 0 (6 - n)) (omega arith)
+    pub held-tests : (n : ℕ) → length (held .figures) ≡ outputLimit → n ≤ outputLimit
+        → heldOk (tab (outputAt w) n 0) (figures (held .figures)) ≡ both-from n 0 (outputLimit - n) n
+    held-tests n e h = held-on n 0 (outputLimit - n) (omega arith) ∙ ap (both-from n 0 (outputLimit - n)) (omega arith)

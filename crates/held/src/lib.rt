@@ -8,8 +8,7 @@ ghost use Rattle.model.specs.Bounds.{outputLimit};
 ghost use Rattle.model.specs.Block.{inRange};
 ghost use Rattle.model.specs.Image.{wordAt, outputAt, decode};
 ghost use Rattle.model.specs.Evaluation.{startOf, figuresOf, heldOk, freshOf};
-ghost use Rattle.header.specs.Header.{Heads, Holds};
-ghost use Rattle.layout.specs.Groups.{Sound};
+ghost use Rattle.layout.specs.Checked.{Checked};
 ghost use Rattle.held.specs.Places.{fits, isZero};
 use crisp::not_above;
 use header::Header;
@@ -20,7 +19,7 @@ use words::whole_word;
 
 // In the RANGE of output i, if it has one.
 fn in_range_of(img: &[u8], h: Header, i: usize, x: Crisp) -> bool
-    requires { ⌜ Heads (wordAt (now img)) h × Holds (now img) h × (i < h .outputs) ⌝ }
+    requires { ⌜ Checked (now img) h × (i < h .outputs) ⌝ }
     ensures { λ r. ⌜ r ≡ inRange (outputAt (wordAt (now (img .entry))) i .range) (x .0) ⌝ }
 {
     let row = header::output_row(h, i);
@@ -32,7 +31,7 @@ fn in_range_of(img: &[u8], h: Header, i: usize, x: Crisp) -> bool
 
 // 0, or the end of the RANGE of output i that is nearest 0.
 fn start_of(img: &[u8], h: Header, i: usize) -> Crisp
-    requires { ⌜ Heads (wordAt (now img)) h × Holds (now img) h × (i < h .outputs) ⌝ }
+    requires { ⌜ Checked (now img) h × (i < h .outputs) ⌝ }
     ensures { λ r. ⌜ r .0 ≡ startOf (outputAt (wordAt (now (img .entry))) i .range) ⌝ }
 {
     let row = header::output_row(h, i);
@@ -52,7 +51,7 @@ fn start_of(img: &[u8], h: Header, i: usize) -> Crisp
 
 // The figures of the outputs are in the crisp bounds and in their RANGEs.
 fn figures_ok(img: &[u8], h: Header, held: Held) -> bool
-    requires { ⌜ Heads (wordAt (now img)) h × (h .outputs ≤ outputLimit) × Holds (now img) h ⌝ }
+    requires { ⌜ Checked (now img) h × (h .outputs ≤ outputLimit) ⌝ }
     ensures { λ r. ⌜ r ≡ all (fits (wordAt (now (img .entry))) held) (tab (λ j. j) (h .outputs) 0) ⌝ }
 {
     let figures = held.figures;
@@ -99,7 +98,7 @@ fn is_zero(x: Crisp) -> bool
 
 // Whether this may be the held record of an accepted image.
 pub fn record_ok(img: &[u8], h: Header, held: Held) -> bool
-    requires { ⌜ Sound (wordAt (now img)) × Heads (wordAt (now img)) h × Holds (now img) h ⌝ }
+    requires { ⌜ Checked (now img) h ⌝ }
     ensures { λ r. ⌜ r ≡ heldOk (decode (wordAt (now (img .entry))) .outputs) (figuresOf held) ⌝ }
 {
     if !figures_ok(img, h, held) {
@@ -110,7 +109,7 @@ pub fn record_ok(img: &[u8], h: Header, held: Held) -> bool
 
 // The fresh held record of an accepted image.
 pub fn fresh_record(img: &[u8], h: Header) -> Held
-    requires { ⌜ Sound (wordAt (now img)) × Heads (wordAt (now img)) h × Holds (now img) h ⌝ }
+    requires { ⌜ Checked (now img) h ⌝ }
     ensures { λ r. ⌜ r ≡ freshOf (decode (wordAt (now (img .entry)))) ⌝ }
 {
     let mut figures = [Crisp(0); bounds::OUTPUTS];

@@ -7,6 +7,7 @@ use borrow.Author.Tests.{leb-true}
 use lib.Dec.{leb}
 use lib.ListN.{length}
 use Rattle.model.specs.Basic.{all, tab}
+use Rattle.model.specs.Bounds.{ruleLimit}
 use Rattle.model.specs.Image.{decode, rulePlace, ruleAt, conclusionAt}
 use Rattle.model.specs.WellFormed.{unitOk, conditionOk, conclusionOk, ruleOk}
 use Rattle.laws.proofs.Lists.{all-at}
@@ -16,12 +17,12 @@ use Rattle.layout.specs.Tables.{conditionRows, conditionExact}
 use Rattle.layout.specs.Groups.{Sound, rulesOk}
 
 module _ (w : ℕ → ℕ) (ok : Sound w) where
-  pub rules-few : w 6 ≤ 64
+  pub rules-few : w 6 ≤ ruleLimit
   unfolding rulesOk decode
   rules-few =
       let q = passed _ (ok .rules) .1 .1 .1 .1 .0 in
       let n = length (tab (ruleAt w) (w 6) 0) in
-      omega (arith, leb-true n 64 (both (leb 1 n) (leb n 64) q .1), length-tab (ruleAt w) (w 6) 0)
+      omega (arith, leb-true n ruleLimit (both (leb 1 n) (leb n ruleLimit) q .1), length-tab (ruleAt w) (w 6) 0)
 
   module _ (i : ℕ) (h : i < w 6) where
     rule-good : ruleOk (decode w) (ruleAt w i) ≡ true

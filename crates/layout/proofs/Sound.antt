@@ -10,7 +10,7 @@ use lib.IntN.{ℤ, natAbs}
 use lib.ListN.{length, getD}
 use borrow.Author.Tests.{leb-true}
 use Rattle.model.specs.Basic.{total, tab}
-use Rattle.model.specs.Bounds.{crispLimit}
+use Rattle.model.specs.Bounds.{crispLimit, outputLimit, termLimit, outputTermLimit}
 use Rattle.model.specs.Block.{Singleton, Output, inputTerms, outputFirst, singletonsOf, inRange}
 use Rattle.model.specs.Tokens.{isName, inCrisp}
 use Rattle.model.specs.WellFormed.{outputOk, singletonOk}
@@ -68,28 +68,28 @@ module _ (w : ℕ → ℕ) (frame : tablesOk w ≡ true) where
       ∙ sym (first-is i h)
 
 module _ (w : ℕ → ℕ) (s : Sound w) where
-  pub outputs-few : w 3 ≤ 6
+  pub outputs-few : w 3 ≤ outputLimit
   unfolding variablesOk decode
   outputs-few =
-      let b = both (leb 1 (length (tab (outputAt w) (w 3) 0))) (leb (length (tab (outputAt w) (w 3) 0)) 6) (passed _ (s .variables) .1 .1 .1 .0) in
-      let l : length (tab (outputAt w) (w 3) 0) ≤ 6 = leb-true _ _ (b .1) in
+      let n = length (tab (outputAt w) (w 3) 0) in
+      let l : n ≤ outputLimit = leb-true _ _ (both (leb 1 n) (leb n outputLimit) (passed _ (s .variables) .1 .1 .1 .0) .1) in
       omega (arith, length-tab (outputAt w) (w 3) 0)
 
   good : (i : ℕ) → i < w 3 → outputOk (outputAt w i) ≡ true
   unfolding variablesOk decode
   good i h = ap (λ (k : ℕ). outputOk (outputAt w k)) (omega arith) ∙ all-at outputOk (outputAt w) (w 3) 0 i h (passed _ (s .variables) .1 .1 .1 .1 .1 .0)
 
-  pub terms-few : (i : ℕ) → i < w 3 → outputCount w i ≤ 7
+  pub terms-few : (i : ℕ) → i < w 3 → outputCount w i ≤ termLimit
   unfolding outputOk outputAt
   terms-few i h =
       let n = length (outputAt w i .terms) in
-      let b = both (leb 1 n) (leb n 7) (passed _ (good i h) .1 .0) in
-      let l : length (outputAt w i .terms) ≤ 7 = leb-true _ _ (b .1) in
+      let b = both (leb 1 n) (leb n termLimit) (passed _ (good i h) .1 .0) in
+      let l : length (outputAt w i .terms) ≤ termLimit = leb-true _ _ (b .1) in
       omega (arith, length-tab (singletonAt w) (w (w 10 + i * 11 + 5)) (w (w 10 + i * 11 + 4)))
 
   -- the terms before output i
-  pub before-few : (i : ℕ) → i < w 3 → sums (outputCount w) i 0 ≤ i * 7
-  before-few i h = sums-le (outputCount w) 7 i 0 (λ j l. terms-few j (omega arith))
+  pub before-few : (i : ℕ) → i < w 3 → sums (outputCount w) i 0 ≤ i * termLimit
+  before-few i h = sums-le (outputCount w) termLimit i 0 (λ j l. terms-few j (omega arith))
 
   pub positions-crisp : (i : ℕ) → i < w 3 → (k : ℕ) → k < outputCount w i → natAbs (singletonAt w (outputFirstAt w i + k) .at) ≤ crispLimit
   unfolding outputOk outputAt singletonOk
@@ -103,5 +103,6 @@ module _ (w : ℕ → ℕ) (s : Sound w) where
 
   -- in numbers
   pub output-numbers : (i : ℕ) → i < w 3
-      → (i ≤ 5) × (outputCount w i ≤ 7) × (inputTermsIn w ≤ outputFirstAt w i) × (outputFirstAt w i - inputTermsIn w + outputCount w i ≤ 42)
+      → (i < outputLimit) × (outputCount w i ≤ termLimit) × (inputTermsIn w ≤ outputFirstAt w i)
+      × (outputFirstAt w i - inputTermsIn w + outputCount w i ≤ outputTermLimit)
   output-numbers i h = omega (arith, outputs-few, terms-few i h, first-is w (s .frame) i h, before-few i h)

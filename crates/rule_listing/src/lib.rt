@@ -7,8 +7,7 @@ ghost use Rattle.model.specs.Basic.{gather};
 ghost use Rattle.model.specs.WellFormed.{conclusionOk};
 ghost use Rattle.model.specs.Image.{wordAt, decode, ruleAt, conclusionAt, pairOf, accuOf, actOf};
 ghost use Rattle.model.specs.Listing.{commaed, andText, orText, actText, accuText, conclusionText, weightText, ruleLine, ruleBlockText};
-ghost use Rattle.header.specs.Header.{Heads, Holds};
-ghost use Rattle.layout.specs.Groups.{Sound};
+ghost use Rattle.layout.specs.Checked.{Checked};
 ghost use Rattle.listing_writer.specs.Prepends.{Prepends};
 use condition_listing::rule_condition;
 use header::Header;
@@ -23,9 +22,8 @@ use words::whole_word;
 
 // Conclusion j, counted over the whole table.
 fn conclusion(out: &mut [u8], k: usize, img: &[u8], h: Header, j: usize) -> usize
-    requires { ⌜ Sound (wordAt (now img)) × Heads (wordAt (now img)) h × (j < h .conclusions)
-        × (conclusionOk (decode (wordAt (now img))) (conclusionAt (wordAt (now img)) j) ≡ true)
-        × Holds (now img) h ⌝ }
+    requires { ⌜ Checked (now img) h × (j < h .conclusions)
+        × (conclusionOk (decode (wordAt (now img))) (conclusionAt (wordAt (now img)) j) ≡ true) ⌝ }
     ensures { λ r. ⌜ Prepends k r
         (conclusionText (decode (wordAt (now (img .entry)))) (conclusionAt (wordAt (now (img .entry))) j))
         (now (out .entry)) (now (out .exit)) ⌝ }
@@ -40,7 +38,7 @@ fn conclusion(out: &mut [u8], k: usize, img: &[u8], h: Header, j: usize) -> usiz
 
 // The conclusions of rule i.
 fn conclusions(out: &mut [u8], k: usize, img: &[u8], h: Header, i: usize) -> usize
-    requires { ⌜ Sound (wordAt (now img)) × Heads (wordAt (now img)) h × (i < h .rules) × Holds (now img) h ⌝ }
+    requires { ⌜ Checked (now img) h × (i < h .rules) ⌝ }
     ensures { λ r. ⌜ Prepends k r
         (commaed (map (conclusionText (decode (wordAt (now (img .entry))))) (ruleAt (wordAt (now (img .entry))) i .conclusions)))
         (now (out .entry)) (now (out .exit)) ⌝ }
@@ -74,7 +72,7 @@ fn weight(out: &mut [u8], k: usize, d: Degree) -> usize
 
 // The line of rule i.
 fn rule(out: &mut [u8], k: usize, img: &[u8], h: Header, i: usize) -> usize
-    requires { ⌜ Sound (wordAt (now img)) × Heads (wordAt (now img)) h × (i < h .rules) × Holds (now img) h ⌝ }
+    requires { ⌜ Checked (now img) h × (i < h .rules) ⌝ }
     ensures { λ r. ⌜ Prepends k r
         (ruleLine (decode (wordAt (now (img .entry)))) (ruleAt (wordAt (now (img .entry))) i))
         (now (out .entry)) (now (out .exit)) ⌝ }
@@ -96,7 +94,7 @@ fn rule(out: &mut [u8], k: usize, img: &[u8], h: Header, i: usize) -> usize
 }
 
 fn rules(out: &mut [u8], k: usize, img: &[u8], h: Header) -> usize
-    requires { ⌜ Sound (wordAt (now img)) × Heads (wordAt (now img)) h × Holds (now img) h ⌝ }
+    requires { ⌜ Checked (now img) h ⌝ }
     ensures { λ r. ⌜ Prepends k r
         (gather (ruleLine (decode (wordAt (now (img .entry))))) (decode (wordAt (now (img .entry))) .rules))
         (now (out .entry)) (now (out .exit)) ⌝ }
@@ -115,8 +113,8 @@ fn and_algorithm(out: &mut [u8], k: usize, n: usize) -> usize
     ensures { λ r. ⌜ Prepends k r (andText (pairOf n)) (now (out .entry)) (now (out .exit)) ⌝ }
 {
     match n {
-        0 => puts(out, k, b"MIN"),
-        1 => puts(out, k, b"PROD"),
+        header::MIN_MAX => puts(out, k, b"MIN"),
+        header::PROD_ASUM => puts(out, k, b"PROD"),
         _ => puts(out, k, b"BDIF"),
     }
 }
@@ -125,8 +123,8 @@ fn or_algorithm(out: &mut [u8], k: usize, n: usize) -> usize
     ensures { λ r. ⌜ Prepends k r (orText (pairOf n)) (now (out .entry)) (now (out .exit)) ⌝ }
 {
     match n {
-        0 => puts(out, k, b"MAX"),
-        1 => puts(out, k, b"ASUM"),
+        header::MIN_MAX => puts(out, k, b"MAX"),
+        header::PROD_ASUM => puts(out, k, b"ASUM"),
         _ => puts(out, k, b"BSUM"),
     }
 }
@@ -135,7 +133,7 @@ fn activation(out: &mut [u8], k: usize, n: usize) -> usize
     ensures { λ r. ⌜ Prepends k r (actText (actOf n)) (now (out .entry)) (now (out .exit)) ⌝ }
 {
     match n {
-        0 => puts(out, k, b"MIN"),
+        header::BY_MIN => puts(out, k, b"MIN"),
         _ => puts(out, k, b"PROD"),
     }
 }
@@ -144,13 +142,13 @@ fn accumulation(out: &mut [u8], k: usize, n: usize) -> usize
     ensures { λ r. ⌜ Prepends k r (accuText (accuOf n)) (now (out .entry)) (now (out .exit)) ⌝ }
 {
     match n {
-        0 => puts(out, k, b"MAX"),
+        header::BY_MAX => puts(out, k, b"MAX"),
         _ => puts(out, k, b"BSUM"),
     }
 }
 
 pub fn rule_block(out: &mut [u8], k: usize, img: &[u8], h: Header) -> usize
-    requires { ⌜ Sound (wordAt (now img)) × Heads (wordAt (now img)) h × Holds (now img) h ⌝ }
+    requires { ⌜ Checked (now img) h ⌝ }
     ensures { λ r. ⌜ Prepends k r (ruleBlockText (decode (wordAt (now (img .entry))))) (now (out .entry)) (now (out .exit)) ⌝ }
 {
     let pair = whole_word(img, header::PAIR);

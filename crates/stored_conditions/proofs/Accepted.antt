@@ -45,10 +45,10 @@ fold-shape m (two o a b) =
 fold-depth : (m : ℕ) (c : Condition) → depthOf (fold (shapes m) c) ≡ depth c
 fold-depth m c = ap depthOf (fold-shape m c) ∙ depth-shape (form c) (depth c) (form-le c)
 
-fine-shape : (m : ℕ) (c : Condition) → depth c ≤ 8 → leb (depthOf (fold (shapes m) c)) 8 ≡ true
-fine-shape m c d = rw (fold-depth m c) (le-leb (depth c) 8 d)
+fine-shape : (m : ℕ) (c : Condition) → depth c ≤ depthLimit → leb (depthOf (fold (shapes m) c)) depthLimit ≡ true
+fine-shape m c d = rw (fold-depth m c) (le-leb (depth c) depthLimit d)
 
-allowed : (m : ℕ) (c : Condition) → termsBelow m c ≡ true → depth c ≤ 8 → Allowed (shapes m) c
+allowed : (m : ℕ) (c : Condition) → termsBelow m c ≡ true → depth c ≤ depthLimit → Allowed (shapes m) c
 unfolding Allowed termsBelow depth
 allowed m (term t) k d = (k, refl)
 allowed m (neg c) k d = (allowed m c k (omega (arith, opened-ge bareBehindNot (form c) (depth c))), fine-shape m (neg c) d)
@@ -72,11 +72,11 @@ allowed-depth m c k = rw (fold-depth m c) at (allowed-fine (shapes m) c k)
 
 -- what isCondition says
 pub condition-in : (m : ℕ) (ws : List ℕ) → isCondition m ws ≡ true
-    → (ws ≡ postfix (treeOf ws)) × (termsBelow m (treeOf ws) ≡ true) × (depth (treeOf ws) ≤ 8)
+    → (ws ≡ postfix (treeOf ws)) × (termsBelow m (treeOf ws) ≡ true) × (depth (treeOf ws) ≤ depthLimit)
 condition-in m ws e =
     let p = both (same ws (postfix (treeOf ws))) _ e in
     let q = both (termsBelow m (treeOf ws)) _ (p .1) in
-    (same-eq ws _ (p .0), q .0, leb-true _ 8 (q .1))
+    (same-eq ws _ (p .0), q .0, leb-true _ depthLimit (q .1))
 
 pub condition-postfix : (m : ℕ) (c : Condition) → isCondition m (postfix c) ≡ termsBelow m c && leb (depth c) depthLimit
 condition-postfix m c = rw (tree-postfix c) (simp (same-refl (postfix c)))
@@ -110,7 +110,7 @@ condition-left : (m : ℕ) (ws : List ℕ) → isCondition m ws ≡ true
 condition-left m ws e =
     let r = condition-in m ws e in
     let c = treeOf ws in
-    ap (λ (l : List ℕ). pass (shapes m) l (some [])) (r .0) ∙ pass-postfix (shapes m) c (allowed m c (r .1) (r .2)) (r .2)
+    ap (λ (l : List ℕ). pass (shapes m) l (some [])) (r .0) ∙ pass-postfix (shapes m) c (allowed m c (r .1) (r .2)) (r .2) (omega arith)
     ∙ ap (λ (x : ℕ). some (x ∷ [])) (fold-shape m c)
 
 accepts-out : (m : ℕ) (ws : List ℕ) → isCondition m ws ≡ true → accepts m ws ≡ true

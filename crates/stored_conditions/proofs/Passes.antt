@@ -5,14 +5,15 @@ use mathlib.Core.Bool.{Bool, true, false}
 use mathlib.Core.Option.{Option, none, some}
 use Prim.Native.Nat.{ℕ, suc, _+_, _-_, _≤_, _<_}
 use native.Mathlib.Omega.{arith}
-use borrow.Author.Tests.{lt-ltb, le-leb, eqb-true, leb-true}
+use borrow.Author.Tests.{lt-ltb, ltb-true, le-leb, eqb-true, leb-true}
 use lib.Dec.{leb, ltb, eqb}
 use lib.ListN.{length}
 use Rattle.model.specs.Basic.{tab}
+use Rattle.model.specs.Bounds.{depthLimit}
 use Rattle.model.specs.Block.{Op, and, or, Condition, term, neg, two}
 use Rattle.model.specs.Parentheses.{depth}
 use Rattle.model.specs.Image.{postfix, opWord}
-use Rattle.stored_conditions.specs.Machine.{Meaning, room, added, unary, binary, step, turn}
+use Rattle.stored_conditions.specs.Machine.{Meaning, NOT-WORD, TERM-WORD, room, added, unary, binary, step, turn}
 use Rattle.stored_conditions.proofs.Room.{Fits, fits, fits-left, fits-right, fits-neg, fits-one}
 
 pub none-some : {A : Type 0} (x : A) → _≡_ {A = Option A} none (some x) → ⊥
@@ -43,38 +44,40 @@ module _ {A : Type 0} (g : Meaning A) where
   allowed-fine (two o a b) h = h .1
 
   -- A CONDITION'S WORDS
-  added-ok : (x : A) (st : List A) → g .fine x ≡ true → length st < room → added g x st ≡ some (x ∷ st)
+  added-ok : (x : A) (st : List A) → g .fine x ≡ true → length st < g .places → added g x st ≡ some (x ∷ st)
   unfolding added
-  added-ok x st e h = simp (e, lt-ltb (length st) room h)
+  added-ok x st e h = simp (e, lt-ltb (length st) (g .places) h)
 
-  step-term : (t : ℕ) (st : List A) → g .known t ≡ true → step g (16 + t) st ≡ added g (g .leaf t) st
+  step-term : (t : ℕ) (st : List A) → g .known t ≡ true → step g (TERM-WORD + t) st ≡ added g (g .leaf t) st
   unfolding step
-  step-term t st e = let q : 16 + t - 16 ≡ t = omega arith in simp (le-leb 16 (16 + t) (omega arith), q, e)
+  step-term t st e =
+      let q : TERM-WORD + t - TERM-WORD ≡ t = omega arith in
+      simp (le-leb TERM-WORD (TERM-WORD + t) (omega arith), q, e)
 
   step-two : (o : Op) (st : List A) → step g (opWord o) st ≡ binary g o st
   unfolding step
   step-two and st = refl
   step-two or st = refl
 
-  step-neg : (st : List A) → step g 0 st ≡ unary g st
+  step-neg : (st : List A) → step g NOT-WORD st ≡ unary g st
   unfolding step
   step-neg st = refl
 
-  pass-on : (c : Condition) (rest : List ℕ) (st : List A) → Allowed c → Fits c (length st)
+  pub pass-on : (c : Condition) (rest : List ℕ) (st : List A) → Allowed c → Fits (g .places) c (length st)
       → pass g (postfix c ++ rest) (some st) ≡ pass g rest (some (fold g c ∷ st))
   unfolding pass turn postfix fold Allowed unary binary
-  pass-on (term t) rest st (k, f) h = ap (pass g rest) (step-term t st k ∙ added-ok (g .leaf t) st f (fits-one (term t) _ h))
+  pass-on (term t) rest st (k, f) h = ap (pass g rest) (step-term t st k ∙ added-ok (g .leaf t) st f (fits-one (g .places) (term t) _ h))
   pass-on (neg c) rest st (k, f) h =
-      rw append-assoc (pass-on c (0 ∷ rest) st k (fits-neg c _ h)
-      ∙ ap (pass g rest) (step-neg (fold g c ∷ st) ∙ added-ok (g .no (fold g c)) st f (fits-one (neg c) _ h)))
+      rw append-assoc (pass-on c (NOT-WORD ∷ rest) st k (fits-neg (g .places) c _ h)
+      ∙ ap (pass g rest) (step-neg (fold g c ∷ st) ∙ added-ok (g .no (fold g c)) st f (fits-one (g .places) (neg c) _ h)))
   pass-on (two o a b) rest st ((ka, kb), f) h =
-      simp append-assoc (pass-on a (postfix b ++ (opWord o ∷ rest)) st ka (fits-left o a b _ h)
-      ∙ pass-on b (opWord o ∷ rest) (fold g a ∷ st) kb (fits-right o a b _ h)
-      ∙ ap (pass g rest) (step-two o (fold g b ∷ fold g a ∷ st) ∙ added-ok (g .join o (fold g a) (fold g b)) st f (fits-one (two o a b) _ h)))
+      simp append-assoc (pass-on a (postfix b ++ (opWord o ∷ rest)) st ka (fits-left (g .places) o a b _ h)
+      ∙ pass-on b (opWord o ∷ rest) (fold g a ∷ st) kb (fits-right (g .places) o a b _ h)
+      ∙ ap (pass g rest) (step-two o (fold g b ∷ fold g a ∷ st) ∙ added-ok (g .join o (fold g a) (fold g b)) st f (fits-one (g .places) (two o a b) _ h)))
 
-  pub pass-postfix : (c : Condition) → Allowed c → depth c ≤ 8 → pass g (postfix c) (some []) ≡ some (fold g c ∷ [])
+  pub pass-postfix : (c : Condition) → Allowed c → depth c ≤ depthLimit → room ≤ g .places → pass g (postfix c) (some []) ≡ some (fold g c ∷ [])
   unfolding pass
-  pass-postfix c k d = rw (append-nil (postfix c)) at (pass-on c [] [] k (fits c d))
+  pass-postfix c k d h = rw (append-nil (postfix c)) at (pass-on c [] [] k (fits (g .places) c 0 d h))
 
   -- WHAT IS ACCEPTED
   -- the words behind a stack of trees, the top last
@@ -86,12 +89,13 @@ module _ {A : Type 0} (g : Meaning A) where
   AllAllowed [] = Unit {0}
   AllAllowed (c ∷ cs) = Allowed c × AllAllowed cs
 
-  added-in : (x : A) (st st′ : List A) → added g x st ≡ some st′ → (g .fine x ≡ true) × (st′ ≡ x ∷ st)
+  pub added-in : (x : A) (st st′ : List A) → added g x st ≡ some st′ → (g .fine x ≡ true) × (st′ ≡ x ∷ st) × (length st < g .places)
   unfolding added
-  added-in x st st′ e = go (g .fine x) (ltb (length st) room) refl refl
+  added-in x st st′ e = go (g .fine x) (ltb (length st) (g .places)) refl refl
     where
-      go : (b₁ b₂ : Bool) → g .fine x ≡ b₁ → ltb (length st) room ≡ b₂ → (g .fine x ≡ true) × (st′ ≡ x ∷ st)
-      go true true e₁ e₂ = let q = simp (e₁, e₂) at e in (e₁, cc)
+      go : (b₁ b₂ : Bool) → g .fine x ≡ b₁ → ltb (length st) (g .places) ≡ b₂
+          → (g .fine x ≡ true) × (st′ ≡ x ∷ st) × (length st < g .places)
+      go true true e₁ e₂ = let q = simp (e₁, e₂) at e in (e₁, cc, ltb-true (length st) (g .places) e₂)
       go true false e₁ e₂ = absurd (none-some st′ (simp (e₁, e₂) at e))
       go false b₂ e₁ e₂ = absurd (none-some st′ (simp e₁ at e))
 
@@ -99,7 +103,7 @@ module _ {A : Type 0} (g : Meaning A) where
   unfoldable Made : List Condition → List ℕ → List A → Type 0
   Made cs ws st = (ds : List Condition) × (st ≡ map (fold g) ds) × AllAllowed ds × (words ds ≡ words cs ++ ws)
 
-  unary-in : (cs : List Condition) (st : List A) → AllAllowed cs → unary g (map (fold g) cs) ≡ some st → Made cs (0 ∷ []) st
+  unary-in : (cs : List Condition) (st : List A) → AllAllowed cs → unary g (map (fold g) cs) ≡ some st → Made cs (NOT-WORD ∷ []) st
   unfolding unary AllAllowed Made words postfix Allowed fold
   unary-in [] st gs e = absurd (none-some st e)
   unary-in (c ∷ cs) st (k, gs) e =
@@ -116,17 +120,18 @@ module _ {A : Type 0} (g : Meaning A) where
 
   step-in : (w : ℕ) (cs : List Condition) (st : List A) → AllAllowed cs → step g w (map (fold g) cs) ≡ some st → Made cs (w ∷ []) st
   unfolding step AllAllowed Made words postfix Allowed fold
-  step-in w cs st gs e = go (leb 16 w) (g .known (w - 16)) (eqb w 0) (eqb w 1) (eqb w 2) refl refl refl refl refl
+  step-in w cs st gs e = go (leb TERM-WORD w) (g .known (w - TERM-WORD)) (eqb w NOT-WORD) (eqb w (opWord and)) (eqb w (opWord or)) refl refl refl refl refl
     where
-      go : (b₁ b₂ b₃ b₄ b₅ : Bool) → leb 16 w ≡ b₁ → g .known (w - 16) ≡ b₂ → eqb w 0 ≡ b₃ → eqb w 1 ≡ b₄ → eqb w 2 ≡ b₅ → Made cs (w ∷ []) st
+      go : (b₁ b₂ b₃ b₄ b₅ : Bool) → leb TERM-WORD w ≡ b₁ → g .known (w - TERM-WORD) ≡ b₂ → eqb w NOT-WORD ≡ b₃
+          → eqb w (opWord and) ≡ b₄ → eqb w (opWord or) ≡ b₅ → Made cs (w ∷ []) st
       go true true b₃ b₄ b₅ e₁ e₂ e₃ e₄ e₅ =
-          let q = added-in (g .leaf (w - 16)) (map (fold g) cs) st (simp (e₁, e₂) at e) in
-          let s : 16 + (w - 16) ≡ w = omega (arith, leb-true 16 w e₁) in
-          (term (w - 16) ∷ cs, q .1, ((e₂, q .0), gs), rw s refl)
+          let q = added-in (g .leaf (w - TERM-WORD)) (map (fold g) cs) st (simp (e₁, e₂) at e) in
+          let s : TERM-WORD + (w - TERM-WORD) ≡ w = omega (arith, leb-true TERM-WORD w e₁) in
+          (term (w - TERM-WORD) ∷ cs, q .1, ((e₂, q .0), gs), rw s refl)
       go true false b₃ b₄ b₅ e₁ e₂ e₃ e₄ e₅ = absurd (none-some st (simp (e₁, e₂) at e))
-      go false b₂ true b₄ b₅ e₁ e₂ e₃ e₄ e₅ = rw (eqb-true w 0 e₃) (unary-in cs st gs (simp (e₁, e₃) at e))
-      go false b₂ false true b₅ e₁ e₂ e₃ e₄ e₅ = rw (eqb-true w 1 e₄) (binary-in and cs st gs (simp (e₁, e₃, e₄) at e))
-      go false b₂ false false true e₁ e₂ e₃ e₄ e₅ = rw (eqb-true w 2 e₅) (binary-in or cs st gs (simp (e₁, e₃, e₄, e₅) at e))
+      go false b₂ true b₄ b₅ e₁ e₂ e₃ e₄ e₅ = rw (eqb-true w NOT-WORD e₃) (unary-in cs st gs (simp (e₁, e₃) at e))
+      go false b₂ false true b₅ e₁ e₂ e₃ e₄ e₅ = rw (eqb-true w (opWord and) e₄) (binary-in and cs st gs (simp (e₁, e₃, e₄) at e))
+      go false b₂ false false true e₁ e₂ e₃ e₄ e₅ = rw (eqb-true w (opWord or) e₅) (binary-in or cs st gs (simp (e₁, e₃, e₄, e₅) at e))
       go false b₂ false false false e₁ e₂ e₃ e₄ e₅ = absurd (none-some st (simp (e₁, e₃, e₄, e₅) at e))
 
   pass-none : (ws : List ℕ) → pass g ws none ≡ none
@@ -182,3 +187,12 @@ module _ {A : Type 0} (g : Meaning A) where
       let q : n - i ≡ suc (n - (i + 1)) = omega arith in
       let k : d + (i + 1) ≡ suc (d + i) = omega arith in
       rw (t, e, k) (rw q at p)
+
+  -- where the whole leaves something, so does each word
+  pub left-more : (f : ℕ → ℕ) (d n i w : ℕ) (st x : List A) → pass g (tab f n d) (some []) ≡ some x → i < n → w ≡ f (d + i) → Left f d n i (some st)
+      → (s : List A) × (turn g w (some st) ≡ some s) × Left f d n (i + 1) (some s)
+  left-more f d n i w st x q h e p = go (turn g w (some st)) refl
+    where
+      go : (o : Option (List A)) → turn g w (some st) ≡ o → (s : List A) × (turn g w (some st) ≡ some s) × Left f d n (i + 1) (some s)
+      go none r = absurd (none-some x (sym (left-none f d n (i + 1) (left-turn f d n i w (some st) none h e (sym r) p)) ∙ q))
+      go (some s) r = (s, r, left-turn f d n i w (some st) (some s) h e (sym r) p)

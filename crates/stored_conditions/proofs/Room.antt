@@ -5,6 +5,7 @@ use Prim.Native.Nat.{ℕ, suc, _+_, _*_, _-_, _≤_, _<_, max}
 use native.Mathlib.Omega.{arith}
 use borrow.Author.Tests.{ltb-false}
 use lib.Dec.{ltb, eqb}
+use Rattle.model.specs.Bounds.{depthLimit}
 use Rattle.model.specs.Block.{Op, and, or, Condition, term, neg, two}
 use Rattle.model.specs.Parentheses.{rank, negatedForm, form, bareBehindNot, bareLeft, bareRight, opened, depth}
 use Rattle.stored_conditions.specs.Machine.{room}
@@ -45,41 +46,42 @@ opened-need l c = go (ltb l (form c)) refl
     go false e = rw e (omega (arith, ltb-false l (form c) e))
 
 -- operands have the room that they need, where the whole has it
-left : (o : Op) (x u v n : ℕ) → x ≤ need (bareLeft o) u → need (rank o) (max u v) + n ≤ room → x + n ≤ room
-unfolding need
-left and x u v n p h = omega arith
-left or x u v n p h = omega arith
+module _ (places : ℕ) where
+  left : (o : Op) (x u v n : ℕ) → x ≤ need (bareLeft o) u → need (rank o) (max u v) + n ≤ places → x + n ≤ places
+  unfolding need
+  left and x u v n p h = omega arith
+  left or x u v n p h = omega arith
 
-right : (o : Op) (x u v n : ℕ) → x ≤ need (bareRight o) v → need (rank o) (max u v) + n ≤ room → x + suc n ≤ room
-unfolding need
-right and x u v n p h = omega arith
-right or x u v n p h = omega arith
+  right : (o : Op) (x u v n : ℕ) → x ≤ need (bareRight o) v → need (rank o) (max u v) + n ≤ places → x + suc n ≤ places
+  unfolding need
+  right and x u v n p h = omega arith
+  right or x u v n p h = omega arith
 
-negated : (k x u n : ℕ) → x ≤ need bareBehindNot u → need (negatedForm k) u + n ≤ room → x + n ≤ room
-unfolding need
-negated k x u n p h = omega (arith, negated-form k)
+  negated : (k x u n : ℕ) → x ≤ need bareBehindNot u → need (negatedForm k) u + n ≤ places → x + n ≤ places
+  unfolding need
+  negated k x u n p h = omega (arith, negated-form k)
 
--- the condition c has room above n
-unfoldable pub Fits : Condition → ℕ → Type 0
-Fits c n = need (form c) (depth c) + n ≤ room
+  -- the condition c has room above n
+  unfoldable pub Fits : Condition → ℕ → Type 0
+  Fits c n = need (form c) (depth c) + n ≤ places
 
-pub fits-left : (o : Op) (a b : Condition) (n : ℕ) → Fits (two o a b) n → Fits a n
-unfolding Fits form depth
-fits-left o a b n h = left o _ _ (opened (bareRight o) (form b) (depth b)) n (opened-need (bareLeft o) a) h
+  pub fits-left : (o : Op) (a b : Condition) (n : ℕ) → Fits (two o a b) n → Fits a n
+  unfolding Fits form depth
+  fits-left o a b n h = left o _ _ (opened (bareRight o) (form b) (depth b)) n (opened-need (bareLeft o) a) h
 
-pub fits-right : (o : Op) (a b : Condition) (n : ℕ) → Fits (two o a b) n → Fits b (suc n)
-unfolding Fits form depth
-fits-right o a b n h = right o _ (opened (bareLeft o) (form a) (depth a)) _ n (opened-need (bareRight o) b) h
+  pub fits-right : (o : Op) (a b : Condition) (n : ℕ) → Fits (two o a b) n → Fits b (suc n)
+  unfolding Fits form depth
+  fits-right o a b n h = right o _ (opened (bareLeft o) (form a) (depth a)) _ n (opened-need (bareRight o) b) h
 
-pub fits-neg : (c : Condition) (n : ℕ) → Fits (neg c) n → Fits c n
-unfolding Fits form depth
-fits-neg c n h = negated (form c) _ _ n (opened-need bareBehindNot c) h
+  pub fits-neg : (c : Condition) (n : ℕ) → Fits (neg c) n → Fits c n
+  unfolding Fits form depth
+  fits-neg c n h = negated (form c) _ _ n (opened-need bareBehindNot c) h
 
-pub fits-one : (c : Condition) (n : ℕ) → Fits c n → n < room
-unfolding Fits need
-fits-one c n h = omega arith
+  pub fits-one : (c : Condition) (n : ℕ) → Fits c n → n < places
+  unfolding Fits need
+  fits-one c n h = omega arith
 
--- no condition of eight parentheses needs more than there is
-pub fits : (c : Condition) → depth c ≤ 8 → Fits c 0
-unfolding Fits need
-fits c d = omega (arith, form-le c)
+  -- no condition of eight parentheses needs more than `room`
+  pub fits : (c : Condition) (n : ℕ) → depth c ≤ depthLimit → n + room ≤ places → Fits c n
+  unfolding Fits need
+  fits c n d h = omega (arith, form-le c)

@@ -9,10 +9,11 @@ use borrow.Author.Tests.{ne-eqb, lt-ltb, le-ltb, ltb-true, ltb-false, le-leb, lt
 use lib.Dec.{eqb, ltb, leb}
 use lib.ListN.{length, getD, set}
 use Rattle.model.specs.Basic.{tab}
+use Rattle.model.specs.Bounds.{depthLimit}
 use Rattle.model.specs.Block.{Op, and, or}
-use Rattle.model.specs.Parentheses.{rank, negatedForm, bareLeft, bareRight, opened}
+use Rattle.model.specs.Parentheses.{rank, negatedForm, bareBehindNot, bareLeft, bareRight, opened}
 use Rattle.stored_conditions.specs.Machine.{room, added, unary, binary, stackOf}
-use Rattle.stored_conditions.specs.Shapes.{shape, formOf, depthOf, shapes, negatedShape, joinedShape, view}
+use Rattle.stored_conditions.specs.Shapes.{forms, shape, formOf, depthOf, shapes, negatedShape, joinedShape, view}
 use Rattle.stored_conditions.specs.Stored.{conditionStored}
 use Rattle.stored_conditions.proofs.Stacks.{length-stack, stack-push, stack-one, stack-two}
 use Rattle.stored_conditions.proofs.Passes.{Left, left-end, left-none}
@@ -22,10 +23,10 @@ abbrev at′ : List ℕ → ℕ → ℕ
 at′ l i = getD l i 0
 
 -- where forms up to l stand bare, a looser one carries
-pub opening-is : (l s : ℕ) → l ≤ 4 → (s + 7 - l) / 8 ≡ opened l (formOf s) (depthOf s)
+pub opening-is : (l s : ℕ) → l ≤ 4 → (s + forms - 1 - l) / forms ≡ opened l (formOf s) (depthOf s)
 opening-is l s h = go (ltb l (formOf s)) refl
   where
-    go : (b : Bool) → ltb l (formOf s) ≡ b → (s + 7 - l) / 8 ≡ opened l (formOf s) (depthOf s)
+    go : (b : Bool) → ltb l (formOf s) ≡ b → (s + forms - 1 - l) / forms ≡ opened l (formOf s) (depthOf s)
     go true e = let p = ltb-true l (formOf s) e in rw e (omega arith)
     go false e = let p = ltb-false l (formOf s) e in rw e (omega arith)
 
@@ -43,25 +44,25 @@ unfolding view
 unseen l = refl
 
 module _ (m : ℕ) (l : List ℕ) (n k d : ℕ) (h : k ≤ 4) where
-  pub pushed : d ≤ 8 → n < room → n < length l → view (set l n (shape k d)) (n + 1) ≡ added (shapes m) (shape k d) (stackOf 0 l n)
+  pub pushed : d ≤ depthLimit → n < room → n < length l → view (set l n (shape k d)) (n + 1) ≡ added (shapes m) (shape k d) (stackOf 0 l n)
   unfolding added
   pushed low few fit =
-      let f : leb (depthOf (shape k d)) 8 ≡ true = ap (λ (x : ℕ). leb x 8) (depth-shape k d h) ∙ le-leb d 8 low in
+      let f : leb (depthOf (shape k d)) depthLimit ≡ true = ap (λ (x : ℕ). leb x depthLimit) (depth-shape k d h) ∙ le-leb d depthLimit low in
       seen (set l n (shape k d)) (n + 1) (omega arith)
       ∙ simp (f, length-stack, lt-ltb n room few, stack-push 0 l n (shape k d) fit)
 
   pub full : room ≤ n → none ≡ added (shapes m) (shape k d) (stackOf 0 l n)
   unfolding added
-  full many = go (leb (depthOf (shape k d)) 8) refl
+  full many = go (leb (depthOf (shape k d)) depthLimit) refl
     where
-      go : (b : Bool) → leb (depthOf (shape k d)) 8 ≡ b → none ≡ added (shapes m) (shape k d) (stackOf 0 l n)
+      go : (b : Bool) → leb (depthOf (shape k d)) depthLimit ≡ b → none ≡ added (shapes m) (shape k d) (stackOf 0 l n)
       go true e = simp (e, length-stack, le-ltb n room many)
       go false e = simp e
 
-  pub deep : 8 < d → none ≡ added (shapes m) (shape k d) (stackOf 0 l n)
+  pub deep : depthLimit < d → none ≡ added (shapes m) (shape k d) (stackOf 0 l n)
   unfolding added
   deep high =
-      let f : leb (depthOf (shape k d)) 8 ≡ false = ap (λ (x : ℕ). leb x 8) (depth-shape k d h) ∙ lt-leb d 8 high in
+      let f : leb (depthOf (shape k d)) depthLimit ≡ false = ap (λ (x : ℕ). leb x depthLimit) (depth-shape k d h) ∙ lt-leb d depthLimit high in
       simp f
 
 pub join-is : (m : ℕ) (o : Op) (l : List ℕ) (n k r z : ℕ) → 2 ≤ n → k ≡ rank o → r ≡ bareRight o
@@ -77,7 +78,7 @@ few-is m o l (suc zero) h = refl
 few-is m o l (suc (suc n)) h = absurd (omega arith)
 
 pub negate-is : (m : ℕ) (l : List ℕ) (n k d : ℕ) → 0 < n → k ≡ negatedForm (formOf (at′ l (n - 1)))
-    → d ≡ opened 1 (formOf (at′ l (n - 1))) (depthOf (at′ l (n - 1)))
+    → d ≡ opened bareBehindNot (formOf (at′ l (n - 1))) (depthOf (at′ l (n - 1)))
     → added (shapes m) (shape k d) (stackOf 0 l (n - 1)) ≡ unary (shapes m) (stackOf 0 l n)
 unfolding unary negatedShape
 negate-is m l n k d h e q = rw (stack-one 0 l n h, q, e) refl

@@ -9,10 +9,11 @@ use Rattle.model.specs.Block.{Op, and, or, Condition, term, neg, two, size}
 use Rattle.model.specs.Image.{postfix, opWord, joinTop, grown, trees, treeOf}
 use Rattle.laws.proofs.Places.{At, tab-at}
 use Rattle.laws.proofs.Conditions.{length-postfix}
+use Rattle.stored_conditions.specs.Machine.{NOT-WORD, TERM-WORD}
 
-grown-term : (t : ℕ) (st : List Condition) → grown (16 + t) st ≡ term t ∷ st
+grown-term : (t : ℕ) (st : List Condition) → grown (TERM-WORD + t) st ≡ term t ∷ st
 unfolding grown
-grown-term t st = let q : 16 + t - 16 ≡ t = omega arith in simp (le-leb 16 (16 + t) (omega arith), q)
+grown-term t st = let q : TERM-WORD + t - TERM-WORD ≡ t = omega arith in simp (le-leb TERM-WORD (TERM-WORD + t) (omega arith), q)
 
 grown-two : (o : Op) (st : List Condition) → grown (opWord o) st ≡ joinTop o st
 unfolding grown
@@ -22,7 +23,7 @@ grown-two or st = refl
 trees-postfix : (c : Condition) (rest : List ℕ) (st : List Condition) → trees (postfix c ++ rest) st ≡ trees rest (c ∷ st)
 unfolding trees postfix grown
 trees-postfix (term t) rest st = ap (trees rest) (grown-term t st)
-trees-postfix (neg c) rest st = rw append-assoc (trees-postfix c (0 ∷ rest) st)
+trees-postfix (neg c) rest st = rw append-assoc (trees-postfix c (NOT-WORD ∷ rest) st)
 trees-postfix (two o a b) rest st =
     simp append-assoc (trees-postfix a (postfix b ++ (opWord o ∷ rest)) st ∙ trees-postfix b (opWord o ∷ rest) (a ∷ st)
     ∙ ap (trees rest) (grown-two o (b ∷ a ∷ st)))

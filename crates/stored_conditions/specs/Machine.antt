@@ -3,26 +3,40 @@
 use mathlib.Core.List.{List, [], _∷_}
 use mathlib.Core.Bool.{Bool}
 use mathlib.Core.Option.{Option, none, some}
-use Prim.Native.Nat.{ℕ, zero, suc, _-_}
+use Prim.Native.Nat.{ℕ, zero, suc, _+_, _*_, _-_}
 use lib.Dec.{leb, ltb, eqb}
 use lib.ListN.{length, getD}
 use Rattle.model.specs.Basic.{if_then_else_}
+use Rattle.model.specs.Bounds.{depthLimit}
 use Rattle.model.specs.Block.{Op, and, or}
+use Rattle.model.specs.Image.{opWord}
 
--- known: which terms there are; fine: what may stand on the stack
+-- the condition words that model's `postfix` writes beside `opWord`: NOT, and the first input term
+abbrev pub NOT-WORD : ℕ
+NOT-WORD = 0
+
+abbrev pub TERM-WORD : ℕ
+TERM-WORD = 16
+
+-- the operator of a word that is neither
+abbrev pub operatorOf : ℕ → Op
+operatorOf w = if eqb w (opWord and) then and else or
+
+-- known: which terms there are; fine: what may stand on the stack; places: how many on the stack
 pub record Meaning (A : Type 0) : Type 0 where
   pub leaf : ℕ → A
   pub no : A → A
   pub join : Op → A → A → A
   pub fine : A → Bool
   pub known : ℕ → Bool
+  pub places : ℕ
 
--- places on the stack: no condition of eight parentheses needs more
+-- no condition of eight parentheses needs more places
 abbrev pub room : ℕ
-room = 19
+room = 2 * depthLimit + 3
 
 unfoldable pub added : {A : Type 0} → Meaning A → A → List A → Option (List A)
-added g x st = if g .fine x then (if ltb (length st) room then some (x ∷ st) else none) else none
+added g x st = if g .fine x then (if ltb (length st) (g .places) then some (x ∷ st) else none) else none
 
 unfoldable pub unary : {A : Type 0} → Meaning A → List A → Option (List A)
 unary g [] = none
@@ -35,10 +49,10 @@ binary g o (b ∷ a ∷ st) = added g (g .join o a b) st
 
 unfoldable pub step : {A : Type 0} → Meaning A → ℕ → List A → Option (List A)
 step g w st =
-    if leb 16 w then (if g .known (w - 16) then added g (g .leaf (w - 16)) st else none) else
-    if eqb w 0 then unary g st else
-    if eqb w 1 then binary g and st else
-    if eqb w 2 then binary g or st else none
+    if leb TERM-WORD w then (if g .known (w - TERM-WORD) then added g (g .leaf (w - TERM-WORD)) st else none) else
+    if eqb w NOT-WORD then unary g st else
+    if eqb w (opWord and) then binary g and st else
+    if eqb w (opWord or) then binary g or st else none
 
 unfoldable pub turn : {A : Type 0} → Meaning A → ℕ → Option (List A) → Option (List A)
 turn g w none = none

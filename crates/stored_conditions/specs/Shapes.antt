@@ -8,17 +8,20 @@ use Rattle.model.specs.Basic.{if_then_else_}
 use Rattle.model.specs.Bounds.{depthLimit}
 use Rattle.model.specs.Block.{Op}
 use Rattle.model.specs.Parentheses.{rank, negatedForm, bareBehindNot, bareLeft, bareRight, opened}
-use Rattle.stored_conditions.specs.Machine.{Meaning, stackOf}
+use Rattle.stored_conditions.specs.Machine.{Meaning, room, stackOf}
 
--- the forms are below 8
+-- the forms are below it
+abbrev pub forms : ℕ
+forms = 8
+
 abbrev pub shape : ℕ → ℕ → ℕ
-shape k d = d * 8 + k
+shape k d = d * forms + k
 
 abbrev pub formOf : ℕ → ℕ
-formOf s = s % 8
+formOf s = s % forms
 
 abbrev pub depthOf : ℕ → ℕ
-depthOf s = s / 8
+depthOf s = s / forms
 
 unfoldable pub negatedShape : ℕ → ℕ
 negatedShape a = shape (negatedForm (formOf a)) (opened bareBehindNot (formOf a) (depthOf a))
@@ -34,6 +37,7 @@ shapes m = record {
   join = joinedShape;
   fine = λ a. leb (depthOf a) depthLimit;
   known = λ t. ltb t m;
+  places = room;
 }
 
 -- what a step leaves in the code's array; none where it answers 0

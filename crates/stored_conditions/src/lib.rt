@@ -32,9 +32,9 @@ pub const AND_FORM: u8 = 3;
 pub const OR_FORM: u8 = 4;
 
 // Places for operands: no condition of eight parentheses needs more.
-pub const ROOM: usize = 19;
+pub const ROOM: usize = 2 * DEPTH + 3;
 
-// A subtree is kept as one number, its shape: eight times the parentheses open at once in it, and its form.
+// A subtree is kept as one number, its shape: FORMS times the parentheses open at once in it, and its form.
 const FORMS: u8 = 8;
 
 // l: the loosest form that stands bare; a looser one carries into the depth.
@@ -42,7 +42,8 @@ fn opening(l: u8, shape: u8) -> usize
     requires { ⌜ l ≤ 4 ⌝ }
     ensures { λ r. ⌜ r ≡ opened l (formOf shape) (depthOf shape) ⌝ }
 {
-    (shape as usize + 7 - l as usize) / 8
+    let forms = FORMS as usize;
+    (shape as usize + forms - 1 - l as usize) / forms
 }
 
 fn negated_form(form: u8) -> u8

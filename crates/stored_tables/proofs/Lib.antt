@@ -1,5 +1,2 @@
-pub mod Names
-pub mod RowTests
-pub mod Lists
 pub mod Loops
 pub mod Whole

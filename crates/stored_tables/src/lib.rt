@@ -1,16 +1,21 @@
-// Header and tables of inputs, outputs, terms and points of a stored image: whether they are laid out as a block's.
+// The tables of inputs, outputs, terms and points of a stored image, with its header: whether they are laid out as a
+// block's.
 ghost use mathlib.Core.Path.{_≡_};
 ghost use mathlib.Core.Bool.{true, false};
 ghost use Prim.Native.Nat.{_+_, _*_, _≤_};
-ghost use lib.Dec.{ltb, eqb};
 ghost use lib.ListN.{length};
-ghost use Rattle.model.specs.Basic.{if_then_else_, every};
-ghost use Rattle.model.specs.Image.{wordAt, wordBytes, headerSize};
-ghost use Rattle.layout.specs.Tables.{sums, termCount, inputTermsIn, outputTermsIn, inputRows, nameExact, headerOk};
+ghost use Rattle.model.specs.Basic.{every};
+ghost use Rattle.model.specs.Image.{wordAt, headerSize};
+ghost use Rattle.layout.specs.Tables.{sums, termCount, inputTermsIn, outputTermsIn, inputRows};
 ghost use Rattle.layout.specs.Groups.{tablesOk};
 ghost use Rattle.header.specs.Header.{Heads, Holds};
-ghost use Rattle.stored_tables.specs.Tests.{padRun, rangeTest, defaultTest, inputTest, outputTest, termTest, singletonTest, offsetTests, codeTests, outputRowsFrom, termRowsTo, outputTermRowsFrom, outputPointsFrom, termTests};
+ghost use Rattle.stored_tables.specs.Tests.{outputRowsFrom, termRowsTo, outputTermRowsFrom, outputPointsFrom, termTests};
 use header::Header;
+use stored_header::header_ok;
+use stored_rows::input_ok;
+use stored_rows::output_ok;
+use stored_rows::singleton_ok;
+use stored_rows::term_ok;
 use words::whole_word;
 
 // The terms of inputs stand before those of outputs.
@@ -23,235 +28,6 @@ pub struct Laid {
 struct Rows {
     ok: bool,
     next: usize,
-}
-
-// Letters up to a zero byte of a word: nothing but zeros behind them where the word is below a.
-fn pad_from(x: usize, a: usize) -> usize
-    ensures { λ r. ⌜ r ≡ if ltb x a then 1 else 2 ⌝ }
-{
-    if x < a {
-        return 1;
-    }
-    2
-}
-
-// One word more of a name that has been letters so far.
-fn first_pad(x: usize) -> usize
-    ensures { λ r. ⌜ r ≡ padRun 0 (wordBytes x) ⌝ }
-{
-    if x % 256 == 0 {
-        return pad_from(x, 1);
-    }
-    if x / 256 % 256 == 0 {
-        return pad_from(x, 256);
-    }
-    if x / 65536 % 256 == 0 {
-        return pad_from(x, 65536);
-    }
-    if x / 16777216 == 0 {
-        return 1;
-    }
-    0
-}
-
-fn pad_word(m: usize, x: usize) -> usize
-    ensures { λ r. ⌜ r ≡ padRun m (wordBytes x) ⌝ }
-{
-    if m == 0 {
-        return first_pad(x);
-    }
-    if x == 0 {
-        return m;
-    }
-    2
-}
-
-// A name of 16 bytes, zero padded, that starts at o.
-fn name_exact(img: &[u8], o: usize) -> bool
-    requires { ⌜ (o + 4) * 4 ≤ length (now img) ⌝ }
-    ensures { λ r. ⌜ r ≡ nameExact (wordAt (now (img .entry))) o ⌝ }
-{
-    let a = pad_word(0, whole_word(img, o));
-    let b = pad_word(a, whole_word(img, o + 1));
-    let c = pad_word(b, whole_word(img, o + 2));
-    pad_word(c, whole_word(img, o + 3)) <= 1
-}
-
-// A table that starts at a, of n rows of s words, ends at e.
-fn follows(e: usize, a: usize, n: usize, s: usize) -> bool
-    requires { ⌜ (a ≤ 4294967295) × ((n ≤ 4294967295) × (s ≤ 11)) ⌝ }
-    ensures { λ r. ⌜ r ≡ eqb e (a + n * s) ⌝ }
-{
-    e == a + n * s
-}
-
-fn offsets_ok(img: &[u8], h: Header) -> bool
-    requires { ⌜ Heads (wordAt (now img)) h × (headerSize * 4 ≤ length (now img)) ⌝ }
-    ensures { λ r. ⌜ r ≡ every (offsetTests (wordAt (now (img .entry))) h) ⌝ }
-{
-    if whole_word(img, header::LAYOUT) != header::layout_word() {
-        return false;
-    }
-    if h.input_table != header::SIZE {
-        return false;
-    }
-    if !follows(h.output_table, h.input_table, h.inputs, header::INPUT_WIDTH) {
-        return false;
-    }
-    if !follows(
-        h.term_table,
-        h.output_table,
-        h.outputs,
-        header::OUTPUT_WIDTH,
-    ) {
-        return false;
-    }
-    if !follows(h.point_table, h.term_table, h.terms, header::TERM_WIDTH) {
-        return false;
-    }
-    if !follows(h.rule_table, h.point_table, h.points, header::POINT_WIDTH) {
-        return false;
-    }
-    if !follows(h.word_table, h.rule_table, h.rules, header::RULE_WIDTH) {
-        return false;
-    }
-    if !follows(
-        h.conclusion_table,
-        h.word_table,
-        h.words,
-        header::WORD_WIDTH,
-    ) {
-        return false;
-    }
-    let total = whole_word(img, header::TOTAL);
-    follows(
-        total,
-        h.conclusion_table,
-        h.conclusions,
-        header::CONCLUSION_WIDTH,
-    )
-}
-
-fn codes_ok(img: &[u8]) -> bool
-    requires { ⌜ headerSize * 4 ≤ length (now img) ⌝ }
-    ensures { λ r. ⌜ r ≡ every (codeTests (wordAt (now (img .entry)))) ⌝ }
-{
-    if header::LAST_PAIR < whole_word(img, header::PAIR) {
-        return false;
-    }
-    if header::LAST_ACCU < whole_word(img, header::ACCU) {
-        return false;
-    }
-    if header::LAST_ACT < whole_word(img, header::ACT) {
-        return false;
-    }
-    if whole_word(img, header::SPARE) != 0 {
-        return false;
-    }
-    if !name_exact(img, header::BLOCK_NAME) {
-        return false;
-    }
-    if !name_exact(img, header::RULE_BLOCK_NAME) {
-        return false;
-    }
-    true
-}
-
-fn header_ok(img: &[u8], h: Header) -> bool
-    requires { ⌜ Heads (wordAt (now img)) h × (length (now img) ≡ wordAt (now img) 1 * 4)
-        × (headerSize * 4 ≤ length (now img)) ⌝ }
-    ensures { λ r. ⌜ r ≡ headerOk (wordAt (now (img .entry))) ⌝ }
-{
-    if !offsets_ok(img, h) {
-        return false;
-    }
-    codes_ok(img)
-}
-
-// RANGE of the output whose row starts at o is given, or its words are 0.
-fn range_ok(img: &[u8], o: usize) -> bool
-    requires { ⌜ (o + 11) * 4 ≤ length (now img) ⌝ }
-    ensures { λ r. ⌜ r ≡ rangeTest (wordAt (now (img .entry))) o ⌝ }
-{
-    let flag = whole_word(img, o + header::OUTPUT_RANGE);
-    if flag == 0 {
-        if whole_word(img, o + header::OUTPUT_LEAST) != 0 {
-            return false;
-        }
-        return whole_word(img, o + header::OUTPUT_MOST) == 0;
-    }
-    flag == header::GIVEN
-}
-
-// DEFAULT of that output is a value, or its word is 0.
-fn default_ok(img: &[u8], o: usize) -> bool
-    requires { ⌜ (o + 11) * 4 ≤ length (now img) ⌝ }
-    ensures { λ r. ⌜ r ≡ defaultTest (wordAt (now (img .entry))) o ⌝ }
-{
-    let kind = whole_word(img, o + header::OUTPUT_DEFAULT_KIND);
-    if kind == 0 {
-        return whole_word(img, o + header::OUTPUT_DEFAULT) == 0;
-    }
-    kind == header::GIVEN
-}
-
-fn input_ok(img: &[u8], o: usize, p: usize) -> bool
-    requires { ⌜ (o + 7) * 4 ≤ length (now img) ⌝ }
-    ensures { λ r. ⌜ r ≡ inputTest (wordAt (now (img .entry))) o p ⌝ }
-{
-    if !name_exact(img, o) {
-        return false;
-    }
-    if header::LAST_TYPE < whole_word(img, o + header::INPUT_TYPE) {
-        return false;
-    }
-    if whole_word(img, o + header::INPUT_FIRST) != p {
-        return false;
-    }
-    true
-}
-
-fn output_ok(img: &[u8], o: usize, p: usize) -> bool
-    requires { ⌜ (o + 11) * 4 ≤ length (now img) ⌝ }
-    ensures { λ r. ⌜ r ≡ outputTest (wordAt (now (img .entry))) o p ⌝ }
-{
-    if !name_exact(img, o) {
-        return false;
-    }
-    if whole_word(img, o + header::OUTPUT_FIRST) != p {
-        return false;
-    }
-    if !range_ok(img, o) {
-        return false;
-    }
-    if !default_ok(img, o) {
-        return false;
-    }
-    true
-}
-
-fn term_ok(img: &[u8], o: usize, p: usize) -> bool
-    requires { ⌜ (o + 6) * 4 ≤ length (now img) ⌝ }
-    ensures { λ r. ⌜ r ≡ termTest (wordAt (now (img .entry))) o p ⌝ }
-{
-    if !name_exact(img, o) {
-        return false;
-    }
-    if whole_word(img, o + header::TERM_FIRST) != p {
-        return false;
-    }
-    true
-}
-
-// A term of an output has one point.
-fn singleton_ok(img: &[u8], o: usize, p: usize) -> bool
-    requires { ⌜ (o + 6) * 4 ≤ length (now img) ⌝ }
-    ensures { λ r. ⌜ r ≡ singletonTest (wordAt (now (img .entry))) o p ⌝ }
-{
-    if !term_ok(img, o, p) {
-        return false;
-    }
-    whole_word(img, o + header::TERM_POINTS) == 1
 }
 
 fn input_rows(img: &[u8], h: Header) -> Rows

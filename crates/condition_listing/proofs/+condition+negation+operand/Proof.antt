@@ -6,7 +6,7 @@ use lib.ListN.{length}
 use Rattle.model.specs.Parentheses.{rank}
 use Rattle.model.specs.Image.{wordAt, decode}
 use Rattle.model.specs.Listing.{inputTermName, conditionText}
-use Rattle.condition_listing.specs.Spans.{operatorOf}
+use Rattle.stored_conditions.specs.Machine.{operatorOf}
 use Rattle.condition_listing.proofs.Spans as spans
 use Rattle.condition_listing.proofs.Texts as texts
 use borrow.Fn.Kinds.{In}
@@ -257,7 +257,7 @@ condition-negation-requires : (t : ℕ) → condition-lts.Need-negation-requires
 ) (condition-at t) condition.Post condition-Inv-loop condition-μ-loop
 condition-negation-requires t c κs =
     let s = c .before .before .before .before .before .before .before .before in
-    (search needs, (s .pre .1 .0, s .pre .1 .1, search needs, s .pre .1 .3))
+    (search needs, (s .pre .1 .0, search needs))
 
 condition-same-length-2 : (t : ℕ) → condition-lts.Need-same-length-2 (
   whole-word-reads.Asked,
@@ -377,7 +377,7 @@ condition-operand-requires : (t : ℕ) → condition-lts.Need-operand-requires (
 ) (condition-at t) condition.Post condition-Inv-loop condition-μ-loop
 condition-operand-requires t c κs =
     let s = c .before .before .before .before .before .before .before .before .before in
-    (search needs, (s .pre .1 .0, s .pre .1 .1, search needs, s .pre .1 .3))
+    (search needs, (s .pre .1 .0, search needs))
 
 condition-operator-requires : (t : ℕ) → condition-lts.Need-operator-requires (
   whole-word-reads.Asked,
@@ -436,7 +436,7 @@ condition-operand-requires-2 t c κs =
     let test = first .before .before .before .before .before .before in
     let s = test .before .before .before .before in
     let low : first .operand .result .first ≤ s .args .e - 1 = omega (arith, first .operand .ensures .1, test .before .loop .inv .0) in
-    (omega (arith, low, s .pre .0, test .before .loop .inv .0, test .loop-test), (s .pre .1 .0, s .pre .1 .1, omega (arith, low, s .pre .1 .2), s .pre .1 .3))
+    (omega (arith, low, s .pre .0, test .before .loop .inv .0, test .loop-test), (s .pre .1 .0, omega (arith, low, s .pre .1 .1)))
 
 condition-same-length-3 : (t : ℕ) → condition-lts.Need-same-length-3 (
   whole-word-reads.Asked,

@@ -17,18 +17,18 @@ abbrev μ-loop : tie.MeasureT-loop
 loop-holds : tie.Need-loop-holds Inv-loop μ-loop
 loop-holds c =
     let s = c .before in
-    (search needs, among-all (wordAt (s .args .img .now)) (s .args .t) (s .pre .0))
+    (search needs, among-all (wordAt (s .args .img .now)) (s .args .t) (s .pre .sound))
 
 -- the row lies in the image
 within : (c : tie.After-input-row Inv-loop μ-loop) → (c .input-row .result + 7) * 4 ≤ length (c .before .before .before .before .args .img .now)
 within c =
     let s = c .before .before .before .before in
-    let h = s .pre .1 in
-    omega (arith, c .input-row .ensures .0 (wordAt (s .args .img .now)) h, h .input-table, s .pre .2 .inputs, c .before .loop-test .taken)
+    let h = s .pre .heads in
+    omega (arith, c .input-row .ensures .0 (wordAt (s .args .img .now)) h, h .input-table, s .pre .holds .inputs, c .before .loop-test .taken)
 
 input-row-requires : tie.Need-input-row-requires Inv-loop μ-loop
 input-row-requires c κs =
-    let h = c .before .before .before .pre .1 in
+    let h = c .before .before .before .pre .heads in
     omega (arith, h .input-table, h .fits 9, h .inputs, h .fits 2)
 
 add-whole-word : tie.Need-add-whole-word Inv-loop μ-loop
@@ -53,7 +53,7 @@ returns c =
     let row = first .before in
     let l = row .before .before .loop in
     let s = row .before .before .before .before in
-    let hd = s .pre .1 in
+    let hd = s .pre .heads in
     let w = wordAt (s .args .img .now) in
     let o = row .input-row .ensures .0 w hd in
     let below : l .i < w 2 = omega (arith, hd .inputs) in (
@@ -75,7 +75,7 @@ loop-again c =
     let row = first .before in
     let l = row .before .before .loop in
     let s = row .before .before .before .before in
-    let hd = s .pre .1 in
+    let hd = s .pre .heads in
     let w = wordAt (s .args .img .now) in
     let o = row .input-row .ensures .0 w hd in
     let below : l .i < w 2 = omega (arith, hd .inputs) in (
@@ -88,7 +88,7 @@ returns-2 : tie.Need-returns-2 Inv-loop μ-loop
 returns-2 c =
     let l = c .before .loop in
     let s = c .before .before .before in
-    let hd = s .pre .1 in
+    let hd = s .pre .heads in
     let w = wordAt (s .args .img .now) in (
       λ h. absurd (omega arith),
       λ h. among-none w (s .args .t) (l .i) (omega (arith, hd .inputs)) (l .inv .1),

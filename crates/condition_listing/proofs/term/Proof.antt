@@ -24,8 +24,8 @@ returns c =
 term-row-requires : tie.Need-term-row-requires
 term-row-requires c κs =
     let s = c .before .before .before .before .before .before .before in
-    let hd = s .pre .1 in
-    omega (arith, hd .term-table, hd .fits 11, s .pre .2)
+    let hd = s .pre .0 .heads in
+    omega (arith, hd .term-table, hd .fits 11, s .pre .1)
 
 name-requires : tie.Need-name-requires
 name-requires c κs = search needs
@@ -36,7 +36,7 @@ puts-requires-2 c κs = search needs
 input-row-requires : tie.Need-input-row-requires
 input-row-requires c κs =
     let test = c .before .before .before .before .before .before .before .before .before .before in
-    let hd = test .before .before .before .before .before .before .pre .1 in
+    let hd = test .before .before .before .before .before .before .pre .0 .heads in
     omega (arith, hd .input-table, hd .fits 9, hd .inputs, hd .fits 2, test .if1 .left)
 
 name-requires-2 : tie.Need-name-requires-2
@@ -55,7 +55,7 @@ returns-2 c =
     let o = test .before .before in
     let s = o .before .before .before .before in
     let w = wordAt (s .args .img .now) in
-    let hd = s .pre .1 in
+    let hd = s .pre .0 .heads in
     let x : nameAt w (row .input-row .result) ≡ nameAt w (inputPlace w (o .owner .result)) = ap (nameAt w) (row .input-row .ensures .0 w hd) in
     let y : nameAt w (first .before .term-row .result) ≡ nameAt w (termPlace w (s .args .t)) = ap (nameAt w) (first .before .term-row .ensures .0 w hd) in
     named-written _ _ _ (o .owner .ensures .0 (test .if1 .left)) (rw y at (first .name .ensures)) (p .puts2 .ensures) (rw x at (last .name2 .ensures))

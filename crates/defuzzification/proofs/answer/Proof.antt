@@ -23,7 +23,7 @@ centre-of-requires c κs = search needs
 without-rule-requires : tie.Need-without-rule-requires
 without-rule-requires c κs =
     let s = c .before .before .before .before in
-    (s .pre .0 .1, s .pre .0 .3, omega (arith, s .pre .0 .1 .outputs, s .pre .0 .2))
+    (s .pre .0 .0, omega (arith, s .pre .0 .0 .heads .outputs, s .pre .0 .1))
 
 returns : tie.Need-returns
 returns c hs e =
@@ -49,7 +49,7 @@ returns-2 c hs e =
     let ps = positionsOf w (a .i) in
     let inside : (k : ℕ) → k < length ps → k < n = λ k h. omega (arith, h, length-tab f n p) in
     let crisp : (k : ℕ) → k < length ps → InCrisp (getD ps k (pos 0)) =
-    λ k h. subst InCrisp (sym (tab-nth f n p k (pos 0) (inside k h))) (positions-crisp w (s .pre .0 .0) (a .i) (s .pre .0 .2) k (inside k h)) in
+    λ k h. subst InCrisp (sym (tab-nth f n p k (pos 0) (inside k h))) (positions-crisp w (s .pre .0 .0 .sound) (a .i) (s .pre .0 .1) k (inside k h)) in
     ap (λ (x : Float). record { mark = Fired; thousandths = o .result .figure; sum = o .result .sum; value = x }) (c .to-float .ensures)
     ∙ fired-is (outputAt w (a .i)) ps hs (a .held .0) (o .result .figure .0) (o .result .sum) (sym (map-tab (λ t. t .at) (singletonAt w) n p))
     (o .ensures .1 .0 ∙ e .1) (o .ensures .0 ps hs e crisp) (omega (arith, c .before .before .if1 .left))

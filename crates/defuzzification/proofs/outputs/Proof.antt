@@ -6,6 +6,7 @@ use native.Mathlib.Omega.{arith}
 use lib.IntN.{ℤ, pos}
 use lib.ListN.{length, length-map, getD, set, replicate}
 use Rattle.model.specs.Basic.{total, tab}
+use Rattle.model.specs.Bounds.{M, outputLimit, termLimit, outputTermLimit}
 use Rattle.model.specs.Image.{wordAt, singletonAt}
 use Rattle.model.specs.Evaluation.{noAnswer, padded, heldOf}
 use Rattle.model.specs.declared.Answer.{Answer}
@@ -28,7 +29,7 @@ placeIn w j = singletonAt w j .at
 abbrev Inv-loop2 : tie.InvT-loop2
 Inv-loop2 img h m hs answers figures kept n i row first count sums₀ k₀ sums k =
     (k ≤ count) × SumsOf sums (tab (placeIn (wordAt img)) k first) (tab (heightOf hs m) k first)
-    × (sums .heights ≤ 1000000 * k) × (sums .moment ≤ 2000000000 * sums .heights)
+    × (sums .heights ≤ M * k) × (sums .moment ≤ 2000000000 * sums .heights)
 
 abbrev μ-loop2 : tie.MeasureT-loop2
 μ-loop2 img h m hs answers figures kept n i row first count sums₀ k₀ sums k = count - k
@@ -36,8 +37,8 @@ abbrev μ-loop2 : tie.MeasureT-loop2
 abbrev Inv-loop : tie.InvT-loop
 Inv-loop img h m hs answers₀ figures₀ kept n i₀ answers figures i =
     let f = answerAt (wordAt img) (heightOf hs m) kept in
-    (i ≤ n) × (n ≤ 6) × (answers ≡ tab f i 0 ++ replicate (6 - i) noAnswer)
-    × (figures ≡ tab (λ j. f j .thousandths) i 0 ++ replicate (6 - i) (record { 0 = pos 0 }))
+    (i ≤ n) × (n ≤ outputLimit) × (answers ≡ tab f i 0 ++ replicate (outputLimit - i) noAnswer)
+    × (figures ≡ tab (λ j. f j .thousandths) i 0 ++ replicate (outputLimit - i) (record { 0 = pos 0 }))
 
 abbrev μ-loop : tie.MeasureT-loop
 μ-loop img h m hs answers₀ figures₀ kept n i₀ answers figures i = n - i
@@ -59,14 +60,14 @@ turn c = c .before .before .before
 
 -- the output is one of the image's
 known : (c : Turn) → c .before .loop .i < wordAt (start c .args .img .now) 3
-known c = omega (arith, c .loop-test .taken, start c .pre .0 .1 .outputs)
+known c = omega (arith, c .loop-test .taken, start c .pre .0 .heads .outputs)
 
 -- its row lies in the image
 inside : (c : Row) → (c .output-row .result + 11) * 4 ≤ length (start (c .before) .args .img .now)
 inside c =
     let s = start (c .before) in
-    let h = s .pre .0 .1 in
-    omega (arith, c .output-row .ensures .0 (wordAt (s .args .img .now)) h, h .output-table, h .outputs, known (c .before), s .pre .0 .2 .outputs)
+    let h = s .pre .0 .heads in
+    omega (arith, c .output-row .ensures .0 (wordAt (s .args .img .now)) h, h .output-table, h .outputs, known (c .before), s .pre .0 .holds .outputs)
 
 -- the output's terms: the first, and how many
 read : (c : Read) →
@@ -76,17 +77,17 @@ read : (c : Read) →
 read c =
     let s = start (turn c) in
     let w = wordAt (s .args .img .now) in
-    let e = c .before .before .output-row .ensures .0 w (s .pre .0 .1) in
+    let e = c .before .before .output-row .ensures .0 w (s .pre .0 .heads) in
     (c .before .whole-word .ensures .0 ∙ ap (λ (o : ℕ). w (o + 4)) e, c .whole-word2 .ensures .0 ∙ ap (λ (o : ℕ). w (o + 5)) e)
 
 -- where the terms' heights stand
 within : (c : Read) →
     let m = start (turn c) .args .m in
     let first = c .before .whole-word .result in
-    (c .whole-word2 .result ≤ 7) × (m ≤ first) × (first - m + c .whole-word2 .result ≤ 42)
+    (c .whole-word2 .result ≤ termLimit) × (m ≤ first) × (first - m + c .whole-word2 .result ≤ outputTermLimit)
 within c =
     let s = start (turn c) in
-    omega (arith, output-numbers (wordAt (s .args .img .now)) (s .pre .0 .0) (turn c .before .loop .i) (known (turn c)), read c, s .pre .1 .0)
+    omega (arith, output-numbers (wordAt (s .args .img .now)) (s .pre .0 .sound) (turn c .before .loop .i) (known (turn c)), read c, s .pre .1 .0)
 
 -- the sums after the last turn
 all-done : (c : tie.After-loop2 Inv-loop2 μ-loop2 Inv-loop μ-loop) →
@@ -114,12 +115,12 @@ loop-holds : tie.Need-loop-holds Inv-loop2 μ-loop2 Inv-loop μ-loop
 unfolding tab
 loop-holds c =
     let s = c .before .before .before in
-    let few = outputs-few (wordAt (s .args .img .now)) (s .pre .0 .0) in
+    let few = outputs-few (wordAt (s .args .img .now)) (s .pre .0 .sound) in
     let e = c .before .no-answer .ensures in
-    (search needs, omega (arith, few, s .pre .0 .1 .outputs), (λ j. e j ∷ e j ∷ e j ∷ e j ∷ e j ∷ e j ∷ []), refl)
+    (search needs, omega (arith, few, s .pre .0 .heads .outputs), (λ j. e j ∷ e j ∷ e j ∷ e j ∷ e j ∷ e j ∷ []), refl)
 
 output-row-requires : tie.Need-output-row-requires Inv-loop2 μ-loop2 Inv-loop μ-loop
-output-row-requires c κs = let h = start c .pre .0 .1 in omega (arith, c .before .loop .inv .1, h .output-table, h .fits 10)
+output-row-requires c κs = let h = start c .pre .0 .heads in omega (arith, c .before .loop .inv .1, h .output-table, h .fits 10)
 
 add-whole-word : tie.Need-add-whole-word Inv-loop2 μ-loop2 Inv-loop μ-loop
 add-whole-word c = search needs
@@ -156,8 +157,8 @@ position-requires : tie.Need-position-requires Inv-loop2 μ-loop2 Inv-loop μ-lo
 position-requires c κs =
     let q = c .before .before .before in
     let s = start (turn q) in
-    let few = output-terms-within (wordAt (s .args .img .now)) (s .pre .0 .0 .frame) _ (known (turn q)) in
-    (s .pre .0 .0, s .pre .0 .1, s .pre .0 .2, omega (arith, read q, few), omega (arith, read q, few, s .pre .0 .1 .terms))
+    let few = output-terms-within (wordAt (s .args .img .now)) (s .pre .0 .sound .frame) _ (known (turn q)) in
+    (s .pre .0, omega (arith, read q, few), omega (arith, read q, few, s .pre .0 .heads .terms))
 
 added-requires : tie.Need-added-requires Inv-loop2 μ-loop2 Inv-loop μ-loop
 added-requires c κs =
@@ -167,7 +168,7 @@ added-requires c κs =
     let w = wordAt (s .args .img .now) in
     let r = read q in
     let e = c .position .ensures ∙ ap (λ (x : ℕ). placeIn w (x + l .k)) (r .0) in
-    let crisp = positions-crisp w (s .pre .0 .0) _ (known (turn q)) (l .k) (omega (arith, r .1)) in
+    let crisp = positions-crisp w (s .pre .0 .sound) _ (known (turn q)) (l .k) (omega (arith, r .1)) in
     (subst InCrisp (sym e) crisp, s .pre .1 .1 _, omega (arith, l .inv .2, within q), l .inv .3)
 
 add-k : tie.Need-add-k Inv-loop2 μ-loop2 Inv-loop μ-loop
@@ -207,7 +208,7 @@ answer-requires c κs =
     let l = c .before .before .loop2 in
     let q = c .before .before .before in
     let s = start (turn q) in
-    ((s .pre .0 .0, s .pre .0 .1, omega (arith, known (turn q)), s .pre .0 .2), (omega (arith, l .inv .2, l .inv .0, within q), l .inv .3))
+    ((s .pre .0, omega (arith, known (turn q))), (omega (arith, l .inv .2, l .inv .0, within q), l .inv .3))
 
 mul-answers : tie.Need-mul-answers Inv-loop2 μ-loop2 Inv-loop μ-loop
 mul-answers c = search needs
@@ -236,13 +237,13 @@ loop-again c =
     let l = q .before .loop in
     let f = answerAt (wordAt (a .img .now)) (heightOf (a .t3) (a .m)) (a .held .figures) in
     let r = c .before .answer .result in
-    let h : l .i < 6 = omega (arith, l .inv .1, q .loop-test .taken) in
+    let h : l .i < outputLimit = omega (arith, l .inv .1, q .loop-test .taken) in
     let e : r ≡ f (l .i) = c .before .answer .ensures _ (all-done d) in (
       search needs,
       l .inv .1,
-      ap (λ (x : List Answer). set x (l .i) r) (l .inv .2) ∙ fill-front f noAnswer r 6 (l .i) h e,
+      ap (λ (x : List Answer). set x (l .i) r) (l .inv .2) ∙ fill-front f noAnswer r outputLimit (l .i) h e,
       ap (λ (x : List Crisp). set x (l .i) (r .thousandths)) (l .inv .3)
-          ∙ fill-front (λ j. f j .thousandths) (record { 0 = pos 0 }) (r .thousandths) 6 (l .i) h (ap (λ (a : Answer). a .thousandths) e),
+          ∙ fill-front (λ j. f j .thousandths) (record { 0 = pos 0 }) (r .thousandths) outputLimit (l .i) h (ap (λ (a : Answer). a .thousandths) e),
     )
 
 returns : tie.Need-returns Inv-loop2 μ-loop2 Inv-loop μ-loop
@@ -253,12 +254,12 @@ returns c =
     let held = s .args .held in
     let h = heightOf (s .args .t3) (s .args .m) in
     let f = answerAt w h (held .figures) in
-    let e : l .loop .i ≡ w 3 = omega (arith, s .pre .0 .1 .outputs) in
-    let k : length (held .figures) ≡ 6 = sym (length-map (held .figures) _) ∙ s .good .1 .1 .1 .1 .0 .1 .1 .0 .1 .0 .1 in
-    let g : answersBy w (s .args .t3) (s .args .m) held ≡ tab f (w 3) 0 = answers-are w h (held .figures) (s .pre .0 .0) k in (
-      l .loop .inv .2 ∙ ap (λ (n : ℕ). tab f n 0 ++ replicate (6 - n) noAnswer) e ∙ padded-is f (w 3) ∙ ap (padded noAnswer) (sym g),
+    let e : l .loop .i ≡ w 3 = omega (arith, s .pre .0 .heads .outputs) in
+    let k : length (held .figures) ≡ outputLimit = sym (length-map (held .figures) _) ∙ s .good .1 .1 .1 .1 .0 .1 .1 .0 .1 .0 .1 in
+    let g : answersBy w (s .args .t3) (s .args .m) held ≡ tab f (w 3) 0 = answers-are w h (held .figures) (s .pre .0 .sound) k in (
+      l .loop .inv .2 ∙ ap (λ (n : ℕ). tab f n 0 ++ replicate (outputLimit - n) noAnswer) e ∙ padded-is f (w 3) ∙ ap (padded noAnswer) (sym g),
       ap (λ (x : List Crisp). record { figures = x })
-          (l .loop .inv .3 ∙ ap (λ (n : ℕ). tab (λ j. f j .thousandths) n 0 ++ replicate (6 - n) (record { 0 = pos 0 })) e ∙ held-is f (w 3))
+          (l .loop .inv .3 ∙ ap (λ (n : ℕ). tab (λ j. f j .thousandths) n 0 ++ replicate (outputLimit - n) (record { 0 = pos 0 })) e ∙ held-is f (w 3))
           ∙ ap (λ (x : List Answer). heldOf (map (λ a. a .thousandths .0) x)) (sym g),
     )
 

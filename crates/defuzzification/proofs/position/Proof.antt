@@ -15,10 +15,10 @@ read : (c : tie.After-whole-word) →
 read c =
     let s = c .before .before .before in
     let w = wordAt (s .args .img .now) in
-    c .whole-word .ensures .0 ∙ ap (λ (o : ℕ). w (o + 4)) (c .before .term-row .ensures .0 w (s .pre .1))
+    c .whole-word .ensures .0 ∙ ap (λ (o : ℕ). w (o + 4)) (c .before .term-row .ensures .0 w (s .pre .0 .heads))
 
 term-row-requires : tie.Need-term-row-requires
-term-row-requires c κs = let h = c .before .pre .1 in omega (arith, h .term-table, h .fits 11, h .terms, h .fits 4)
+term-row-requires c κs = let h = c .before .pre .0 .heads in omega (arith, h .term-table, h .fits 11, h .terms, h .fits 4)
 
 add-whole-word : tie.Need-add-whole-word
 add-whole-word c = search needs
@@ -26,15 +26,15 @@ add-whole-word c = search needs
 whole-word-requires : tie.Need-whole-word-requires
 whole-word-requires c κs =
     let s = c .before .before in
-    let h = s .pre .1 in
-    omega (arith, c .term-row .ensures .0 (wordAt (s .args .img .now)) h, h .term-table, s .pre .2 .terms)
+    let h = s .pre .0 .heads in
+    omega (arith, c .term-row .ensures .0 (wordAt (s .args .img .now)) h, h .term-table, s .pre .0 .holds .terms)
 
 place-at-requires : tie.Need-place-at-requires
 place-at-requires c κs =
     let s = c .before .before .before in
-    let h = s .pre .1 in
-    let few = point-within (wordAt (s .args .img .now)) (s .pre .0 .frame) (s .args .t) (s .pre .3) (omega (arith, h .terms)) in
-    (h, s .pre .2, omega (arith, read c, few, h .points))
+    let h = s .pre .0 .heads in
+    let few = point-within (wordAt (s .args .img .now)) (s .pre .0 .sound .frame) (s .args .t) (s .pre .1) (omega (arith, h .terms)) in
+    (h, s .pre .0 .holds, omega (arith, read c, few, h .points))
 
 returns : tie.Need-returns
 unfolding singletonAt

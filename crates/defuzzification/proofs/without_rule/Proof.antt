@@ -12,11 +12,11 @@ use Rattle.defuzzification.proofs.without_rule.Tie as tie
 inside : (c : tie.After-output-row) → (c .output-row .result + 11) * 4 ≤ length (c .before .before .args .img .now)
 inside c =
     let s = c .before .before in
-    let h = s .pre .0 in
-    omega (arith, c .output-row .ensures .0 (wordAt (s .args .img .now)) h, h .output-table, s .pre .1 .outputs)
+    let h = s .pre .0 .heads in
+    omega (arith, c .output-row .ensures .0 (wordAt (s .args .img .now)) h, h .output-table, s .pre .0 .holds .outputs)
 
 output-row-requires : tie.Need-output-row-requires
-output-row-requires c κs = let h = c .before .pre .0 in omega (arith, h .output-table, h .fits 10, h .outputs, h .fits 3)
+output-row-requires c κs = let h = c .before .pre .0 .heads in omega (arith, h .output-table, h .fits 10, h .outputs, h .fits 3)
 
 add-whole-word : tie.Need-add-whole-word
 add-whole-word c = search needs
@@ -32,7 +32,7 @@ unfolding outputAt
 returns c =
     let b = c .before .before in
     let s = b .before .before .before in
-    let e = b .before .output-row .ensures .0 (wordAt (s .args .img .now)) (s .pre .0) in
+    let e = b .before .output-row .ensures .0 (wordAt (s .args .img .now)) (s .pre .0 .heads) in
     simp (sym e, sym (b .whole-word .ensures .0), eq-eqb _ _ (c .before .if1 .taken), c .to-float .ensures)
 
 add-whole-crisp : tie.Need-add-whole-crisp
@@ -49,7 +49,7 @@ unfolding outputAt
 returns-2 c =
     let b = c .before .before .before in
     let s = b .before .before .before in
-    let e = b .before .output-row .ensures .0 (wordAt (s .args .img .now)) (s .pre .0) in
+    let e = b .before .output-row .ensures .0 (wordAt (s .args .img .now)) (s .pre .0 .heads) in
     let given = ne-eqb _ _ (c .before .before .if1 .left) in
     simp (sym e, sym (b .whole-word .ensures .0), given, c .to-float2 .ensures, sym (c .before .whole-crisp .ensures))
 

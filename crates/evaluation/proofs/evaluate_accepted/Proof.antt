@@ -20,7 +20,7 @@ use Rattle.evaluation.proofs.evaluate_accepted.Statement.{statement}
 use Rattle.evaluation.proofs.evaluate_accepted.Tie as tie
 
 inputs-are : (s : tie.Start) → length (decode (wordAt (s .args .img .now)) .inputs) ≡ s .args .a .header .inputs
-inputs-are s = inputs-count (wordAt (s .args .img .now)) ∙ sym (s .pre .heads .inputs)
+inputs-are s = inputs-count (wordAt (s .args .img .now)) ∙ sym (s .pre .checked .heads .inputs)
 
 count-right : (c : tie.Else1) →
     let a = c .before .before .before .before .args in
@@ -85,7 +85,7 @@ outputs-requires : tie.Need-outputs-requires
 outputs-requires c κs =
     let s = c .before .before .before .before .before .before .before .before .before .before in
     let hs = c .heights .result in
-    ((s .pre .sound, s .pre .heads, s .pre .holds), (s .pre .input-terms, (λ k. subst (λ (x : ℕ). x ≤ M) (sym (number-at hs k)) (c .heights .ensures .1 k))))
+    (s .pre .checked, (s .pre .input-terms, (λ k. subst (λ (x : ℕ). x ≤ M) (sym (number-at hs k)) (c .heights .ensures .1 k))))
 
 returns-4 : tie.Need-returns-4
 returns-4 c =
@@ -102,7 +102,8 @@ returns-4 c =
     let b = decode w in
     let u = v .input-values in
     let all : length (b .inputs) ≤ length (valuesRead (b .inputs) (a .rs)) = omega (arith, inputs-are s, u .ensures .0, i .if3 .left) in
-    let g = answers-are w (s .pre .sound) (a .rs) (a .before) _ (s .pre .input-terms) (u .result .at) (d .term-degrees .result) (p .heights .result) all
+    let sound = s .pre .checked .sound in
+    let g = answers-are w sound (a .rs) (a .before) _ (s .pre .input-terms) (u .result .at) (d .term-degrees .result) (p .heights .result) all
     (u .ensures .1 .0) (d .term-degrees .ensures .0) (p .heights .ensures .0) in
     let r = o .outputs .ensures in
     tells-as _ (a .before) _ _ (called-ok b (a .rs) (a .n) (a .before) (count-right one) (held-right two) all)

@@ -29,7 +29,7 @@ fresh-record-requires : tie.Need-fresh-record-requires
 unfolding Judged
 fresh-record-requires c κs =
     let k = subst (Judged _) (c .before .before .a .given .1) (c .before .before .before .before .examine .ensures) .1 in
-    (k .sound, k .heads, k .holds)
+    k .checked
 
 returns-2 : tie.Need-returns-2
 unfolding Judged

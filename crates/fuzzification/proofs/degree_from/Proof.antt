@@ -50,19 +50,21 @@ add-place-at : tie.Need-add-place-at Inv-loop μ-loop
 add-place-at c = search needs
 
 place-at-requires : tie.Need-place-at-requires Inv-loop μ-loop
-place-at-requires c κs = let s = c .before .before .before in (s .pre .0 .0, s .pre .0 .4, omega (arith, s .pre .0 .2))
+place-at-requires c κs = let s = c .before .before .before in (s .pre .0 .0 .heads, s .pre .0 .0 .holds, omega (arith, s .pre .0 .2))
 
 less-requires : tie.Need-less-requires Inv-loop μ-loop
 less-requires c κs = search needs
 
 point-at-requires : tie.Need-point-at-requires Inv-loop μ-loop
-point-at-requires c κs = let s = c .before .before .before .before .before .before in (s .pre .0 .0, s .pre .0 .4, omega (arith, s .pre .0 .2))
+point-at-requires c κs = let s = c .before .before .before .before .before .before in (s .pre .0 .0 .heads, s .pre .0 .0 .holds, omega (arith, s .pre .0 .2))
 
 add-point-at : tie.Need-add-point-at Inv-loop μ-loop
 add-point-at c = search needs
 
 point-at-requires-2 : tie.Need-point-at-requires-2 Inv-loop μ-loop
-point-at-requires-2 c κs = let s = c .before .before .before .before .before .before .before in (s .pre .0 .0, s .pre .0 .4, omega (arith, s .pre .0 .2))
+point-at-requires-2 c κs =
+    let s = c .before .before .before .before .before .before .before in
+    (s .pre .0 .0 .heads, s .pre .0 .0 .holds, omega (arith, s .pre .0 .2))
 
 on-line-requires : tie.Need-on-line-requires Inv-loop μ-loop
 on-line-requires c κs =
@@ -76,7 +78,9 @@ on-line-requires c κs =
       (
         s .pre .0 .3,
         fine (p .result) (ap pointOk (p .ensures) ∙ point-fine s (l .i) (l .inv .0) (omega (arith, l .inv .1))),
-        fine (q .result) (ap pointOk (q .ensures) ∙ point-fine s (l .i + 1) (omega (arith, l .inv .0)) (omega (arith, c .before .before .before .before .before .loop-test .taken))),
+        fine (q .result)
+            (ap pointOk (q .ensures)
+            ∙ point-fine s (l .i + 1) (omega (arith, l .inv .0)) (omega (arith, c .before .before .before .before .before .loop-test .taken))),
       ),
       (
         subst (λ (z : ℤ). z ≤ℤ x) (ap (λ (y : Point). y .at) (sym (p .ensures))) (l .inv .2),
@@ -115,7 +119,7 @@ loop-again c =
     )
 
 degree-at-requires : tie.Need-degree-at-requires Inv-loop μ-loop
-degree-at-requires c κs = let s = c .before .before .before in (s .pre .0 .0, s .pre .0 .4, omega (arith, s .pre .0 .2))
+degree-at-requires c κs = let s = c .before .before .before in (s .pre .0 .0 .heads, s .pre .0 .0 .holds, omega (arith, s .pre .0 .2))
 
 returns-2 : tie.Need-returns-2 Inv-loop μ-loop
 returns-2 c =

@@ -24,7 +24,7 @@ abbrev start : tie.After-whole-word2 → tie.Start
 start c = c .before .before .before .before
 
 among : (s : tie.Start) → s .args .t < wordAt (s .args .img .now) 4
-among s = omega (arith, s .pre .0 .3, inputs-first (wordAt (s .args .img .now)) (s .pre .0 .2))
+among s = omega (arith, s .pre .0 .1, inputs-first (wordAt (s .args .img .now)) (s .pre .0 .0 .sound .frame))
 
 read : (c : tie.After-whole-word2) →
     let a = start c .args in
@@ -33,7 +33,7 @@ read : (c : tie.After-whole-word2) →
 read c =
     let s = start c in
     let w = wordAt (s .args .img .now) in
-    let e = c .before .before .term-row .ensures .0 w (s .pre .0 .0) in
+    let e = c .before .before .term-row .ensures .0 w (s .pre .0 .0 .heads) in
     (c .before .whole-word .ensures .0 ∙ ap (λ (o : ℕ). w (o + 5)) e, c .whole-word2 .ensures .0 ∙ ap (λ (o : ℕ). w (o + 4)) e)
 
 -- the points by the words that were read
@@ -55,9 +55,10 @@ ends c =
     let s = start c in
     let w = wordAt (s .args .img .now) in
     let r = read c in
-    omega (arith, r .0, r .1, points-within w (s .pre .0 .2) (s .args .t) (s .pre .0 .3), s .pre .0 .0 .points)
+    omega (arith, r .0, r .1, points-within w (s .pre .0 .0 .sound .frame) (s .args .t) (s .pre .0 .1), s .pre .0 .0 .heads .points)
 
-points-fine : (c : tie.After-whole-word2) → all pointOk (tab (pointAt (wordAt (start c .args .img .now))) (c .before .whole-word .result) (c .whole-word2 .result)) ≡ true
+points-fine : (c : tie.After-whole-word2)
+    → all pointOk (tab (pointAt (wordAt (start c .args .img .now))) (c .before .whole-word .result) (c .whole-word2 .result)) ≡ true
 points-fine c =
     let s = start c in
     ap (all pointOk) (points-are c .0) ∙ points-ok (wordAt (s .args .img .now)) (s .args .t) (s .pre .1 .1)
@@ -72,7 +73,7 @@ compared c = c .less .ensures ∙ ap (ltZ (start (c .before .before) .args .x .0
 term-row-requires : tie.Need-term-row-requires
 term-row-requires c κs =
     let s = c .before in
-    let h = s .pre .0 .0 in
+    let h = s .pre .0 .0 .heads in
     omega (arith, h .term-table, h .fits 11, h .fits 4, among s)
 
 add-whole-word : tie.Need-add-whole-word
@@ -81,8 +82,8 @@ add-whole-word c = search needs
 whole-word-requires : tie.Need-whole-word-requires
 whole-word-requires c κs =
     let s = c .before .before in
-    let h = s .pre .0 .0 in
-    omega (arith, c .term-row .ensures .0 (wordAt (s .args .img .now)) h, h .term-table, h .terms, s .pre .0 .1 .terms, among s)
+    let h = s .pre .0 .0 .heads in
+    omega (arith, c .term-row .ensures .0 (wordAt (s .args .img .now)) h, h .term-table, h .terms, s .pre .0 .0 .holds .terms, among s)
 
 add-whole-word-2 : tie.Need-add-whole-word-2
 add-whole-word-2 c = search needs
@@ -90,11 +91,11 @@ add-whole-word-2 c = search needs
 whole-word-requires-2 : tie.Need-whole-word-requires-2
 whole-word-requires-2 c κs =
     let s = c .before .before .before in
-    let h = s .pre .0 .0 in
-    omega (arith, c .before .term-row .ensures .0 (wordAt (s .args .img .now)) h, h .term-table, h .terms, s .pre .0 .1 .terms, among s)
+    let h = s .pre .0 .0 .heads in
+    omega (arith, c .before .term-row .ensures .0 (wordAt (s .args .img .now)) h, h .term-table, h .terms, s .pre .0 .0 .holds .terms, among s)
 
 place-at-requires : tie.Need-place-at-requires
-place-at-requires c κs = let p = start c .pre .0 in (p .0, p .1, omega (arith, points-are c .1, ends c))
+place-at-requires c κs = let p = start c .pre .0 .0 in (p .heads, p .holds, omega (arith, points-are c .1, ends c))
 
 less-requires : tie.Need-less-requires
 less-requires c κs = search needs
@@ -102,8 +103,8 @@ less-requires c κs = search needs
 degree-at-requires : tie.Need-degree-at-requires
 degree-at-requires c κs =
     let q = c .before .before .before in
-    let p = start q .pre .0 in
-    (p .0, p .1, omega (arith, points-are q .1, ends q))
+    let p = start q .pre .0 .0 in
+    (p .heads, p .holds, omega (arith, points-are q .1, ends q))
 
 returns : tie.Need-returns
 returns c =
@@ -132,8 +133,11 @@ degree-from-requires c κs =
     let n = q .before .whole-word .result in
     let first = q .whole-word2 .result in
     let e : n ≡ first + n - first = omega arith in (
-      (s .pre .0 .0, omega (arith, points-are q .1), ends q, s .pre .1 .0, s .pre .0 .1),
-      (not-below (s .args .x .0) (f first .at) (sym (compared (c .before)) ∙ c .if1 .left), subst (λ (k : ℕ). all pointOk (tab f k first) ≡ true) e (points-fine q)),
+      (s .pre .0 .0, omega (arith, points-are q .1), ends q, s .pre .1 .0),
+      (
+        not-below (s .args .x .0) (f first .at) (sym (compared (c .before)) ∙ c .if1 .left),
+        subst (λ (k : ℕ). all pointOk (tab f k first) ≡ true) e (points-fine q),
+      ),
     )
 
 returns-2 : tie.Need-returns-2

@@ -7,6 +7,7 @@ use native.Mathlib.Omega.{arith}
 use lib.IntN.{ℤ, pos}
 use lib.ListN.{length, length-set, take, replicate}
 use lib.Seq.{sets, take-suc, take-all, length-take-le}
+use Rattle.model.specs.Bounds.{inputLimit}
 use Rattle.model.specs.declared.Crisp.{Crisp}
 use Rattle.model.specs.Readings.{valueIn}
 use Rattle.model.specs.Image.{wordAt}
@@ -22,25 +23,26 @@ use Rattle.fuzzification.proofs.input_values.Tie as tie
 abbrev Inv-loop : tie.InvT-loop
 Inv-loop img h rs n at₀ i₀ at i =
     let xs = found (wordAt img) rs in
-    (i ≤ n) × (n ≤ 8) × (length at ≡ 8) × (i ≤ length xs) × (figures at ≡ sets (replicate 8 (pos 0)) 0 (take i xs)) × AllCrisp (figures at)
+    (i ≤ n) × (n ≤ inputLimit) × (length at ≡ inputLimit) × (i ≤ length xs)
+    × (figures at ≡ sets (replicate inputLimit (pos 0)) 0 (take i xs)) × AllCrisp (figures at)
 
 abbrev μ-loop : tie.MeasureT-loop
 μ-loop img h rs n at₀ i₀ at i = n - i
 
 -- the values that were found when all were read
-whole : (xs : List ℤ) (at : List Crisp) (i : ℕ) → i ≤ 8 → length xs ≡ i → figures at ≡ sets (replicate 8 (pos 0)) 0 (take i xs)
-    → figures at ≡ filled 8 (pos 0) xs
+whole : (xs : List ℤ) (at : List Crisp) (i : ℕ) → i ≤ inputLimit → length xs ≡ i → figures at ≡ sets (replicate inputLimit (pos 0)) 0 (take i xs)
+    → figures at ≡ filled inputLimit (pos 0) xs
 whole xs at i h e g =
-    g ∙ ap (λ (ys : List ℤ). sets (replicate 8 (pos 0)) 0 ys) (take-all i xs (omega arith)) ∙ filled-sets 8 (pos 0) xs (omega arith)
+    g ∙ ap (λ (ys : List ℤ). sets (replicate inputLimit (pos 0)) 0 ys) (take-all i xs (omega arith)) ∙ filled-sets inputLimit (pos 0) xs (omega arith)
 
 loop-holds : tie.Need-loop-holds Inv-loop μ-loop
 loop-holds c =
     let s = c .before in
-    let few = input-limit (wordAt (s .args .img .now)) (s .pre .0) in
-    (search needs, omega (arith, s .pre .1 .inputs, few), refl, omega arith, refl, each-start InCrisp (pos 0) 8 (omega arith))
+    let few = input-limit (wordAt (s .args .img .now)) (s .pre .sound) in
+    (search needs, omega (arith, s .pre .heads .inputs, few), refl, omega arith, refl, each-start InCrisp (pos 0) inputLimit (omega arith))
 
 input-type-requires : tie.Need-input-type-requires Inv-loop μ-loop
-input-type-requires c κs = let s = c .before .before .before in (s .pre .1, s .pre .2, omega arith)
+input-type-requires c κs = let s = c .before .before .before in (s .pre, omega arith)
 
 mul-reading : tie.Need-mul-reading Inv-loop μ-loop
 mul-reading c = search needs
@@ -62,7 +64,7 @@ returns c =
     let s = kind .before .before .before .before in
     let w = wordAt (s .args .img .now) in
     let rs = s .args .t3 in
-    let e = found-all w rs (l .i) _ (kind .input-type .result) (d .taken .result) (omega (arith, s .pre .1 .inputs)) (omega (arith, s .good)) (l .inv .3)
+    let e = found-all w rs (l .i) _ (kind .input-type .result) (d .taken .result) (omega (arith, s .pre .heads .inputs)) (omega (arith, s .good)) (l .inv .3)
     (kind .input-type .ensures) (d .taken .ensures .0) (c .match .keys2) in
     (sym e, (whole (found w rs) (l .at) (l .i) (omega arith) e (l .inv .4), l .inv .5))
 
@@ -88,9 +90,9 @@ loop-again c =
     let rs = s .args .t3 in
     let xs = found w rs in
     let x = c .before .value .given .0 .0 in
-    let r = found-next w rs (l .i) _ (kind .input-type .result) (d .taken .result) (omega (arith, s .pre .1 .inputs)) (omega (arith, s .good)) (l .inv .3)
+    let r = found-next w rs (l .i) _ (kind .input-type .result) (d .taken .result) (omega (arith, s .pre .heads .inputs)) (omega (arith, s .good)) (l .inv .3)
     (kind .input-type .ensures) (d .taken .ensures .0) (x .0) (ap valueIn (c .before .value .given .1)) in
-    let l₀ = replicate 8 (pos 0) in
+    let l₀ = replicate inputLimit (pos 0) in
     let n = length-take-le (l .i) xs (l .inv .3) in (
       search needs,
       search needs,
@@ -109,7 +111,7 @@ returns-2 c =
     let s = c .before .before .before in
     let w = wordAt (s .args .img .now) in
     let rs = s .args .t3 in
-    let e : length (found w rs) ≡ l .i = omega (arith, found-most w rs, s .pre .1 .inputs) in
+    let e : length (found w rs) ≡ l .i = omega (arith, found-most w rs, s .pre .heads .inputs) in
     (sym e, (whole (found w rs) (l .at) (l .i) (omega arith) e (l .inv .4), l .inv .5))
 
 pub input-values-spec : {M : Type 1} → statement M

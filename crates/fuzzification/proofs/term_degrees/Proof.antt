@@ -7,7 +7,7 @@ use native.Mathlib.Omega.{arith}
 use lib.IntN.{pos}
 use lib.ListN.{length, getD, length-map, length-set, replicate, List·getD-map}
 use lib.Seq.{sets}
-use Rattle.model.specs.Bounds.{M}
+use Rattle.model.specs.Bounds.{M, inputLimit, termLimit, inputTermLimit}
 use Rattle.model.specs.declared.Crisp.{Crisp}
 use Rattle.model.specs.declared.Degree.{Degree}
 use Rattle.model.specs.Basic.{all, tab}
@@ -31,15 +31,17 @@ use Rattle.fuzzification.proofs.term_degrees.Tie as tie
 -- the first k terms of input i, and those of the first i inputs
 abbrev Inv-loop2 : tie.InvT-loop2
 Inv-loop2 img h xs n ds₀ first i count x k₀ ds k =
-    (k ≤ count) × (length ds ≡ 56) × (numbers ds ≡ sets (numbers ds₀) first (degreesAt (x .0) (tab (termAt (wordAt img)) k first))) × Low (numbers ds)
+    (k ≤ count) × (length ds ≡ inputTermLimit)
+    × (numbers ds ≡ sets (numbers ds₀) first (degreesAt (x .0) (tab (termAt (wordAt img)) k first))) × Low (numbers ds)
 
 abbrev μ-loop2 : tie.MeasureT-loop2
 μ-loop2 img h xs n ds₀ first i count x k₀ ds k = count - k
 
 abbrev Inv-loop : tie.InvT-loop
 Inv-loop img h xs n ds₀ first₀ i₀ ds first i =
-    (i ≤ n) × (n ≤ 8) × (first ≡ sums (inputCount (wordAt img)) i 0) × (first ≤ 7 * i)
-    × (numbers ds ≡ sets (replicate 56 0) 0 (termDegrees (tab (inputAt (wordAt img)) i 0) (figures xs))) × Low (numbers ds) × (length ds ≡ 56)
+    (i ≤ n) × (n ≤ inputLimit) × (first ≡ sums (inputCount (wordAt img)) i 0) × (first ≤ termLimit * i)
+    × (numbers ds ≡ sets (replicate inputTermLimit 0) 0 (termDegrees (tab (inputAt (wordAt img)) i 0) (figures xs)))
+    × Low (numbers ds) × (length ds ≡ inputTermLimit)
 
 abbrev μ-loop : tie.MeasureT-loop
 μ-loop img h xs n ds₀ first₀ i₀ ds first i = n - i
@@ -48,20 +50,21 @@ abbrev start : tie.After-whole-word Inv-loop2 μ-loop2 Inv-loop μ-loop → tie.
 start c = c .before .before .before .before .before
 
 below : (c : tie.After-whole-word Inv-loop2 μ-loop2 Inv-loop μ-loop) → c .before .before .before .loop .i < wordAt (start c .args .img .now) 2
-below c = omega (arith, c .before .before .loop-test .taken, start c .pre .1 .inputs)
+below c = omega (arith, c .before .before .loop-test .taken, start c .pre .0 .heads .inputs)
 
-count : (c : tie.After-whole-word Inv-loop2 μ-loop2 Inv-loop μ-loop) → c .whole-word .result ≡ inputCount (wordAt (start c .args .img .now)) (c .before .before .before .loop .i)
+count : (c : tie.After-whole-word Inv-loop2 μ-loop2 Inv-loop μ-loop)
+    → c .whole-word .result ≡ inputCount (wordAt (start c .args .img .now)) (c .before .before .before .loop .i)
 count c =
     let w = wordAt (start c .args .img .now) in
-    c .whole-word .ensures .0 ∙ ap (λ (o : ℕ). w (o + 6)) (c .before .input-row .ensures .0 w (start c .pre .1))
+    c .whole-word .ensures .0 ∙ ap (λ (o : ℕ). w (o + 6)) (c .before .input-row .ensures .0 w (start c .pre .0 .heads))
 
 -- the terms of an input: few, and in order
 accepted : (c : tie.After-whole-word Inv-loop2 μ-loop2 Inv-loop μ-loop) →
     let l = c .before .before .before .loop in
-    (c .whole-word .result ≤ 7) × (all termOk (tab (termAt (wordAt (start c .args .img .now))) (c .whole-word .result) (l .first)) ≡ true)
+    (c .whole-word .result ≤ termLimit) × (all termOk (tab (termAt (wordAt (start c .args .img .now))) (c .whole-word .result) (l .first)) ≡ true)
 accepted c =
     let l = c .before .before .before .loop in
-    accepted-terms (wordAt (start c .args .img .now)) (l .i) (l .first) (c .whole-word .result) (start c .pre .0) (below c) (l .inv .2) (count c)
+    accepted-terms (wordAt (start c .args .img .now)) (l .i) (l .first) (c .whole-word .result) (start c .pre .0 .sound) (below c) (l .inv .2) (count c)
 
 -- they are input terms
 among : (c : tie.After-whole-word Inv-loop2 μ-loop2 Inv-loop μ-loop) →
@@ -69,18 +72,19 @@ among : (c : tie.After-whole-word Inv-loop2 μ-loop2 Inv-loop μ-loop) →
 among c =
     let l = c .before .before .before .loop in
     let w = wordAt (start c .args .img .now) in
-    let s = start c .pre .0 in
+    let s = start c .pre .0 .sound in
     omega (arith, l .inv .2, count c, first-is w (l .i) s (below c), input-terms-within w (s .frame) (l .i) (below c) .0)
 
 loop-holds : tie.Need-loop-holds Inv-loop2 μ-loop2 Inv-loop μ-loop
 unfolding tab termDegrees sums
 loop-holds c =
     let s = c .before in
-    let few = input-limit (wordAt (s .args .img .now)) (s .pre .0) in
-    (search needs, omega (arith, s .pre .1 .inputs, few), refl, search needs, refl, each-start (λ (n : ℕ). n ≤ M) 0 56 (omega arith), search needs)
+    let few = input-limit (wordAt (s .args .img .now)) (s .pre .0 .sound) in
+    let low = each-start (λ (n : ℕ). n ≤ M) 0 inputTermLimit (omega arith) in
+    (search needs, omega (arith, s .pre .0 .heads .inputs, few), refl, search needs, refl, low, search needs)
 
 input-row-requires : tie.Need-input-row-requires Inv-loop2 μ-loop2 Inv-loop μ-loop
-input-row-requires c κs = let h = c .before .before .before .pre .1 in omega (arith, h .input-table, h .fits 9, c .before .loop .inv)
+input-row-requires c κs = let h = c .before .before .before .pre .0 .heads in omega (arith, h .input-table, h .fits 9, c .before .loop .inv)
 
 add-whole-word : tie.Need-add-whole-word Inv-loop2 μ-loop2 Inv-loop μ-loop
 add-whole-word c = search needs
@@ -88,8 +92,8 @@ add-whole-word c = search needs
 whole-word-requires : tie.Need-whole-word-requires Inv-loop2 μ-loop2 Inv-loop μ-loop
 whole-word-requires c κs =
     let s = c .before .before .before .before in
-    let h = s .pre .1 in
-    omega (arith, c .input-row .ensures .0 (wordAt (s .args .img .now)) h, h .input-table, s .pre .3 .inputs, c .before .loop-test .taken)
+    let h = s .pre .0 .heads in
+    omega (arith, c .input-row .ensures .0 (wordAt (s .args .img .now)) h, h .input-table, s .pre .0 .holds .inputs, c .before .loop-test .taken)
 
 mul-x : tie.Need-mul-x Inv-loop2 μ-loop2 Inv-loop μ-loop
 mul-x c = search needs
@@ -113,8 +117,8 @@ input-term-degree-requires c κs =
     let s = start r in
     let t = accepted r in
     let ok = all-at termOk (termAt (wordAt (s .args .img .now))) _ (l .first) (c .before .loop2 .k) (omega arith) (t .1) in
-    let x = subst InCrisp (List·getD-map (λ (y : Crisp). y .0) (s .args .t3) (l .i) (record { 0 = pos 0 })) (s .pre .2 (l .i)) in
-    ((s .pre .1, s .pre .3, s .pre .0 .frame, omega (arith, among r)), (x, ok))
+    let x = subst InCrisp (List·getD-map (λ (y : Crisp). y .0) (s .args .t3) (l .i) (record { 0 = pos 0 })) (s .pre .1 (l .i)) in
+    ((s .pre .0, omega (arith, among r)), (x, ok))
 
 add-ds : tie.Need-add-ds Inv-loop2 μ-loop2 Inv-loop μ-loop
 add-ds c = search needs
@@ -176,7 +180,7 @@ loop-again c =
       search needs,
       omega (arith, l .inv .2, e, sums-last (inputCount w) i 0, ap (inputCount w) q),
       omega (arith, l .inv .3, accepted r .0),
-      input-more w i (l .first) (g .k) _ xs (replicate 56 0) (numbers (l .ds)) (numbers (g .ds)) (s .pre .0) (below r)
+      input-more w i (l .first) (g .k) _ xs (replicate inputTermLimit 0) (numbers (l .ds)) (numbers (g .ds)) (s .pre .0 .sound) (below r)
           (omega (arith, s .good, n)) (l .inv .2) (all-read ∙ e) ex (l .inv .4) (g .inv .2),
       g .inv .3,
       g .inv .1,
@@ -189,12 +193,12 @@ returns c =
     let s = c .before .before .before in
     let w = wordAt (s .args .img .now) in
     let xs = figures (s .args .t3) in
-    let e : l .i ≡ w 2 = omega (arith, s .pre .1 .inputs) in
+    let e : l .i ≡ w 2 = omega (arith, s .pre .0 .heads .inputs) in
     let n = length-map (s .args .t3) (λ (x : Crisp). x .0) in
     let long = length-degrees w (l .i) 0 xs (omega (arith, s .good, n)) in (
       l .inv .4
-          ∙ filled-sets 56 0 (termDegrees (tab (inputAt w) (l .i) 0) xs) (omega (arith, long, l .inv .2, l .inv .3))
-          ∙ ap (λ (m : ℕ). filled 56 0 (termDegrees (tab (inputAt w) m 0) xs)) e,
+          ∙ filled-sets inputTermLimit 0 (termDegrees (tab (inputAt w) (l .i) 0) xs) (omega (arith, long, l .inv .2, l .inv .3))
+          ∙ ap (λ (m : ℕ). filled inputTermLimit 0 (termDegrees (tab (inputAt w) m 0) xs)) e,
       l .inv .5,
     )
 

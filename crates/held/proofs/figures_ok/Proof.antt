@@ -5,6 +5,7 @@ use Prim.Native.Nat.{ℕ, _-_, _≤_}
 use native.Mathlib.Omega.{arith}
 use borrow.Author.Tests.{not-true, not-false}
 use Rattle.model.specs.Basic.{all, tab}
+use Rattle.model.specs.Bounds.{outputLimit}
 use Rattle.model.specs.Block.{inRange}
 use Rattle.model.specs.Image.{wordAt, outputAt}
 use Rattle.model.specs.declared.Held.{Held}
@@ -16,7 +17,7 @@ use Rattle.held.proofs.figures_ok.Tie as tie
 abbrev Inv-loop : tie.InvT-loop
 Inv-loop img h figures n i₀ i =
     let held : Held = record { figures = figures } in
-    (i ≤ n) × (n ≤ 6) × (all (fits (wordAt img) held) (tab (λ j. j) (n - i) i) ≡ all (fits (wordAt img) held) (tab (λ j. j) n 0))
+    (i ≤ n) × (n ≤ outputLimit) × (all (fits (wordAt img) held) (tab (λ j. j) (n - i) i) ≡ all (fits (wordAt img) held) (tab (λ j. j) n 0))
 
 abbrev μ-loop : tie.MeasureT-loop
 μ-loop img h figures n i₀ i = n - i
@@ -48,7 +49,7 @@ returns c =
     sym (all-stop (fits w (a .held)) (λ j. j) (a .h .outputs) i (search needs) out) ∙ l .loop .inv .2
 
 in-range-of-requires : tie.Need-in-range-of-requires Inv-loop μ-loop
-in-range-of-requires c κs = let s = c .before .before .before .before .before .before .before in (s .pre .0, s .pre .2, search needs)
+in-range-of-requires c κs = let s = c .before .before .before .before .before .before .before in (s .pre .0, search needs)
 
 returns-2 : tie.Need-returns-2 Inv-loop μ-loop
 unfolding fits

@@ -6,6 +6,7 @@ use native.Mathlib.Omega.{arith}
 use lib.IntN.{ℤ, pos}
 use lib.ListN.{set, replicate}
 use Rattle.model.specs.Basic.{tab}
+use Rattle.model.specs.Bounds.{outputLimit}
 use Rattle.model.specs.Image.{wordAt, outputAt, decode}
 use Rattle.model.specs.Evaluation.{startOf, heldOf, freshOf}
 use Rattle.model.specs.declared.Crisp.{Crisp}
@@ -18,7 +19,8 @@ use Rattle.held.proofs.fresh_record.Tie as tie
 
 abbrev Inv-loop : tie.InvT-loop
 Inv-loop img h figures₀ n i₀ figures i =
-    (i ≤ n) × (n ≤ 6) × (figures ≡ tab (λ j. record { 0 = startOf (outputAt (wordAt img) j .range) }) i 0 ++ replicate (6 - i) (record { 0 = pos 0 }))
+    (i ≤ n) × (n ≤ outputLimit)
+    × (figures ≡ tab (λ j. record { 0 = startOf (outputAt (wordAt img) j .range) }) i 0 ++ replicate (outputLimit - i) (record { 0 = pos 0 }))
 
 abbrev μ-loop : tie.MeasureT-loop
 μ-loop img h figures₀ n i₀ figures i = n - i
@@ -27,10 +29,10 @@ loop-holds : tie.Need-loop-holds Inv-loop μ-loop
 unfolding tab
 loop-holds c =
     let s = c .before in
-    (search needs, omega (arith, outputs-few (wordAt (s .args .img .now)) (s .pre .0), s .pre .1 .outputs), refl)
+    (search needs, omega (arith, outputs-few (wordAt (s .args .img .now)) (s .pre .sound), s .pre .heads .outputs), refl)
 
 start-of-requires : tie.Need-start-of-requires Inv-loop μ-loop
-start-of-requires c κs = let s = c .before .before .before in (s .pre .1, s .pre .2, search needs)
+start-of-requires c κs = let s = c .before .before .before in (s .pre, search needs)
 
 mul-figures : tie.Need-mul-figures Inv-loop μ-loop
 mul-figures c = search needs
@@ -51,11 +53,11 @@ loop-again c =
     let f : ℕ → ℤ = λ j. startOf (outputAt (wordAt (t .args .img .now)) j .range) in
     let x = c .start-of .result in
     let i = l .loop .i in
-    let h : i < 6 = omega (arith, l .loop .inv .1) in (
+    let h : i < outputLimit = omega (arith, l .loop .inv .1) in (
       search needs,
       l .loop .inv .1,
       ap (λ (cs : List Crisp). set cs i x) (l .loop .inv .2)
-          ∙ fill-front (λ j. record { 0 = f j }) (record { 0 = pos 0 }) x 6 i h (ap (λ (z : ℤ). record { 0 = z }) (c .start-of .ensures)),
+          ∙ fill-front (λ j. record { 0 = f j }) (record { 0 = pos 0 }) x outputLimit i h (ap (λ (z : ℤ). record { 0 = z }) (c .start-of .ensures)),
     )
 
 returns : tie.Need-returns Inv-loop μ-loop
@@ -65,9 +67,9 @@ returns c =
     let t = l .before .before in
     let w = wordAt (t .args .img .now) in
     let f : ℕ → ℤ = λ j. startOf (outputAt w j .range) in
-    let e : l .loop .i ≡ w 3 = omega (arith, t .pre .1 .outputs) in
+    let e : l .loop .i ≡ w 3 = omega (arith, t .pre .heads .outputs) in
     ap (λ (x : List Crisp). record { figures = x })
-    (l .loop .inv .2 ∙ ap (λ (n : ℕ). tab (λ j. record { 0 = f j }) n 0 ++ replicate (6 - n) (record { 0 = pos 0 })) e ∙ held-tab f (w 3))
+    (l .loop .inv .2 ∙ ap (λ (n : ℕ). tab (λ j. record { 0 = f j }) n 0 ++ replicate (outputLimit - n) (record { 0 = pos 0 })) e ∙ held-tab f (w 3))
     ∙ ap heldOf (sym (map-tab (λ v. startOf (v .range)) (outputAt w) (w 3) 0))
 
 pub fresh-record-spec : {M : Type 1} → statement M

@@ -14,11 +14,11 @@ use Rattle.held.proofs.in_range_of.Tie as tie
 inside : (c : tie.After-output-row) → (c .output-row .result + 11) * 4 ≤ length (c .before .before .args .img .now)
 inside c =
     let s = c .before .before in
-    let h = s .pre .0 in
-    omega (arith, c .output-row .ensures .0 (wordAt (s .args .img .now)) h, h .output-table, s .pre .1 .outputs)
+    let h = s .pre .0 .heads in
+    omega (arith, c .output-row .ensures .0 (wordAt (s .args .img .now)) h, h .output-table, s .pre .0 .holds .outputs)
 
 output-row-requires : tie.Need-output-row-requires
-output-row-requires c κs = let h = c .before .pre .0 in omega (arith, h .output-table, h .fits 10, h .outputs, h .fits 3)
+output-row-requires c κs = let h = c .before .pre .0 .heads in omega (arith, h .output-table, h .fits 10, h .outputs, h .fits 3)
 
 add-whole-word : tie.Need-add-whole-word
 add-whole-word c = search needs
@@ -49,7 +49,7 @@ returns c =
     let row = flag .before in
     let s = row .before .before in
     let w = wordAt (s .args .img .now) in
-    let e = row .output-row .ensures .0 w (s .pre .0) in
+    let e = row .output-row .ensures .0 w (s .pre .0 .heads) in
     let g = range-read w (s .args .i) _ _ e (flag .whole-word .ensures .0) _ _ (least .whole-crisp .ensures) (most .whole-crisp2 .ensures) in
     c .in-range .ensures ∙ ap (λ (r : Option Range). inRange r (s .args .x .0)) g
 

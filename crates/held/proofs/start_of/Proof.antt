@@ -21,18 +21,18 @@ range c y ey =
     let row = c .before .before .before in
     let s = row .before .before in
     let w = wordAt (s .args .img .now) in
-    let e = row .output-row .ensures .0 w (s .pre .0) in
+    let e = row .output-row .ensures .0 w (s .pre .0 .heads) in
     some-range w (s .args .i) _ _ e (c .before .before .whole-word .ensures .0) _ y (c .whole-crisp .ensures) ey (c .before .if1 .left)
 
 -- the row lies in the image
 inside : (c : tie.After-output-row) → (c .output-row .result + 11) * 4 ≤ length (c .before .before .args .img .now)
 inside c =
     let s = c .before .before in
-    let h = s .pre .0 in
-    omega (arith, c .output-row .ensures .0 (wordAt (s .args .img .now)) h, h .output-table, s .pre .1 .outputs)
+    let h = s .pre .0 .heads in
+    omega (arith, c .output-row .ensures .0 (wordAt (s .args .img .now)) h, h .output-table, s .pre .0 .holds .outputs)
 
 output-row-requires : tie.Need-output-row-requires
-output-row-requires c κs = let h = c .before .pre .0 in omega (arith, h .output-table, h .fits 10, h .outputs, h .fits 3)
+output-row-requires c κs = let h = c .before .pre .0 .heads in omega (arith, h .output-table, h .fits 10, h .outputs, h .fits 3)
 
 add-whole-word : tie.Need-add-whole-word
 add-whole-word c = search needs
@@ -45,7 +45,7 @@ returns c =
     let row = c .before .before in
     let s = row .before .before in
     let w = wordAt (s .args .img .now) in
-    let e = row .output-row .ensures .0 w (s .pre .0) in
+    let e = row .output-row .ensures .0 w (s .pre .0 .heads) in
     sym (ap startOf (no-range w (s .args .i) _ _ e (c .before .whole-word .ensures .0) (c .if1 .taken)))
 
 add-whole-crisp : tie.Need-add-whole-crisp

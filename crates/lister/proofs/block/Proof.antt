@@ -18,7 +18,7 @@ rule-block-requires c κs = search needs
 defuzzify-parts-requires : tie.Need-defuzzify-parts-requires
 defuzzify-parts-requires c κs =
     let s = c .before .before .before .before .before .before .before .before .before .before .before .before in
-    (s .pre .1, s .pre .2, s .pre .0 .frame)
+    s .pre
 
 fuzzify-parts-requires : tie.Need-fuzzify-parts-requires
 fuzzify-parts-requires c κs = search needs
@@ -44,7 +44,7 @@ input-lines-requires c κs =
     let b = a .before .before .before .before .before .before .before .before in
     let d = b .before .before .before .before .before .before .before .before in
     let s = d .before .before .before .before .before .before .before .before .before .before in
-    (s .pre .1, s .pre .2)
+    s .pre
 
 slice-aggregate-puts-4 : tie.Need-slice-aggregate-puts-4
 slice-aggregate-puts-4 c = search needs

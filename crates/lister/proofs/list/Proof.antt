@@ -8,7 +8,7 @@ use Rattle.model.specs.Image.{isImageOf}
 use Rattle.model.specs.Listing.{listing}
 use Rattle.laws.proofs.Buffers.{too-short, stored}
 use Rattle.load.specs.Judged.{Judged}
-use Rattle.lister.proofs.Answers.{block, not-listed, listed, short}
+use Rattle.lister.proofs.Answers.{longest, block, not-listed, listed, short}
 use Rattle.listing_writer.proofs.Prepends.{counted, copied}
 use borrow.Author.Needs.{needs}
 use Rattle.lister.proofs.list.Statement.{statement}
@@ -54,7 +54,7 @@ unfolding Judged
 block-requires c κs =
     let a = c .before .before .before in
     let k = subst (Judged _) (a .a .given .1) (a .before .before .examine .ensures) .1 in
-    (k .sound, k .heads, k .holds)
+    k .checked
 
 returns-2 : tie.Need-returns-2
 returns-2 c =

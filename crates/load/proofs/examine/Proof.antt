@@ -5,7 +5,7 @@ use Prim.Native.Nat.{ℕ, _<_}
 use native.Mathlib.Omega.{arith}
 use borrow.Author.Needs.{needs}
 use borrow.Author.Tests.{eq-eqb, ne-eqb, not-true, not-false}
-use lib.ListN.{length, getD}
+use lib.ListN.{getD}
 use Rattle.model.specs.Basic.{every}
 use Rattle.model.specs.Image.{wordAt, decode, isImageOf}
 use Rattle.header.specs.Header.{Heads, Holds}
@@ -113,9 +113,11 @@ returns-6 c =
     let yes = not-false _ (c .if5 .left) in (
       judged r ∙ yes,
       record {
-        sound = record { frame = framed e; variables = spoken (r .before); rules = sym (r .rules-ok .ensures) ∙ yes };
-        heads = heads (t .before .before);
-        holds = held e;
+        checked = record {
+          sound = record { frame = framed e; variables = spoken (r .before); rules = sym (r .rules-ok .ensures) ∙ yes };
+          heads = heads (t .before .before);
+          holds = held e;
+        };
         input-terms = t .tables-ok .ensures .0 .1 (not-false _ (e .if3 .left));
       },
     )

@@ -12,14 +12,14 @@ use Rattle.rule_listing.proofs.conclusion.Tie as tie
 within : (c : tie.After-conclusion-row) → (c .conclusion-row .result + 2) * 4 ≤ length (c .before .before .before .args .img .now)
 within c =
     let s = c .before .before .before in
-    let hd = s .pre .1 in
-    omega (arith, c .conclusion-row .ensures .0 (wordAt (s .args .img .now)) hd, hd .conclusion-table, s .pre .4 .conclusions, s .pre .2)
+    let hd = s .pre .0 .heads in
+    omega (arith, c .conclusion-row .ensures .0 (wordAt (s .args .img .now)) hd, hd .conclusion-table, s .pre .0 .holds .conclusions, s .pre .1)
 
 conclusion-row-requires : tie.Need-conclusion-row-requires
 conclusion-row-requires c κs =
     let s = c .before .before in
-    let hd = s .pre .1 in
-    omega (arith, hd .conclusion-table, hd .fits 15, hd .conclusions, hd .fits 8, s .pre .2)
+    let hd = s .pre .0 .heads in
+    omega (arith, hd .conclusion-table, hd .fits 15, hd .conclusions, hd .fits 8, s .pre .1)
 
 whole-word-requires : tie.Need-whole-word-requires
 whole-word-requires c κs = omega (arith, within c)
@@ -32,7 +32,7 @@ whole-word-requires-2 c κs = omega (arith, within (c .before))
 
 term-row-requires : tie.Need-term-row-requires
 term-row-requires c κs =
-    let hd = c .before .before .before .before .before .before .pre .1 in
+    let hd = c .before .before .before .before .before .before .pre .0 .heads in
     omega (arith, hd .term-table, hd .fits 11, c .before .whole-word2 .ensures .1)
 
 name-requires : tie.Need-name-requires
@@ -47,7 +47,7 @@ puts-requires c κs = search needs
 output-row-requires : tie.Need-output-row-requires
 output-row-requires c κs =
     let r = c .before .before .before .before .before .before .before .before .before .before .before .before in
-    let hd = r .before .before .before .before .pre .1 in
+    let hd = r .before .before .before .before .pre .0 .heads in
     omega (arith, hd .output-table, hd .fits 10, r .whole-word .ensures .1)
 
 name-requires-2 : tie.Need-name-requires-2
@@ -66,8 +66,8 @@ returns c =
     let o = r .before .before in
     let s = o .before .before .before in
     let w = wordAt (s .args .img .now) in
-    let hd = s .pre .1 in
-    let e = conclusion-text w (s .pre .0) (s .args .j) _ _ _ _ _ (s .pre .3) (o .conclusion-row .ensures .0 w hd)
+    let hd = s .pre .0 .heads in
+    let e = conclusion-text w (s .pre .0 .sound) (s .args .j) _ _ _ _ _ (s .pre .2) (o .conclusion-row .ensures .0 w hd)
     (r .before .whole-word .ensures .0) (r .whole-word2 .ensures .0) (w3 .before .output-row .ensures .0 w hd) (t .term-row .ensures .0 w hd) in
     rw e (joined (joined (w1 .name .ensures) (w2 .puts .ensures)) (w3 .name2 .ensures))
 

@@ -28,7 +28,7 @@ abbrev μ-loop : tie.MeasureT-loop
 μ-loop out₀ k img h i o first n j₀ p₀ t11 out j p = j
 
 inside : (s : tie.Start Inv-loop μ-loop) → s .args .i < wordAt (s .args .img .now) 6
-inside s = omega (arith, s .pre .2, s .pre .1 .rules)
+inside s = omega (arith, s .pre .1, s .pre .0 .heads .rules)
 
 -- conclusion j of the rule is one of the block's
 here : (c : tie.After-whole-word2 Inv-loop μ-loop) (j : ℕ) →
@@ -38,15 +38,15 @@ here c j l =
     let r = c .before .before in
     let s = r .before .before .before in
     let w = wordAt (s .args .img .now) in
-    let o = r .rule-row .ensures .0 w (s .pre .1) in
-    conclusion-here w (s .pre .0) (s .args .i) (inside s) _ _ _ o (c .before .whole-word .ensures .0) (c .whole-word2 .ensures .0) j l
+    let o = r .rule-row .ensures .0 w (s .pre .0 .heads) in
+    conclusion-here w (s .pre .0 .sound) (s .args .i) (inside s) _ _ _ o (c .before .whole-word .ensures .0) (c .whole-word2 .ensures .0) j l
 
 -- the row lies in the image
 within : (c : tie.After-rule-row Inv-loop μ-loop) → (c .rule-row .result + 6) * 4 ≤ length (c .before .before .before .args .img .now)
 within c =
     let s = c .before .before .before in
-    let hd = s .pre .1 in
-    omega (arith, c .rule-row .ensures .0 (wordAt (s .args .img .now)) hd, hd .rule-table, s .pre .3 .rules, s .pre .2)
+    let hd = s .pre .0 .heads in
+    omega (arith, c .rule-row .ensures .0 (wordAt (s .args .img .now)) hd, hd .rule-table, s .pre .0 .holds .rules, s .pre .1)
 
 -- its conclusions are among the block's
 among : (c : tie.After-whole-word2 Inv-loop μ-loop) →
@@ -55,16 +55,16 @@ among c =
     let r = c .before .before in
     let s = r .before .before .before in
     let w = wordAt (s .args .img .now) in
-    let o = r .rule-row .ensures .0 w (s .pre .1) in
+    let o = r .rule-row .ensures .0 w (s .pre .0 .heads) in
     let first = field w _ _ 3 _ (c .before .whole-word .ensures .0) o in
     let count = field w _ _ 4 _ (c .whole-word2 .ensures .0) o in
-    omega (arith, first, count, conclusions-within w (s .pre .0 .rules) (s .args .i) (inside s), s .pre .1 .conclusions)
+    omega (arith, first, count, conclusions-within w (s .pre .0 .sound .rules) (s .args .i) (inside s), s .pre .0 .heads .conclusions)
 
 rule-row-requires : tie.Need-rule-row-requires Inv-loop μ-loop
 rule-row-requires c κs =
     let s = c .before .before in
-    let hd = s .pre .1 in
-    omega (arith, hd .rule-table, hd .fits 13, hd .rules, s .pre .2, rules-few _ (s .pre .0))
+    let hd = s .pre .0 .heads in
+    omega (arith, hd .rule-table, hd .fits 13, hd .rules, s .pre .1, rules-few _ (s .pre .0 .sound))
 
 add-whole-word : tie.Need-add-whole-word Inv-loop μ-loop
 add-whole-word c = search needs
@@ -84,7 +84,8 @@ returns c =
     let o = r .before .before in
     let s = o .before .before .before in
     let w = wordAt (s .args .img .now) in
-    let e = rule-conclusions w (s .pre .0) (s .args .i) (inside s) _ _ _ (o .rule-row .ensures .0 w (s .pre .1)) (r .before .whole-word .ensures .0) (r .whole-word2 .ensures .0) in
+    let row = o .rule-row .ensures .0 w (s .pre .0 .heads) in
+    let e = rule-conclusions w (s .pre .0 .sound) (s .args .i) (inside s) _ _ _ row (r .before .whole-word .ensures .0) (r .whole-word2 .ensures .0) in
     rw (← e) (commaed-empty (conclusionText (decode w)) (conclusionAt w) _ _ (c .if1 .taken))
 
 sub-j : tie.Need-sub-j Inv-loop μ-loop
@@ -97,7 +98,7 @@ conclusion-requires : tie.Need-conclusion-requires Inv-loop μ-loop
 conclusion-requires c κs =
     let r = c .before .before in
     let s = r .before .before .before .before .before in
-    (s .pre .0, s .pre .1, omega (arith, among r, c .before .if1 .left), here r _ (omega (arith, c .before .if1 .left)), s .pre .3)
+    (s .pre .0, omega (arith, among r, c .before .if1 .left), here r _ (omega (arith, c .before .if1 .left)))
 
 loop-holds : tie.Need-loop-holds Inv-loop μ-loop
 loop-holds c = (omega (arith, c .before .before .before .before .if1 .left), λ q old w. w, refl)
@@ -119,7 +120,7 @@ conclusion-requires-2 c κs =
     let l = c .before .before .before .before .before .before .before in
     let r = l .before .before .before .before .before .before in
     let s = r .before .before .before .before .before in
-    (s .pre .0, s .pre .1, omega (arith, among r, l .loop .inv .0), here r _ (omega (arith, l .loop .inv .0)), s .pre .3)
+    (s .pre .0, omega (arith, among r, l .loop .inv .0), here r _ (omega (arith, l .loop .inv .0)))
 
 sub-j-2 : tie.Need-sub-j-2 Inv-loop μ-loop
 sub-j-2 c = search needs
@@ -156,9 +157,12 @@ returns-2 c =
     let w = wordAt (s .args .img .now) in
     let f = conclusionText (decode w) in
     let g = conclusionAt w in
-    let e = rule-conclusions w (s .pre .0) (s .args .i) (inside s) _ _ _ (o .rule-row .ensures .0 w (s .pre .1)) (r .before .whole-word .ensures .0) (r .whole-word2 .ensures .0) in
-    let last = commaed-last f g (r .before .whole-word .result) (r .whole-word2 .result) _ (r .whole-word2 .result) _ (omega (arith, first .before .before .if1 .left)) refl (first .conclusion .ensures) in
-    rw (← e) (commaed-all f g (r .before .whole-word .result) (r .whole-word2 .result) _ (l .loop .j) _ (omega arith) (l .loop .inv .1 _ _ last))
+    let row = o .rule-row .ensures .0 w (s .pre .0 .heads) in
+    let e = rule-conclusions w (s .pre .0 .sound) (s .args .i) (inside s) _ _ _ row (r .before .whole-word .ensures .0) (r .whole-word2 .ensures .0) in
+    let from = r .before .whole-word .result in
+    let n = r .whole-word2 .result in
+    let last = commaed-last f g from n _ n _ (omega (arith, first .before .before .if1 .left)) refl (first .conclusion .ensures) in
+    rw (← e) (commaed-all f g from n _ (l .loop .j) _ (omega arith) (l .loop .inv .1 _ _ last))
 
 pub conclusions-spec : {M : Type 1} → statement M
 conclusions-spec =

@@ -13,14 +13,14 @@ use Rattle.rule_listing.proofs.rule.Tie as tie
 within : (c : tie.After-rule-row) → (c .rule-row .result + 6) * 4 ≤ length (c .before .before .before .args .img .now)
 within c =
     let s = c .before .before .before in
-    let hd = s .pre .1 in
-    omega (arith, c .rule-row .ensures .0 (wordAt (s .args .img .now)) hd, hd .rule-table, s .pre .3 .rules, s .pre .2)
+    let hd = s .pre .0 .heads in
+    omega (arith, c .rule-row .ensures .0 (wordAt (s .args .img .now)) hd, hd .rule-table, s .pre .0 .holds .rules, s .pre .1)
 
 rule-row-requires : tie.Need-rule-row-requires
 rule-row-requires c κs =
     let s = c .before .before in
-    let hd = s .pre .1 in
-    omega (arith, hd .rule-table, hd .fits 13, hd .rules, s .pre .2, rules-few _ (s .pre .0))
+    let hd = s .pre .0 .heads in
+    omega (arith, hd .rule-table, hd .fits 13, hd .rules, s .pre .1, rules-few _ (s .pre .0 .sound))
 
 whole-word-requires : tie.Need-whole-word-requires
 whole-word-requires c κs = omega (arith, within c)
@@ -53,7 +53,13 @@ puts-requires-2 : tie.Need-puts-requires-2
 puts-requires-2 c κs = search needs
 
 rule-condition-requires : tie.Need-rule-condition-requires
-rule-condition-requires c κs = search needs
+rule-condition-requires c κs =
+    let w4 = c .before .before .before in
+    let w3 = w4 .before .before .before .before .before in
+    let w2 = w3 .before .before .before .before in
+    let w1 = w2 .before .before .before .before .before in
+    let s = w1 .before .before .before .before .before .before .before in
+    (s .pre .0, omega (arith, s .pre .1, s .pre .0 .heads .rules))
 
 slice-aggregate-puts-3 : tie.Need-slice-aggregate-puts-3
 slice-aggregate-puts-3 c = search needs
@@ -109,7 +115,8 @@ returns c =
     let condition = joined (joined conclusions (w4 .puts2 .ensures)) (w5 .rule-condition .ensures) in
     let line = joined (joined (joined condition (w6 .puts3 .ensures)) (w7 .digits .ensures)) (w8 .puts4 .ensures) in
     let number = w1 .before .before .before in
-    rw (rule-line w (s .args .i) _ _ _ (o .rule-row .ensures .0 w (s .pre .1)) (number .whole-word .ensures .0) (w2 .before .whole-word2 .ensures .0)) line
+    let row = o .rule-row .ensures .0 w (s .pre .0 .heads) in
+    rw (rule-line w (s .args .i) _ _ _ row (number .whole-word .ensures .0) (w2 .before .whole-word2 .ensures .0)) line
 
 pub rule-spec : {M : Type 1} → statement M
 rule-spec =

@@ -40,7 +40,7 @@ whole-word-requires-3 : tie.Need-whole-word-requires-3
 whole-word-requires-3 c κs =
     let w4 = c .before .before .before .before .before .before .before .before in
     let w2 = w4 .before .before .before .before .before .before .before .before .before .before in
-    omega (arith, w2 .before .before .before .before .before .before .before .before .before .before .pre .2 .head)
+    omega (arith, w2 .before .before .before .before .before .before .before .before .before .before .pre .holds .head)
 
 activation-requires : tie.Need-activation-requires
 activation-requires c κs = search needs

@@ -34,7 +34,7 @@ rule-requires : tie.Need-rule-requires Inv-loop μ-loop
 rule-requires c κs =
     let l = c .before .before in
     let s = l .before .before .before in
-    (s .pre .0, s .pre .1, omega (arith, l .loop .inv .0), s .pre .2)
+    (s .pre, omega (arith, l .loop .inv .0))
 
 sub-i : tie.Need-sub-i Inv-loop μ-loop
 sub-i c = search needs
@@ -63,7 +63,7 @@ returns c =
     let l = c .before in
     let s = l .before .before .before in
     let w = wordAt (s .args .img .now) in
-    rw (s .pre .1 .rules) at (items-all (ruleLine (decode w)) (ruleAt w) 0 (s .args .h .rules) _ (l .loop .i) _ (omega arith) (l .loop .inv .1))
+    rw (s .pre .heads .rules) at (items-all (ruleLine (decode w)) (ruleAt w) 0 (s .args .h .rules) _ (l .loop .i) _ (omega arith) (l .loop .inv .1))
 
 pub rules-spec : {M : Type 1} → statement M
 rules-spec =

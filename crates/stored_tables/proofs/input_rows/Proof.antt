@@ -9,8 +9,8 @@ use Rattle.model.specs.Image.{wordAt, inputAt}
 use Rattle.header.proofs.Laws.{small}
 use Rattle.layout.specs.Tables.{inputCount, inputNext, inputRow, inputRows, inputTermsIn}
 use Rattle.laws.proofs.Tests.{clash}
-use Rattle.stored_tables.specs.Tests.{inputTest}
-use Rattle.stored_tables.proofs.RowTests.{input-row, input-next}
+use Rattle.stored_rows.specs.Tests.{inputTest}
+use Rattle.stored_rows.proofs.RowTests.{input-row, input-next}
 use Rattle.stored_tables.proofs.Loops.{Rest, Count, rows-start, rows-more, rows-stop, rows-end, count-start, count-more, count-end, seen}
 use Rattle.stored_tables.proofs.input_rows.Statement.{statement}
 use Rattle.stored_tables.proofs.input_rows.Tie as tie

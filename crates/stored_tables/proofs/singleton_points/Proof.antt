@@ -6,8 +6,8 @@ use Rattle.model.specs.Image.{wordAt, pointWords}
 use Rattle.header.proofs.Laws.{small}
 use Rattle.layout.specs.Tables.{alone, onward, outputPointAt}
 use Rattle.stored_tables.specs.Tests.{outputPointsFrom}
-use Rattle.stored_tables.proofs.Lists.{equal, differs}
-use Rattle.stored_tables.proofs.RowTests.{point-row}
+use Rattle.stored_header.proofs.Lists.{equal, differs}
+use Rattle.stored_rows.proofs.RowTests.{point-row}
 use Rattle.stored_tables.proofs.Loops.{Rest, rows-from, rows-more, rows-stop, rows-end}
 use Rattle.stored_tables.proofs.singleton_points.Statement.{statement}
 use Rattle.stored_tables.proofs.singleton_points.Tie as tie

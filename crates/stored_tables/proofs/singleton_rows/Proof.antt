@@ -6,8 +6,9 @@ use borrow.Author.Tests.{not-true, not-false}
 use Rattle.model.specs.Image.{wordAt}
 use Rattle.header.proofs.Laws.{small}
 use Rattle.layout.specs.Tables.{outputTermAt, termNext, termRow}
-use Rattle.stored_tables.specs.Tests.{singletonTest, outputTermRowsFrom}
-use Rattle.stored_tables.proofs.RowTests.{output-term-row}
+use Rattle.stored_rows.specs.Tests.{singletonTest}
+use Rattle.stored_tables.specs.Tests.{outputTermRowsFrom}
+use Rattle.stored_rows.proofs.RowTests.{output-term-row}
 use Rattle.stored_tables.proofs.Loops.{Rest, rows-from, rows-more, rows-stop, rows-end, seen}
 use Rattle.stored_tables.proofs.singleton_rows.Statement.{statement}
 use Rattle.stored_tables.proofs.singleton_rows.Tie as tie

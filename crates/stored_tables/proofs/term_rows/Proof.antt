@@ -10,8 +10,9 @@ use Rattle.header.proofs.Laws.{small}
 use Rattle.layout.specs.Tables.{sums, termCount, termNext, termRow}
 use Rattle.layout.proofs.Whole.{term-next}
 use Rattle.laws.proofs.Tests.{clash}
-use Rattle.stored_tables.specs.Tests.{termTest, termRowsTo}
-use Rattle.stored_tables.proofs.RowTests.{term-row}
+use Rattle.stored_rows.specs.Tests.{termTest}
+use Rattle.stored_tables.specs.Tests.{termRowsTo}
+use Rattle.stored_rows.proofs.RowTests.{term-row}
 use Rattle.stored_tables.proofs.Loops.{Rest, Count, rows-start, rows-more, rows-stop, rows-end, count-start, count-more, count-end, seen}
 use Rattle.stored_tables.proofs.term_rows.Statement.{statement}
 use Rattle.stored_tables.proofs.term_rows.Tie as tie
@@ -54,7 +55,8 @@ returns c =
     let h = turn .before .loop-test .taken in
     let r = term-row w (l .i) (l .p) in
     let t = seen (λ (k : ℕ). termTest w k (l .p)) _ _ _ _ _ o (c .before .term-ok .ensures) (not-true _ (c .if1 .taken)) r in
-    ((rows-stop termRow termNext (termAt w) w (w 11) 6 _ (l .i) (l .p) _ h t (l .inv .1 .1 .0), (λ q. clash q)), (let s = small (start .pre .0) in search needs))
+    let stop = rows-stop termRow termNext (termAt w) w (w 11) 6 _ (l .i) (l .p) _ h t (l .inv .1 .1 .0) in
+    ((stop, (λ q. clash q)), (let s = small (start .pre .0) in search needs))
 
 add-whole-word : tie.Need-add-whole-word Inv-loop μ-loop
 add-whole-word c = search needs
@@ -93,7 +95,8 @@ returns-2 c =
     let w = wordAt (start .args .img .now) in
     let h = c .loop-test .left in
     let count = count-end (termCount w) _ (l .i) (l .p) _ h (l .inv .1 .1 .1) in
-    ((rows-end termRow termNext (termAt w) w (w 11) 6 _ (l .i) (l .p) _ h (l .inv .1 .1 .0), (λ q. count ∙ zero-add _)), (let s = small (start .pre .0) in search needs))
+    let end = rows-end termRow termNext (termAt w) w (w 11) 6 _ (l .i) (l .p) _ h (l .inv .1 .1 .0) in
+    ((end, (λ q. count ∙ zero-add _)), (let s = small (start .pre .0) in search needs))
 
 pub term-rows-spec : {M : Type 1} → statement M
 term-rows-spec =

@@ -7,7 +7,7 @@ use Rattle.model.specs.Image.{wordAt}
 use Rattle.laws.proofs.Tests.{pass, one-fails}
 use Rattle.header.proofs.Laws.{small}
 use Rattle.stored_tables.specs.Tests.{outputTermRowsFrom, outputPointsFrom}
-use Rattle.stored_tables.proofs.Lists.{equal, differs}
+use Rattle.stored_header.proofs.Lists.{equal, differs}
 use Rattle.stored_tables.proofs.Loops.{seen}
 use Rattle.stored_tables.proofs.terms_ok.Statement.{statement}
 use Rattle.stored_tables.proofs.terms_ok.Tie as tie
