@@ -16,10 +16,6 @@ use Rattle.model.specs.WellFormed.{wellFormed}
 use Rattle.laws.proofs.Tests.{both}
 use Rattle.listing_laws.proofs.Longest.{listing-short}
 
--- what the code calls LONGEST
-abbrev pub longest : ℕ
-longest = 31421
-
 module _ (img : List ℕ) where
   abbrev pub block : Block
   block = decode (wordAt img)

@@ -8,7 +8,7 @@ use Rattle.model.specs.Image.{isImageOf}
 use Rattle.model.specs.Listing.{listing}
 use Rattle.laws.proofs.Buffers.{too-short, stored}
 use Rattle.load.specs.Judged.{Judged}
-use Rattle.lister.proofs.Answers.{longest, block, not-listed, listed, short}
+use Rattle.lister.proofs.Answers.{block, not-listed, listed, short}
 use Rattle.listing_writer.proofs.Prepends.{counted, copied}
 use borrow.Author.Needs.{needs}
 use Rattle.lister.proofs.list.Statement.{statement}
