@@ -43,11 +43,11 @@ markNumber Fired = 1
 markNumber Default = 2
 markNumber HeldMark = 3
 
-abbrev pub refusalNumber : {A : Type 0} → Outcome A → ℕ
+abbrev pub refusalNumber : Outcome (Unit {0}) → ℕ
 refusalNumber (accepted a) = 0
 refusalNumber (refused n p) = n
 
-abbrev placeNumber : {A : Type 0} → Outcome A → ℕ
+abbrev placeNumber : Outcome (Unit {0}) → ℕ
 placeNumber (accepted a) = 0
 placeNumber (refused n none) = 0
 placeNumber (refused n (some p)) = p
@@ -61,7 +61,7 @@ figureNumber i h = getD (map (λ c. natAbs (c .0)) (h .figures)) i 0
 
 -- of the first call's first answer
 abbrev firstSum : List (List Answer) → ℕ
-firstSum ass = getD (getD ass 0 []) 0 noAnswer .sum
+firstSum given = getD (getD given 0 []) 0 noAnswer .sum
 
 -- nothing fires: y is to hold 10, z is to answer its default -3
 abbrev idle : Reply → ℤ → ℤ → Made
@@ -92,11 +92,11 @@ wrong-not-accepted h = let z : _≡_ {A = ℕ} 1 0 = ap boolNumber (h .accepted-
 -- REFUSED BY 12, OR BY 14 AT THE FIRST WRONG ONE
 number-not-other : Claimed (lent (whole (pos 0) ∷ Int (negsuc 4) ∷ []) 1 (notGiven (WrongReading 0)) (pos 10000) (negsuc 1999) ∷ []) → ⊥
 unfolding opened
-number-not-other h = let z : _≡_ {A = ℕ} 14 12 = ap (λ (o : Outcome (Unit {0})). refusalNumber o) (h .verdicts .0) in omega (arith, z)
+number-not-other h = let z : _≡_ {A = ℕ} 14 12 = ap refusalNumber (h .verdicts .0) in omega (arith, z)
 
 place-not-other : Claimed (lent (Int (pos 1) ∷ whole (pos 0) ∷ []) 2 (notGiven (WrongReading 1)) (pos 10000) (negsuc 1999) ∷ []) → ⊥
 unfolding opened
-place-not-other h = let z : _≡_ {A = ℕ} 1 0 = ap (λ (o : Outcome (Unit {0})). placeNumber o) (h .verdicts .0) in omega (arith, z)
+place-not-other h = let z : _≡_ {A = ℕ} 1 0 = ap placeNumber (h .verdicts .0) in omega (arith, z)
 
 -- DEGREES BETWEEN 0 AND 1
 -- a block whose one input, an INT, has a point of a millionth above 1, and whose one rule is r
@@ -167,9 +167,10 @@ sum-not-other : Claimed (busy (given (answer Fired (pos 13333) 1500001 0x402aaa7
 unfolding opened
 sum-not-other h = let z : _≡_ {A = ℕ} 1500001 1500000 = ap firstSum (h .answers-defined) in omega (arith, z)
 
-refused-not-answered : Claimed (
-    lent (whole (pos 0) ∷ Int (negsuc 4) ∷ []) 1 (record { verdict = Refused WrongCount; answers = padded noAnswer (firing ∷ []) }) (pos 10000) (negsuc 1999)
-    ∷ []) → ⊥
+abbrev refusedAnswering : Reply
+refusedAnswering = record { verdict = Refused WrongCount; answers = padded noAnswer (firing ∷ []) }
+
+refused-not-answered : Claimed (lent (whole (pos 0) ∷ Int (negsuc 4) ∷ []) 1 refusedAnswering (pos 10000) (negsuc 1999) ∷ []) → ⊥
 unfolding opened
 refused-not-answered h = let z : _≡_ {A = ℕ} 500000 0 = ap firstSum (h .answers-defined) in omega (arith, z)
 
@@ -202,7 +203,7 @@ fired-not-from-none h = h .fired-between .0 refl
 
 default-not-other : Claimed (idle (given holding (answer Default (negsuc 3999) 0 0)) (pos 10000) (negsuc 3999) ∷ []) → ⊥
 unfolding opened
-default-not-other h = let z : _≡_ {A = ℕ} 3000 4000 = ap (λ (o : Option ℤ). defaultNumber o) (h .default-declared .1 .0 refl) in omega (arith, z)
+default-not-other h = let z : _≡_ {A = ℕ} 3000 4000 = ap defaultNumber (h .default-declared .1 .0 refl) in omega (arith, z)
 
 held-not-moved : Claimed (idle (given (answer HeldMark (pos 10001) 0 0) defaulting) (pos 10000) (negsuc 2999) ∷ []) → ⊥
 unfolding opened
@@ -210,13 +211,13 @@ held-not-moved h = let z : _≡_ {A = ℕ} 10001 10000 = ap natAbs (h .held-befo
 
 held-not-for-default : Claimed (idle (given holding (answer HeldMark (negsuc 1999) 0 0)) (pos 10000) (negsuc 1999) ∷ []) → ⊥
 unfolding opened
-held-not-for-default h = let z : _≡_ {A = ℕ} 3000 0 = ap (λ (o : Option ℤ). defaultNumber o) (h .held-before .1 .0 refl .0) in omega (arith, z)
+held-not-for-default h = let z : _≡_ {A = ℕ} 3000 0 = ap defaultNumber (h .held-before .1 .0 refl .0) in omega (arith, z)
 
 -- THE RECORD: another figure than the last accepted call answered; one that a refused call moved
 record-not-other : Claimed (idle (given holding defaulting) (pos 10000) (negsuc 1999) ∷ []) → ⊥
 unfolding opened
-record-not-other h = let z : _≡_ {A = ℕ} 2000 3000 = ap (λ (g : Held). figureNumber 1 g) (h .record-holds) in omega (arith, z)
+record-not-other h = let z : _≡_ {A = ℕ} 2000 3000 = ap (figureNumber 1) (h .record-holds) in omega (arith, z)
 
 record-not-moved : Claimed (lent (whole (pos 0) ∷ Int (negsuc 4) ∷ []) 1 (notGiven WrongCount) (pos 10001) (negsuc 1999) ∷ []) → ⊥
 unfolding opened
-record-not-moved h = let z : _≡_ {A = ℕ} 10001 10000 = ap (λ (g : Held). figureNumber 0 g) (h .record-holds) in omega (arith, z)
+record-not-moved h = let z : _≡_ {A = ℕ} 10001 10000 = ap (figureNumber 0) (h .record-holds) in omega (arith, z)

@@ -218,7 +218,9 @@ marks : map isMarked (None ∷ Fired ∷ Default ∷ HeldMark ∷ []) ≡ false 
 marks = refl
 
 -- a height of one millionth counts; a missing one does not
-heights-of-one : map (raised (singleton "k" (pos 1) ∷ singleton "m" (pos 2) ∷ [])) ((1 ∷ 0 ∷ []) ∷ (0 ∷ 1 ∷ []) ∷ (1 ∷ 1 ∷ []) ∷ (1 ∷ []) ∷ (0 ∷ 0 ∷ []) ∷ [])
+heights-of-one :
+    map (raised (singleton "k" (pos 1) ∷ singleton "m" (pos 2) ∷ []))
+    ((1 ∷ 0 ∷ []) ∷ (0 ∷ 1 ∷ []) ∷ (1 ∷ 1 ∷ []) ∷ (1 ∷ []) ∷ (0 ∷ 0 ∷ []) ∷ [])
     ≡ (pos 1 ∷ []) ∷ (pos 2 ∷ []) ∷ (pos 1 ∷ pos 2 ∷ []) ∷ (pos 1 ∷ []) ∷ [] ∷ []
 unfolding opened
 heights-of-one = refl

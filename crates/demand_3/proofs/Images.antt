@@ -6,7 +6,7 @@ use native.Mathlib.Omega.{arith}
 use Prim.Native.Nat.{ℕ}
 use lib.IntN.{pos}
 use Rattle.model.specs.Block.{Block}
-use Rattle.model.specs.Outcome.{Outcome, accepted, refused}
+use Rattle.model.specs.Outcome.{accepted}
 use Rattle.model.specs.Image.{image, loads}
 use Rattle.model.specs.Buffers.{readsTo}
 use Rattle.model.specs.Evaluation.{heldOf, noAnswer, leaving, starting, fresh, recordIn}
@@ -27,7 +27,7 @@ text-of-accepted d = d .passes .0 refl
 
 no-text-of-refused : Demand3 [] → (s : List ℕ) → readsTo s [] → ⊥
 unfolding opened
-no-text-of-refused d s r = let z : _≡_ {A = ℕ} 11 0 = ap (λ (o : Outcome (Unit {0})). refusalNumber o) (d .passes .1 (s, r)) in omega (arith, z)
+no-text-of-refused d s r = let z : _≡_ {A = ℕ} 11 0 = ap refusalNumber (d .passes .1 (s, r)) in omega (arith, z)
 
 -- EVERY LIST OF CALLS on it from its fresh record on
 each-list : (img : List ℕ) → Demand3 img → (b : Block) → loads img ≡ accepted b → (ms : List Made) → Trace img (recordIn (fresh img)) ms
@@ -50,11 +50,11 @@ traced h = (record { verdict = refl; answers = refl; held = refl }, (record { ve
 
 accepted-not-traced : (h : Held) → Trace [] h (valued notLoaded h ∷ lent (given noAnswer noAnswer) h ∷ []) → ⊥
 unfolding opened
-accepted-not-traced h t = let z : _≡_ {A = ℕ} 0 11 = ap (λ (o : Outcome (Unit {0})). refusalNumber o) (t .1 .0 .verdict) in omega (arith, z)
+accepted-not-traced h t = let z : _≡_ {A = ℕ} 0 11 = ap refusalNumber (t .1 .0 .verdict) in omega (arith, z)
 
 moved-not-traced : Trace [] (heldOf (pos 1 ∷ [])) (valued notLoaded (heldOf (pos 2 ∷ [])) ∷ []) → ⊥
 unfolding opened
-moved-not-traced t = let z : _≡_ {A = ℕ} 2 1 = ap (λ (g : Held). figureNumber 0 g) (t .0 .held) in omega (arith, z)
+moved-not-traced t = let z : _≡_ {A = ℕ} 2 1 = ap (figureNumber 0) (t .0 .held) in omega (arith, z)
 
 -- on the worked example's image: sharp 30 answers 25 and leaves it; a call without readings, refused, has to leave it too
 abbrev graded : Held → Made
@@ -72,9 +72,9 @@ handed-on = (record { verdict = refl; answers = refl; held = refl }, (record { v
 
 lost-not-traced : Trace (image trust) (heldOf []) (graded of25 ∷ unread (heldOf []) ∷ []) → ⊥
 unfolding opened
-lost-not-traced t = let z : _≡_ {A = ℕ} 0 25000 = ap (λ (g : Held). figureNumber 0 g) (t .1 .0 .held) in omega (arith, z)
+lost-not-traced t = let z : _≡_ {A = ℕ} 0 25000 = ap (figureNumber 0) (t .1 .0 .held) in omega (arith, z)
 
 -- a record that is refused by 13 stays so, whatever record the call leaves
 wrong-record-not-traced : Trace (image trust) (heldOf (pos 1000000001 ∷ [])) (graded of25 ∷ []) → ⊥
 unfolding opened
-wrong-record-not-traced t = let z : _≡_ {A = ℕ} 0 13 = ap (λ (o : Outcome (Unit {0})). refusalNumber o) (t .0 .verdict) in omega (arith, z)
+wrong-record-not-traced t = let z : _≡_ {A = ℕ} 0 13 = ap refusalNumber (t .0 .verdict) in omega (arith, z)

@@ -1,5 +1,5 @@
--- Answers: readings as values, one output by its heights, the held record, what a refused call hands back, and what an
--- evaluation tells of its outcome.
+-- Answers: readings as values, one output by its heights, the held record, what a refused call hands back, one call on a
+-- block, and what an evaluation tells of its outcome.
 use mathlib.Core.Bool.{Bool, true, false}
 use mathlib.Core.List.{List, [], _∷_, map}
 use mathlib.Core.Option.{Option, none, some}
@@ -9,10 +9,10 @@ use Prim.Native.Nat.{ℕ}
 use lib.Ieee.{Float, nan, inf, fin, binary32, binary64, ofInt, ofBits, toBits}
 use lib.IntN.{ℤ, pos, negsuc, natAbs}
 use lib.ListN.{getD}
-use Rattle.model.specs.Block.{Range, real, int, by-min, by-prod, withAct}
+use Rattle.model.specs.Block.{Term, Range, Output, term, Block, real, int, min-max, by-max, by-min, by-prod, blockOf, withAct}
 use Rattle.model.specs.Outcome.{Outcome, accepted, refused}
 use Rattle.model.specs.Readings.{realOf, taken, valueIn, floatOf}
-use Rattle.model.specs.Evaluation.{outputAnswer, startOf, heldOf, noAnswer, padded, callResult, evaluateBlock, answersAfter, heldAfter, Tells, fresh, recordIn}
+use Rattle.model.specs.Evaluation.{termDegrees, outputAnswer, startOf, heldOf, noAnswer, padded, freshOf, heldOk, CallResult, callResult, evaluateBlock, answersAfter, heldAfter, Tells, leaving, fresh, recordIn}
 use Rattle.model.specs.declared.Answer.{Answer}
 use Rattle.model.specs.declared.Mark.{Mark}
 use Rattle.model.specs.declared.Mark.the-variants.{None, Fired, Default, Held as HeldMark}
@@ -23,6 +23,7 @@ use Rattle.model.specs.declared.Verdict.{Verdict}
 use Rattle.model.specs.declared.Verdict.the-variants.{Accepted, Refused}
 use Rattle.model.specs.declared.Taken.{Taken}
 use Rattle.model.specs.declared.Taken.the-variants.{Value, Absent as Missing, NotFinite, WrongKind}
+use Rattle.model.specs.declared.Reading.{Reading}
 use Rattle.model.specs.declared.Reading.the-variants.{Real, Int, Absent}
 use Rattle.model.proofs.Opened.{opened}
 use Rattle.model.proofs.Example.{trust}
@@ -122,6 +123,59 @@ act-no-effect : map (λ a. evaluateBlock (withAct a trust) (Real (ofInt binary32
 unfolding opened
 act-no-effect = refl
 
+-- ONE CALL on a block of a REAL and an INT, whose outputs y in 10..20 and z in -5..-2 hold; its rule concludes z from n
+abbrev rising : List Term
+rising = record { name = []; points = record { at = pos 0; degree = 0 } ∷ record { at = pos 2000; degree = 1000000 } ∷ [] } ∷ []
+
+abbrev output : ℤ → ℤ → ℤ → Output
+output x y z =
+    record { name = []; terms = record { name = []; at = x } ∷ []; range = some (record { least = y; most = z }); default = none }
+
+abbrev called : Block
+called =
+    blockOf [] (record { name = []; type = real; terms = rising } ∷ record { name = []; type = int; terms = rising } ∷ [])
+    (output (pos 15000) (pos 10000) (pos 20000) ∷ output (negsuc 4499) (negsuc 4999) (negsuc 1999) ∷ []) [] min-max by-min by-max
+    (record { number = 1; condition = term 1; conclusions = record { output = 1; term = 3 } ∷ []; weight = 500000 } ∷ [])
+
+abbrev calling : List Reading → ℕ → List ℤ → Outcome CallResult
+calling rs n xs = evaluateBlock called rs n (heldOf xs)
+
+abbrev five : Reading
+five = Real (ofInt binary32 (pos 5))
+
+-- the degrees by each input's own value
+called-degrees : termDegrees (called .inputs) (pos 500 ∷ pos 1000 ∷ []) ≡ 250000 ∷ 500000 ∷ []
+unfolding opened
+called-degrees = refl
+
+-- nothing fires, and each output holds its own figure; z alone fires
+called-answers : calling (five ∷ Int (pos 0) ∷ []) 2 (pos 11000 ∷ negsuc 2499 ∷ []) ∷ calling (five ∷ Int (pos 2) ∷ []) 2 (pos 11000 ∷ negsuc 2499 ∷ []) ∷ []
+    ≡ accepted (callResult (answer HeldMark (pos 11000) 0 0x4026000000000000 ∷ answer HeldMark (negsuc 2499) 0 0xc004000000000000 ∷ []))
+    ∷ accepted (callResult (answer HeldMark (pos 11000) 0 0x4026000000000000 ∷ answer Fired (negsuc 4499) 500000 0xc012000000000000 ∷ [])) ∷ []
+unfolding opened
+called-answers = refl
+
+-- 12 before 13; a figure below RANGE, above it, an unused place, a missing reading's place behind 13
+called-refused :
+    calling [] 1 [] ∷ calling [] 3 (pos 11000 ∷ negsuc 2499 ∷ []) ∷ calling [] 2 (pos 9999 ∷ negsuc 2499 ∷ []) ∷ calling [] 2 (pos 11000 ∷ negsuc 1998 ∷ [])
+    ∷ calling [] 2 (pos 11000 ∷ negsuc 2499 ∷ pos 1 ∷ []) ∷ calling [] 2 (pos 11000 ∷ negsuc 2499 ∷ [])
+    ∷ calling (five ∷ []) 2 (pos 10000 ∷ negsuc 4999 ∷ []) ∷ calling (five ∷ five ∷ []) 2 (pos 20000 ∷ negsuc 1999 ∷ []) ∷ []
+    ≡ refused 12 none ∷ refused 12 none ∷ refused 13 none ∷ refused 13 none ∷ refused 13 none ∷ refused 14 (some 0) ∷ refused 14 (some 1)
+    ∷ refused 14 (some 1) ∷ []
+unfolding opened
+called-refused = refl
+
+-- without RANGE a held figure has the crisp bounds
+bounds-held : map (λ x. heldOk (trust .outputs) (x ∷ [])) (pos 1000000000 ∷ pos 1000000001 ∷ negsuc 999999999 ∷ negsuc 1000000000 ∷ [])
+    ≡ true ∷ false ∷ true ∷ false ∷ []
+unfolding opened
+bounds-held = refl
+
+-- the end of each RANGE that is nearest 0
+called-fresh : freshOf called ∷ recordIn (accepted (freshOf called)) ∷ [] ≡ heldOf (pos 10000 ∷ negsuc 1999 ∷ []) ∷ heldOf (pos 10000 ∷ negsuc 1999 ∷ []) ∷ []
+unfolding opened
+called-fresh = refl
+
 -- WHAT AN EVALUATION TELLS of an accepted call and of a refused one on the record of 5, and in which parts it must not differ
 abbrev one : Answer
 one = answer HeldMark (pos 7) 0 0x3f7cac083126e979
@@ -137,6 +191,9 @@ TellsOne r = Tells r before (accepted (callResult (one ∷ [])))
 
 abbrev TellsRefused : Evaluation → Type 0
 TellsRefused r = Tells r before (refused 12 none)
+
+daily-call : leaving (record { verdict = Refused WrongCount; answers = padded noAnswer (one ∷ []) }) before ≡ evaluation (Refused WrongCount) (one ∷ []) before
+daily-call = refl
 
 told : TellsOne (evaluation Accepted (one ∷ []) (heldOf (pos 7 ∷ [])))
 told = record { verdict = refl; answers = refl; held = refl }

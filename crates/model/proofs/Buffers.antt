@@ -2,10 +2,10 @@
 use mathlib.Core.Bool.{true, false}
 use mathlib.Core.List.{List, [], _∷_, _++_, map}
 use mathlib.Core.Option.{none, some}
-use mathlib.Core.Path.{_≡_, refl}
+use mathlib.Core.Path.{_≡_, refl, ap}
 use Prim.Native.Nat.{ℕ}
 use native.Mathlib.Omega.{arith}
-use lib.ListN.{drop, replicate}
+use lib.ListN.{length, drop, replicate}
 use Rattle.model.specs.Basic.{bytes}
 use Rattle.model.specs.Outcome.{Outcome, accepted, refused, into, lengthIn, verdictIn, bufferAfter}
 use Rattle.model.specs.Refusals.{refusalOf, writtenOf, verdictOf}
@@ -94,3 +94,16 @@ impossible h = let z : _≡_ {A = ℕ} 0 1 = cc in omega arith
 no-byte : (img : List ℕ) → readsTo (exampleText ++ (bytes "(*" ++ (256 ∷ bytes "*)"))) img → ⊥
 unfolding opened
 no-byte img h = impossible (h .0)
+
+-- another image, and a text that is refused
+abbrev lengthOf : Outcome (List ℕ) → ℕ
+lengthOf (accepted s) = length s
+lengthOf (refused n p) = 0
+
+no-other-image : readsTo exampleText (1 ∷ []) → ⊥
+unfolding opened
+no-other-image h = let z : _≡_ {A = ℕ} 364 1 = ap lengthOf (h .1) in omega (arith, z)
+
+no-image-of-refused : readsTo (bytes "FUNCTION_BLOCK") (1 ∷ []) → ⊥
+unfolding opened
+no-image-of-refused h = let z : _≡_ {A = ℕ} 0 1 = ap lengthOf (h .1) in omega (arith, z)
