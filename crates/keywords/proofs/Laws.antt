@@ -1,7 +1,7 @@
 -- Two words byte by byte, words that are no keyword, and keywords by their slots.
 use mathlib.Core.Path.{_≡_, refl, sym, ap, _∙_}
 use mathlib.Core.List.{List, [], _∷_, map}
-use mathlib.Core.Bool.{Bool, true, false, _&&_, _||_, not}
+use mathlib.Core.Bool.{Bool, true, false, _&&_, not, and-false}
 use Prim.Native.Nat.{ℕ, zero, suc, _+_, _-_, _*_, _/_, _%_, _^_, _≤_, _<_}
 use native.Mathlib.Nat.{mul-add, mul-add-mod-self-right}
 use native.Mathlib.Numerals.{add-one}
@@ -18,7 +18,7 @@ use Rattle.laws.proofs.Places.{same-eq}
 use Rattle.laws.proofs.Slices.{part}
 use Rattle.laws.proofs.Tests.{both, clash}
 use Rattle.laws.proofs.Words.{by-case, length-capitals, byte-capitals, capitals-again, low-bits}
-use Rattle.keywords.specs.Slots.{keywordCount, slotOf, joined, startOf, rowAt, slotRow, firstOf, rowIn, mayBe, Others}
+use Rattle.keywords.specs.Slots.{keywordCount, slotOf, groupOf, joined, sizeOf, startOf, rowAt, slotRow, firstOf, rowIn, mayBe, Others}
 use Rattle.keywords.specs.declared.Row.{Row}
 
 module _ (w t : List ℕ) (k : ℕ) (hw : k < length w) (ht : k < length t) where
@@ -89,21 +89,21 @@ own-slot : (i : ℕ) → i < keywordCount → ownSlot i ≡ true
 unfolding ownSlot all tab
 own-slot i h = let z : 0 + i ≡ i = omega arith in rw z at (all-at ownSlot (λ i. i) keywordCount 0 i h refl)
 
-pub row-here : (h i a e : ℕ) → h ≡ slotOf (getD keywords i []) → ltb i keywordCount ≡ true → a ≡ startOf i → e ≡ startOf (i + 1)
-    → record { keyword = i; start = a; end = e } ≡ slotRow h
+pub row-here : (h i a n : ℕ) → h ≡ slotOf (getD keywords i []) → ltb i keywordCount ≡ true → a ≡ startOf i → n ≡ sizeOf i
+    → record { keyword = i; start = a; size = n } ≡ slotRow h
 unfolding slotRow ownSlot
-row-here h i a e q l p r =
+row-here h i a n q l p r =
     let z : indexOf (λ k. eqb h (slotOf k)) keywords ≡ i =
     ap (λ (n : ℕ). indexOf (λ k. eqb n (slotOf k)) keywords) q ∙ eqb-true _ _ (own-slot i (ltb-true i keywordCount l)) in
-    (λ j. record { keyword = i; start = p j; end = r j }) ∙ ap rowAt (sym z)
+    (λ j. record { keyword = i; start = p j; size = r j }) ∙ ap rowAt (sym z)
 
 -- the text of a row
-abbrev pub rowText : Row → List ℕ
-rowText r = slice (r .start) (r .end) (joined keywords)
+abbrev rowText : Row → List ℕ
+rowText r = slice (r .start) (r .start + r .size) (joined (groupOf (r .size)) keywords)
 
--- it lies in the text of all keywords, and is the row's keyword
+-- it lies in the text of its group, and is the row's keyword
 rightRow : ℕ → Bool
-rightRow i = (leb (rowAt i .start) (rowAt i .end) && leb (rowAt i .end) (startOf keywordCount)) && eqb (keywordAt (rowText (rowAt i))) i
+rightRow i = leb (startOf i + sizeOf i) (length (joined (groupOf (sizeOf i)) keywords)) && eqb (keywordAt (rowText (rowAt i))) i
 
 index-most : {A : Type 0} (f : A → Bool) (xs : List A) → indexOf f xs ≤ length xs
 index-most f [] = omega arith
@@ -120,40 +120,74 @@ right-row h =
     let z : 0 + i ≡ i = omega arith in
     rw z at (all-at rightRow (λ i. i) (keywordCount + 1) 0 i (omega (arith, index-most (λ k. eqb h (slotOf k)) keywords)) refl)
 
--- what a word of slot h is beside the row of its slot
-module _ (w text : List ℕ) (h : ℕ) (r : Row) (own : h ≡ slotOf w) (here : r ≡ slotRow h) (all-text : text ≡ joined keywords) where
-  pub row-inside : (r .start ≤ r .end) × (r .end ≤ length text)
-  unfolding slotRow rightRow
-  row-inside =
-      let i = indexOf (λ k. eqb h (slotOf k)) keywords in
-      let p = both (leb (rowAt i .start) (rowAt i .end)) (leb (rowAt i .end) (startOf keywordCount)) (both _ (eqb (keywordAt (rowText (rowAt i))) i) (right-row h) .0) in
-      rw (here, all-text) (leb-true (rowAt i .start) (rowAt i .end) (p .0), leb-true (rowAt i .end) (startOf keywordCount) (p .1))
+-- a keyword is that of its slot
+isOwn : List ℕ → Bool
+isOwn k = eqb (length k) (slotRow (slotOf k) .size) && alike k (rowText (slotRow (slotOf k)))
 
+not-own : (w : List ℕ) → isOwn w ≡ false → keywordAt w ≡ keywordCount
+unfolding slotRow isOwn all
+not-own w e =
+    unlike isOwn
+    (λ v j. eqb (length-capitals v j) (slotRow (slot-capitals v j) .size) && same (capitals-again v j) (capitals (rowText (slotRow (slot-capitals v j))))) w e
+    keywords refl
+
+-- what a word of slot h is beside the row of its slot
+module _ (w : List ℕ) (h : ℕ) (r : Row) (own : h ≡ slotOf w) (here : r ≡ slotRow h) where
   pub row-most : r .keyword ≤ keywordCount
   unfolding slotRow
   row-most = rw here (index-most (λ k. eqb h (slotOf k)) keywords)
 
-  same-text : alike w (take (r .end - r .start) (drop (r .start) text)) ≡ alike w (rowText (slotRow (slotOf w)))
-  same-text =
-      let q : r ≡ slotRow (slotOf w) = here ∙ ap slotRow own in
-      ap (alike w) (part (r .start) (r .end) text) ∙ (λ j. alike w (slice (q j .start) (q j .end) (all-text j)))
+  its-row : r ≡ slotRow (slotOf w)
+  its-row = here ∙ ap slotRow own
 
-  pub row-same : alike w (take (r .end - r .start) (drop (r .start) text)) ≡ true → r .keyword ≡ keywordAt w
-  unfolding slotRow rightRow
-  row-same e =
-      let n = slotOf w in
-      let t = rowText (slotRow n) in
-      let i = indexOf (λ k. eqb n (slotOf k)) keywords in
-      let p = both (leb (rowAt i .start) (rowAt i .end) && leb (rowAt i .end) (startOf keywordCount)) (eqb (keywordAt (rowText (rowAt i))) i) (right-row n) in
-      ap (λ (q : Row). q .keyword) (here ∙ ap slotRow own) ∙ sym (eqb-true (keywordAt t) i (p .1))
-      ∙ sym (ap (λ (v : List ℕ). indexOf (λ k. same v (capitals k)) keywords) (same-eq (capitals w) (capitals t) (sym same-text ∙ e)))
+  pub row-unfit : (length w ≡ r .size → ⊥) → keywordAt w ≡ keywordCount
+  unfolding isOwn
+  row-unfit n = not-own w (simp (ne-eqb (length w) (slotRow (slotOf w) .size) (λ e. n (e ∙ ap (λ (q : Row). q .size) (sym its-row)))))
 
-  -- each keyword is that of its slot
-  pub row-other : alike w (take (r .end - r .start) (drop (r .start) text)) ≡ false → keywordAt w ≡ keywordCount
-  unfolding slotRow all
-  row-other e =
-      unlike (λ k. alike k (rowText (slotRow (slotOf k)))) (λ v j. same (capitals-again v j) (capitals (rowText (slotRow (slot-capitals v j))))) w
-      (sym same-text ∙ e) keywords refl
+  module _ (text : List ℕ) (group-text : text ≡ joined (groupOf (length w)) keywords) (fit : length w ≡ r .size) where
+    row-text : text ≡ joined (groupOf (r .size)) keywords
+    row-text = group-text ∙ ap (λ (n : ℕ). joined (groupOf n) keywords) fit
+
+    pub row-inside : r .start + r .size ≤ length text
+    unfolding slotRow rightRow
+    row-inside =
+        let i = indexOf (λ k. eqb h (slotOf k)) keywords in
+        let p = both (leb (startOf i + sizeOf i) (length (joined (groupOf (sizeOf i)) keywords))) (eqb (keywordAt (rowText (rowAt i))) i) (right-row h) in
+        rw (row-text, here) (leb-true (startOf i + sizeOf i) (length (joined (groupOf (sizeOf i)) keywords)) (p .0))
+
+    same-text : alike w (take (r .start + r .size - r .start) (drop (r .start) text)) ≡ alike w (rowText (slotRow (slotOf w)))
+    same-text =
+        ap (alike w) (part (r .start) (r .start + r .size) text ∙ ap (slice (r .start) (r .start + r .size)) row-text)
+        ∙ ap (λ (q : Row). alike w (rowText q)) its-row
+
+    pub row-same : alike w (take (r .start + r .size - r .start) (drop (r .start) text)) ≡ true → r .keyword ≡ keywordAt w
+    unfolding slotRow rightRow
+    row-same e =
+        let n = slotOf w in
+        let t = rowText (slotRow n) in
+        let i = indexOf (λ k. eqb n (slotOf k)) keywords in
+        let p = both (leb (startOf i + sizeOf i) (length (joined (groupOf (sizeOf i)) keywords))) (eqb (keywordAt (rowText (rowAt i))) i) (right-row n) in
+        ap (λ (q : Row). q .keyword) its-row ∙ sym (eqb-true (keywordAt t) i (p .1))
+        ∙ sym (ap (λ (v : List ℕ). indexOf (λ k. same v (capitals k)) keywords) (same-eq (capitals w) (capitals t) (sym same-text ∙ e)))
+
+    pub row-other : alike w (take (r .start + r .size - r .start) (drop (r .start) text)) ≡ false → keywordAt w ≡ keywordCount
+    unfolding isOwn
+    row-other e = not-own w (ap (λ (b : Bool). eqb (length w) (slotRow (slotOf w) .size) && b) (sym same-text ∙ e) ∙ and-false (eqb (length w) (slotRow (slotOf w) .size)))
+
+-- the text of a word's group, by the word's length
+pub text-of-2 : (n : ℕ) → n ≡ 2 → joined 2 keywords ≡ joined (groupOf n) keywords
+text-of-2 n e = ap (λ (m : ℕ). joined (groupOf m) keywords) (sym e)
+
+pub text-of-3 : (n : ℕ) → n ≡ 3 → joined 3 keywords ≡ joined (groupOf n) keywords
+text-of-3 n e = ap (λ (m : ℕ). joined (groupOf m) keywords) (sym e)
+
+pub text-of-4 : (n : ℕ) → n ≡ 4 → joined 4 keywords ≡ joined (groupOf n) keywords
+text-of-4 n e = ap (λ (m : ℕ). joined (groupOf m) keywords) (sym e)
+
+pub text-of-more : (n : ℕ) → (n ≡ 2 → ⊥) → (n ≡ 3 → ⊥) → (n ≡ 4 → ⊥) → joined 5 keywords ≡ joined (groupOf n) keywords
+text-of-more n a b c =
+    let e : groupOf n ≡ 5 = simp (ne-eqb n 2 a, ne-eqb n 3 b, ne-eqb n 4 c) in
+    ap (λ (g : ℕ). joined g keywords) (sym e)
 
 -- NO KEYWORD'S SLOT, NO KEYWORD'S FIRST LETTER AND LENGTH
 others-front : (T : Type 0) (h : ℕ) (ns : List ℕ) → Others T h ns → T

@@ -21,17 +21,24 @@ keywordLimit = 18
 abbrev pub slotOf : List ℕ → ℕ
 slotOf w = (length w + 8 * getD w 0 0 + 152 * getD w (length w - 1) 0) % 256
 
--- the words, one behind the other
-abbrev pub joined : List (List ℕ) → List ℕ
-joined [] = []
-joined (k ∷ ks) = k ++ joined ks
+-- words of 2, of 3 and of 4 bytes are groups; the others are one
+abbrev pub groupOf : ℕ → ℕ
+groupOf n = if eqb n 2 then 2 else if eqb n 3 then 3 else if eqb n 4 then 4 else 5
 
--- where keyword i begins in the text of all of them
+-- the words of group g, one behind the other
+abbrev pub joined : ℕ → List (List ℕ) → List ℕ
+joined g [] = []
+joined g (k ∷ ks) = if eqb (groupOf (length k)) g then k ++ joined g ks else joined g ks
+
+abbrev pub sizeOf : ℕ → ℕ
+sizeOf i = length (getD keywords i [])
+
+-- where keyword i begins in the text of its group
 abbrev pub startOf : ℕ → ℕ
-startOf i = length (joined (take i keywords))
+startOf i = length (joined (groupOf (sizeOf i)) (take i keywords))
 
 abbrev pub rowAt : ℕ → Row
-rowAt i = record { keyword = i; start = startOf i; end = startOf (i + 1) }
+rowAt i = record { keyword = i; start = startOf i; size = sizeOf i }
 
 -- the keyword of slot h and its place in that text; where there is none, behind the last, with no bytes
 unfoldable pub slotRow : ℕ → Row

@@ -6,10 +6,10 @@ ghost use mathlib.Core.Bool.{true};
 ghost use mathlib.Core.List.{[], map};
 ghost use Prim.Native.Nat.{_+_, _*_, _%_, _≤_, _<_};
 ghost use lib.Dec.{ltb};
-ghost use lib.ListN.{getD};
+ghost use lib.ListN.{length, getD};
 ghost use Rattle.model.specs.Basic.{alike};
 ghost use Rattle.model.specs.Keywords.{keywords, keywordAt};
-ghost use Rattle.keywords.specs.Slots.{keywordCount, keywordLimit, slotOf, joined, startOf, slotRow, rows, rowIn, mayBe, Others};
+ghost use Rattle.keywords.specs.Slots.{keywordCount, keywordLimit, slotOf, groupOf, joined, sizeOf, startOf, slotRow, rows, rowIn, mayBe, Others};
 
 // How many keywords there are, how long the longest is, and a bit for each length that one has.
 pub const COUNT: usize = 43;
@@ -18,8 +18,8 @@ const LONGEST: usize = 18;
 
 const LENGTHS: usize = 290556;
 
-// The bytes of all keywords.
-const SIZE: u8 = 243;
+// The bytes of the keywords of more than 4.
+const LONGER: u8 = 156;
 
 // The words are the same but for case.
 fn is_word(w: &[u8], t: &[u8]) -> bool
@@ -38,24 +38,24 @@ fn is_word(w: &[u8], t: &[u8]) -> bool
     true
 }
 
-// The keyword of a slot, and where it begins and ends in the text of all of them. Where no keyword has the slot, it is
-// COUNT, which has no bytes.
+// The keyword of a slot, where it begins in the text of its group, and how long it is. Where no keyword has the slot, it
+// is COUNT, which has no bytes.
 struct Row {
     keyword: u8,
     start: u8,
-    end: u8,
+    size: u8,
 }
 
 // The row of a keyword of slot h.
-fn keyword_row(h: usize, keyword: u8, start: u8, end: u8) -> Row
+fn keyword_row(h: usize, keyword: u8, start: u8, size: u8) -> Row
     requires { ⌜ (h ≡ slotOf (getD keywords keyword [])) × (ltb keyword keywordCount ≡ true) ⌝ }
-    requires place { ⌜ (start ≡ startOf keyword) × (end ≡ startOf (keyword + 1)) ⌝ }
+    requires place { ⌜ (start ≡ startOf keyword) × (size ≡ sizeOf keyword) ⌝ }
     ensures { λ r. ⌜ r ≡ slotRow h ⌝ }
 {
     Row {
         keyword: keyword,
         start: start,
-        end: end,
+        size: size,
     }
 }
 
@@ -66,8 +66,8 @@ fn no_row(h: usize) -> Row
 {
     Row {
         keyword: COUNT as u8,
-        start: SIZE,
-        end: SIZE,
+        start: LONGER,
+        size: 0,
     }
 }
 
@@ -77,64 +77,91 @@ fn slot_row(h: usize) -> Row
 {
     match h {
         132 => keyword_row(h, 0, 0, 4),
-        235 => keyword_row(h, 1, 4, 7),
-        107 => keyword_row(h, 2, 7, 10),
-        196 => keyword_row(h, 3, 10, 14),
-        164 => keyword_row(h, 4, 14, 18),
-        204 => keyword_row(h, 5, 18, 22),
-        179 => keyword_row(h, 6, 22, 25),
-        67 => keyword_row(h, 7, 25, 28),
-        100 => keyword_row(h, 8, 28, 32),
-        7 => keyword_row(h, 9, 32, 39),
-        1 => keyword_row(h, 10, 39, 48),
-        13 => keyword_row(h, 11, 48, 61),
-        194 => keyword_row(h, 12, 61, 79),
-        11 => keyword_row(h, 13, 79, 90),
-        123 => keyword_row(h, 14, 90, 101),
-        189 => keyword_row(h, 15, 101, 114),
-        223 => keyword_row(h, 16, 114, 121),
-        198 => keyword_row(h, 17, 121, 135),
-        15 => keyword_row(h, 18, 135, 142),
-        218 => keyword_row(h, 19, 142, 144),
-        146 => keyword_row(h, 20, 144, 146),
-        26 => keyword_row(h, 21, 146, 148),
-        171 => keyword_row(h, 22, 148, 151),
-        206 => keyword_row(h, 23, 151, 157),
-        187 => keyword_row(h, 24, 157, 160),
-        58 => keyword_row(h, 25, 160, 162),
-        83 => keyword_row(h, 26, 162, 165),
-        44 => keyword_row(h, 27, 165, 169),
-        199 => keyword_row(h, 28, 169, 176),
-        42 => keyword_row(h, 29, 176, 178),
-        228 => keyword_row(h, 30, 178, 182),
-        141 => keyword_row(h, 31, 182, 187),
-        74 => keyword_row(h, 32, 187, 189),
-        140 => keyword_row(h, 33, 189, 193),
-        33 => keyword_row(h, 34, 193, 202),
-        92 => keyword_row(h, 35, 202, 206),
-        244 => keyword_row(h, 36, 206, 210),
-        99 => keyword_row(h, 37, 210, 213),
-        153 => keyword_row(h, 38, 213, 222),
-        154 => keyword_row(h, 39, 222, 232),
-        124 => keyword_row(h, 40, 232, 236),
-        180 => keyword_row(h, 41, 236, 240),
-        43 => keyword_row(h, 42, 240, 243),
+        235 => keyword_row(h, 1, 0, 3),
+        107 => keyword_row(h, 2, 3, 3),
+        196 => keyword_row(h, 3, 4, 4),
+        164 => keyword_row(h, 4, 8, 4),
+        204 => keyword_row(h, 5, 12, 4),
+        179 => keyword_row(h, 6, 6, 3),
+        67 => keyword_row(h, 7, 9, 3),
+        100 => keyword_row(h, 8, 16, 4),
+        7 => keyword_row(h, 9, 0, 7),
+        1 => keyword_row(h, 10, 7, 9),
+        13 => keyword_row(h, 11, 16, 13),
+        194 => keyword_row(h, 12, 29, 18),
+        11 => keyword_row(h, 13, 47, 11),
+        123 => keyword_row(h, 14, 58, 11),
+        189 => keyword_row(h, 15, 69, 13),
+        223 => keyword_row(h, 16, 82, 7),
+        198 => keyword_row(h, 17, 89, 14),
+        15 => keyword_row(h, 18, 103, 7),
+        218 => keyword_row(h, 19, 0, 2),
+        146 => keyword_row(h, 20, 2, 2),
+        26 => keyword_row(h, 21, 4, 2),
+        171 => keyword_row(h, 22, 12, 3),
+        206 => keyword_row(h, 23, 110, 6),
+        187 => keyword_row(h, 24, 15, 3),
+        58 => keyword_row(h, 25, 6, 2),
+        83 => keyword_row(h, 26, 18, 3),
+        44 => keyword_row(h, 27, 20, 4),
+        199 => keyword_row(h, 28, 116, 7),
+        42 => keyword_row(h, 29, 8, 2),
+        228 => keyword_row(h, 30, 24, 4),
+        141 => keyword_row(h, 31, 123, 5),
+        74 => keyword_row(h, 32, 10, 2),
+        140 => keyword_row(h, 33, 28, 4),
+        33 => keyword_row(h, 34, 128, 9),
+        92 => keyword_row(h, 35, 32, 4),
+        244 => keyword_row(h, 36, 36, 4),
+        99 => keyword_row(h, 37, 21, 3),
+        153 => keyword_row(h, 38, 137, 9),
+        154 => keyword_row(h, 39, 146, 10),
+        124 => keyword_row(h, 40, 40, 4),
+        180 => keyword_row(h, 41, 44, 4),
+        43 => keyword_row(h, 42, 24, 3),
         _ => no_row(h),
     }
 }
 
-// The word of slot h beside the keyword of that slot, which is a part of the text of all of them.
+// The word of slot h beside the keyword of that slot, which is a part of the text of the word's group.
 fn in_slot(w: &[u8], h: usize, text: &[u8]) -> usize
-    requires { ⌜ (h ≡ slotOf (now w)) × (now text ≡ joined keywords) ⌝ }
+    requires { ⌜ (h ≡ slotOf (now w)) × (now text ≡ joined (groupOf (length (now w))) keywords) ⌝ }
     ensures { λ r. ⌜ (r ≡ keywordAt (now (w .entry))) × (r ≤ keywordCount) ⌝ }
 {
     let r = slot_row(h);
+    let n = r.size as usize;
+    if w.len() != n {
+        return COUNT;
+    }
     let a = r.start as usize;
-    let e = r.end as usize;
+    let e = a + n;
     if is_word(w, &text[a..e]) {
         return r.keyword as usize;
     }
     COUNT
+}
+
+// The keywords of 2, of 3 and of 4 bytes have a text each, since a text is stored into the frame before it is compared.
+fn of_slot(w: &[u8], h: usize) -> usize
+    requires { ⌜ h ≡ slotOf (now w) ⌝ }
+    ensures { λ r. ⌜ (r ≡ keywordAt (now (w .entry))) × (r ≤ keywordCount) ⌝ }
+{
+    let n = w.len();
+    if n == 2 {
+        return in_slot(w, h, b"IFISLMNCORRM");
+    }
+    if n == 3 {
+        return in_slot(w, h, b"ACTANDCoACoGMAXMINNOTVARINT");
+    }
+    if n == 4 {
+        return in_slot(w, h, b"ACCUASUMBDIFBSUMCoGSNSUMPRODRULETERMTHENWITHREAL");
+    }
+    in_slot(
+        w,
+        h,
+        b"DEFAULTDEFUZZIFYEND_DEFUZZIFYEND_FUNCTION_BLOCKEND_FUZZIFYEND_OPTIONSEND_RULEBLOCKEND_VAR\
+        FUNCTION_BLOCKFUZZIFYMETHODOPTIONSRANGERULEBLOCKVAR_INPUTVAR_OUTPUT",
+    )
 }
 
 // The slot of the words of n bytes that begin with a and end in z.
@@ -210,12 +237,5 @@ pub fn keyword_at(w: &[u8]) -> usize
     if !may_be(n, w[0]) {
         return COUNT;
     }
-    let h = slot(n, w[0], w[n - 1]);
-    in_slot(
-        w,
-        h,
-        b"ACCUACTANDASUMBDIFBSUMCoACoGCoGSDEFAULTDEFUZZIFYEND_DEFUZZIFY\
-        END_FUNCTION_BLOCKEND_FUZZIFYEND_OPTIONSEND_RULEBLOCKEND_VARFUNCTION_BLOCKFUZZIFYIFISLM\
-        MAXMETHODMINNCNOTNSUMOPTIONSORPRODRANGERMRULERULEBLOCKTERMTHENVARVAR_INPUTVAR_OUTPUTWITHREALINT",
-    )
+    of_slot(w, slot(n, w[0], w[n - 1]))
 }

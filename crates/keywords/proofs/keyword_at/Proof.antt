@@ -48,11 +48,8 @@ shared-slice-read-slot-2 c = omega (arith, some-length _ (c .before .before .bef
 slot-requires : tie.Need-slot-requires
 slot-requires c κs = search needs
 
-slice-aggregate-in-slot : tie.Need-slice-aggregate-in-slot
-slice-aggregate-in-slot c = search needs
-
-in-slot-requires : tie.Need-in-slot-requires
-in-slot-requires c κs = search needs
+of-slot-requires : tie.Need-of-slot-requires
+of-slot-requires c κs = search needs
 
 returns-4 : tie.Need-returns-4
 returns-4 c = search needs
@@ -71,6 +68,5 @@ keyword-at-spec =
     sub-slot
     shared-slice-read-slot-2
     slot-requires
-    slice-aggregate-in-slot
-    in-slot-requires
+    of-slot-requires
     returns-4)
