@@ -5,11 +5,10 @@ use mathlib.Core.Option.{none}
 use Prim.Native.Nat.{ℕ, _+_, _*_, _≤_, _<_}
 use native.Mathlib.Omega.{arith}
 use lib.ListN.{length, getD, length-map, List·getD-eq-default}
-use Rattle.model.specs.Basic.{indexOf}
+use Rattle.model.specs.Basic.{indexOf, tab}
 use Rattle.model.specs.Bounds.{inputLimit, termLimit, variableLimit}
 use Rattle.model.specs.Block as block
 use Rattle.model.specs.Block.{Block, termsOf, singletonsOf, rangeOf}
-use Rattle.model.specs.Image.{tab}
 use Rattle.model.specs.Tokens.{sameName}
 use Rattle.model.specs.Declarations.{inputOf, outputOf, termOf, singletonOf}
 use Rattle.laws.proofs.Lists.{map-tab}

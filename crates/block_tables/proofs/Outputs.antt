@@ -7,8 +7,8 @@ use Prim.Native.Nat.{ℕ, _+_, _*_, _≤_, _<_}
 use native.Mathlib.Omega.{arith}
 use lib.ListN.{length, set, length-set}
 use lib.Seq.{slice, getD-set-same, getD-set-other}
+use Rattle.model.specs.Basic.{tab}
 use Rattle.model.specs.Bounds.{inputLimit, outputLimit, termLimit, inputTermLimit, outputTermLimit, variableLimit}
-use Rattle.model.specs.Image.{tab}
 use Rattle.model.specs.Declarations.{addOutput}
 use Rattle.lookup.proofs.Names.{placed-set}
 use Rattle.block_tables.specs.declared.Output.{Output}

@@ -7,9 +7,9 @@ use native.Mathlib.Nat.{zero-add}
 use native.Mathlib.Omega.{arith}
 use lib.ListN.{set, length-set}
 use lib.Seq.{slice, getD-set-same, getD-set-other}
+use Rattle.model.specs.Basic.{tab}
 use Rattle.model.specs.Block.{Output as Output′, withRange, withDefault}
 use Rattle.model.specs.Bounds.{inputLimit, outputLimit, termLimit}
-use Rattle.model.specs.Image.{tab}
 use Rattle.model.specs.Declarations.{changeOutput}
 use Rattle.model.specs.declared.Crisp.{Crisp}
 use Rattle.block_tables.specs.declared.Output.{Output}

@@ -6,9 +6,9 @@ use native.Mathlib.Nat.{zero-add}
 use native.Mathlib.Omega.{arith}
 use lib.ListN.{length, getD, set, length-set}
 use lib.Seq.{slice, getD-set-same, getD-set-other}
+use Rattle.model.specs.Basic.{tab}
 use Rattle.model.specs.Block.{withSingleton}
 use Rattle.model.specs.Bounds.{inputLimit, outputLimit, termLimit, inputTermLimit, outputTermLimit, variableLimit}
-use Rattle.model.specs.Image.{tab}
 use Rattle.model.specs.Declarations.{changeOutput}
 use Rattle.lookup.proofs.Names.{placed-set}
 use Rattle.block_tables.specs.declared.Output.{Output}

@@ -8,8 +8,7 @@ use borrow.Author.Tests.{eqb-true, eqb-false}
 use lib.Dec.{eqb}
 use lib.ListN.{length, take, drop, getD, set}
 use lib.Seq.{getD-set-same, getD-set-other}
-use Rattle.model.specs.Basic.{update}
-use Rattle.model.specs.Image.{tab}
+use Rattle.model.specs.Basic.{update, tab}
 use Rattle.laws.proofs.Places.{tab-last, tab-ext}
 use Rattle.laws.proofs.Arrays.{each-set}
 

@@ -11,9 +11,8 @@ use lib.Arith.{lt-of-le-ne}
 use lib.ListN.{length, getD, set, length-set}
 use lib.Seq.{slice, getD-set-same, getD-set-other}
 use Rattle.model.specs.Block.{asInt}
-use Rattle.model.specs.Basic.{if_then_else_}
+use Rattle.model.specs.Basic.{if_then_else_, tab}
 use Rattle.model.specs.Bounds.{inputLimit, termLimit}
-use Rattle.model.specs.Image.{tab}
 use Rattle.model.specs.Declarations.{intFrom}
 use Rattle.model.specs.declared.InputType.the-variants.{Real as real, Int as int}
 use Rattle.block_tables.specs.declared.Input.{Input}

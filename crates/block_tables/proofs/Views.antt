@@ -3,9 +3,8 @@ use mathlib.Core.Path.{_≡_, ap, _∙_}
 use mathlib.Core.List.{List}
 use Prim.Native.Nat.{ℕ, _+_, _*_, _<_}
 use lib.Seq.{slice}
-use Rattle.model.specs.Basic.{if_then_else_}
+use Rattle.model.specs.Basic.{if_then_else_, tab}
 use Rattle.model.specs.Bounds.{termLimit}
-use Rattle.model.specs.Image.{tab}
 use Rattle.model.specs.declared.InputType.the-variants.{Real as real, Int as int}
 use Rattle.block_tables.specs.declared.Input.{Input}
 use Rattle.block_tables.specs.declared.Output.{Output}

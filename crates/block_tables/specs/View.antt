@@ -8,7 +8,7 @@ use Prim.Native.Nat.{ℕ, _+_, _*_, _≤_, _<_}
 use lib.IntN.{ℤ, pos}
 use lib.ListN.{length, getD}
 use lib.Seq.{slice}
-use Rattle.model.specs.Basic.{if_then_else_}
+use Rattle.model.specs.Basic.{if_then_else_, tab}
 use Rattle.model.specs.Bounds.{inputLimit, outputLimit, termLimit, pointLimit, variableLimit, inputTermLimit, outputTermLimit, symbolLimit}
 use Rattle.model.specs.Block as block
 use Rattle.model.specs.Block.{Block, Range, Rule}
@@ -16,7 +16,7 @@ use Rattle.model.specs.declared.InputType.the-variants.{Real as real, Int as in
 use Rattle.model.specs.declared.Pair.the-variants.{MinMax as min-max}
 use Rattle.model.specs.declared.Activation.the-variants.{Min as by-min}
 use Rattle.model.specs.declared.Accumulation.the-variants.{Max as by-max}
-use Rattle.model.specs.Image.{tab, pairOf, accuOf, actOf}
+use Rattle.model.specs.Image.{pairOf, accuOf, actOf}
 use Rattle.model.specs.declared.Crisp.{Crisp}
 use Rattle.lookup.specs.Names.{Placed}
 use Rattle.block_tables.specs.declared.Input.{Input}

@@ -7,11 +7,10 @@ use native.Mathlib.Omega.{arith}
 use borrow.Author.Tests.{eq-eqb, ne-eqb, lt-ltb, le-ltb, ltb-true, ltb-false}
 use lib.Dec.{ltb}
 use lib.ListN.{length, getD, replicate}
-use Rattle.model.specs.Basic.{all, isEmpty}
+use Rattle.model.specs.Basic.{all, isEmpty, tab}
 use Rattle.model.specs.Block as block
 use Rattle.model.specs.Block.{Block, termsOf, singletonsOf, emptyBlock}
 use Rattle.model.specs.Bounds.{inputLimit, outputLimit, pointLimit, variableLimit, inputTermLimit, outputTermLimit, symbolLimit}
-use Rattle.model.specs.Image.{tab}
 use Rattle.model.specs.Keywords.{END, END-FUNCTION-BLOCK, END-RULEBLOCK}
 use Rattle.model.specs.Parse.{Parse, Checks, is, refuse, advance, judged, expect}
 use Rattle.model.specs.Tokens.{tokens}

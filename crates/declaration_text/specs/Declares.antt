@@ -5,13 +5,12 @@ use mathlib.Core.Bool.{Bool, _||_, not}
 use mathlib.Core.List.{List, [], _∷_}
 use Prim.Native.Nat.{ℕ}
 use lib.ListN.{length}
-use Rattle.model.specs.Basic.{indexOf}
+use Rattle.model.specs.Basic.{indexOf, tab}
 use Rattle.model.specs.Bounds.{inputLimit}
 use Rattle.model.specs.Block.{Block}
 use Rattle.model.specs.Tokens.{sameName}
 use Rattle.model.specs.Parse.{Parse, Checks, text, aName}
 use Rattle.model.specs.Declarations.{inputOf, outputOf, isInput, isOutput}
-use Rattle.model.specs.Image.{tab}
 use Rattle.lookup.specs.Names.{nameOf}
 use Rattle.block_tables.specs.declared.Tables.{Tables}
 use Rattle.parse_state.specs.declared.ParseState.{ParseState}

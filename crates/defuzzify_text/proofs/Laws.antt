@@ -10,9 +10,8 @@ use lib.Dec.{ltb, eqb}
 use lib.IntN.{ℤ}
 use lib.ListN.{length}
 use lib.Signed.{ltZ}
-use Rattle.model.specs.Basic.{if_then_else_, isEmpty, indexOf}
+use Rattle.model.specs.Basic.{if_then_else_, isEmpty, indexOf, tab}
 use Rattle.model.specs.Bounds.{inputLimit, termLimit, variableLimit, inputTermLimit}
-use Rattle.model.specs.Image.{tab}
 use Rattle.model.specs.Block.{Block, Output, inRange, singletonsOf, rangeOf, withRange, withSingleton, withDefault}
 use Rattle.model.specs.Keywords.{NUMBER, ASSIGN, DOTS, OPEN, CLOSE, SEMICOLON, TERM}
 use Rattle.model.specs.Tokens.{valueOf, sameName}

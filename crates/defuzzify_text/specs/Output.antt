@@ -6,14 +6,13 @@ use mathlib.Core.List.{List, [], _∷_}
 use mathlib.Core.Option.{Option}
 use Prim.Native.Nat.{ℕ, _+_, _*_}
 use lib.ListN.{length, getD}
-use Rattle.model.specs.Basic.{_▸_, indexOf}
+use Rattle.model.specs.Basic.{_▸_, indexOf, tab}
 use Rattle.model.specs.Bounds.{inputLimit, termLimit, variableLimit}
 use Rattle.model.specs.Block.{Block, Range, inRange, singletonsOf}
 use Rattle.model.specs.Keywords.{ASSIGN, COLON, SEMICOLON, CoGS, DEFAULT, END-DEFUZZIFY, METHOD, TERM}
 use Rattle.model.specs.Tokens.{sameName}
 use Rattle.model.specs.Parse.{Parse, Part, Checks, text, expect, repeated, aName, aCrisp, valueHere}
 use Rattle.model.specs.Declarations.{singletonOf, isSingleton, rangePart, outputTerm, defaultValue}
-use Rattle.model.specs.Image.{tab}
 use Rattle.lookup.specs.Names.{nameOf}
 use Rattle.block_tables.specs.declared.Output.{Output as Row}
 use Rattle.block_tables.specs.declared.Tables.{Tables}

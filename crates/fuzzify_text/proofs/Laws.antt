@@ -9,11 +9,10 @@ use lib.Dec.{ltb}
 use lib.IntN.{ℤ}
 use lib.ListN.{length, getD, set, length-set}
 use lib.Seq.{slice, getD-set-same, getD-set-other}
-use Rattle.model.specs.Basic.{if_then_else_, isEmpty, indexOf, update, updateLast}
+use Rattle.model.specs.Basic.{if_then_else_, isEmpty, indexOf, update, updateLast, tab}
 use Rattle.model.specs.Block as block
 use Rattle.model.specs.Block.{Block, termsOf, mayFollow, withInputs, withTerms, withPoint}
 use Rattle.model.specs.Bounds.{termLimit, pointLeast, pointLimit, variableLimit}
-use Rattle.model.specs.Image.{tab}
 use Rattle.model.specs.Keywords.{ASSIGN, CLOSE, COMMA, END-FUZZIFY, TERM, NUMBER}
 use Rattle.model.specs.Tokens.{valueOf, unitOf, sameName}
 use Rattle.model.specs.Parse.{Parse, Part, kind, text, refuse, advance, change, judged, expect, repeatOn, repeated, listed, aName, aCrisp, aUnit, valueHere}

@@ -10,11 +10,10 @@ use lib.IntN.{ℤ}
 use lib.ListN.{length, replicate}
 use lib.Seq.{slice}
 use lib.Signed.{ltZ, leZ}
-use Rattle.model.specs.Basic.{if_then_else_, indexOf, update}
+use Rattle.model.specs.Basic.{if_then_else_, indexOf, update, tab}
 use Rattle.model.specs.Block as block
 use Rattle.model.specs.Block.{Block, termsOf, mayFollow, withInputs, withTerms}
 use Rattle.model.specs.Bounds.{termLimit, pointLeast, pointLimit, variableLimit}
-use Rattle.model.specs.Image.{tab}
 use Rattle.model.specs.Keywords.{ASSIGN, SEMICOLON}
 use Rattle.model.specs.Parse.{Parse, Part, is, advance, judged, expect, listed, aCrisp, valueHere}
 use Rattle.model.specs.Tokens.{sameName}

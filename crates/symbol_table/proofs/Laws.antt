@@ -8,11 +8,10 @@ use borrow.Author.Tests.{lt-ltb, le-ltb}
 use lib.Dec.{ltb}
 use lib.ListN.{length, take, getD, set, length-set, List·getD-append}
 use lib.Seq.{getD-set-same, getD-set-other}
-use Rattle.model.specs.Basic.{if_then_else_, total, gather}
+use Rattle.model.specs.Basic.{if_then_else_, total, gather, tab}
 use Rattle.model.specs.Block as block
 use Rattle.model.specs.Block.{Block, inputFirst, outputFirst}
 use Rattle.model.specs.Bounds.{inputLimit, outputLimit, termLimit, variableLimit, inputTermLimit}
-use Rattle.model.specs.Image.{tab}
 use Rattle.laws.proofs.Places.{take-tab, length-tab, tab-last, tab-ext, tab-nth}
 use Rattle.laws.proofs.Lists.{length-gather}
 use Rattle.block_tables.specs.declared.Tables.{Tables}

@@ -10,9 +10,8 @@ use lib.Dec.{eqb}
 use lib.Arith.{lt-of-le-ne}
 use lib.ListN.{length, getD, set}
 use lib.Seq.{getD-set-same, getD-set-other}
-use Rattle.model.specs.Basic.{total}
+use Rattle.model.specs.Basic.{total, tab}
 use Rattle.model.specs.Bounds.{variableLimit}
-use Rattle.model.specs.Image.{tab}
 use Rattle.laws.proofs.Lists.{total-append}
 use Rattle.laws.proofs.Places.{tab-last}
 use Rattle.symbol_table.specs.Firsts.{sums, Firsts}

@@ -5,9 +5,8 @@ use mathlib.Core.List.{List, [], _∷_, _++_}
 use Prim.Native.Nat.{ℕ, zero, suc, _+_, _-_, _≤_}
 use lib.Dec.{ltb}
 use lib.ListN.{getD}
-use Rattle.model.specs.Basic.{if_then_else_}
+use Rattle.model.specs.Basic.{if_then_else_, tab}
 use Rattle.model.specs.Bounds.{inputLimit, variableLimit}
-use Rattle.model.specs.Image.{tab}
 use Rattle.block_tables.specs.declared.Tables.{Tables}
 use Rattle.block_tables.specs.View.{inputRow, outputRow}
 

@@ -9,8 +9,8 @@ use lib.ListN.{length, getD, set, length-set, replicate}
 use lib.Seq.{take-suc-set, getD-set-same, getD-set-other}
 use borrow.Author.Tests.{eqb-true, eqb-false}
 use mathlib.Core.Bool.{Bool, true, false}
+use Rattle.model.specs.Basic.{tab}
 use Rattle.model.specs.Bounds.{termLimit, inputTermLimit}
-use Rattle.model.specs.Image.{tab}
 use Rattle.laws.proofs.Places.{step, gone, tab-last}
 use Rattle.laws.proofs.Arrays.{replicate-at}
 use Rattle.layout.specs.Tables.{sums}

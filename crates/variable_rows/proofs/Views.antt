@@ -7,11 +7,11 @@ use Prim.Native.Nat.{ℕ, zero, suc, _+_, _*_, _-_, _≤_, _<_}
 use native.Mathlib.Omega.{arith}
 use lib.ListN.{length, getD, take, drop, length-append, length-map}
 use lib.Seq.{slice, drop-cons, length-take-le}
-use Rattle.model.specs.Basic.{if_then_else_, gather}
+use Rattle.model.specs.Basic.{if_then_else_, gather, tab}
 use Rattle.model.specs.Bounds.{M, inputLimit, termLimit, variableLimit, inputTermLimit, outputTermLimit}
 use Rattle.model.specs.Block as block
 use Rattle.model.specs.declared.InputType.the-variants.{Real as real, Int as int}
-use Rattle.model.specs.Image.{tab, crispWord, singletonTerm, typeWord, rangeWords, defaultWords, nameWords, inputTable, termTable, pointWords}
+use Rattle.model.specs.Image.{crispWord, singletonTerm, typeWord, rangeWords, defaultWords, nameWords, inputTable, termTable, pointWords}
 use Rattle.laws.proofs.Lists.{map-tab, gather-append}
 use Rattle.laws.proofs.Places.{length-tab, tab-ext}
 use Rattle.layout.specs.Rows.{laid, after}

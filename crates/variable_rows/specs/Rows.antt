@@ -7,9 +7,9 @@ use Prim.Native.Nat.{ℕ, zero, suc, _+_, _*_, _≤_, _<_}
 use lib.IntN.{ℤ}
 use lib.ListN.{length, getD, take}
 use lib.Seq.{slice}
-use Rattle.model.specs.Basic.{if_then_else_}
+use Rattle.model.specs.Basic.{if_then_else_, tab}
 use Rattle.model.specs.Bounds.{M, inputLimit, outputLimit, termLimit, inputTermLimit, outputTermLimit}
-use Rattle.model.specs.Image.{crispWord, nameWords, inputWidth, outputWidth, termWidth, pointWidth, tab}
+use Rattle.model.specs.Image.{crispWord, nameWords, inputWidth, outputWidth, termWidth, pointWidth}
 use Rattle.block_tables.specs.declared.Input.{Input}
 use Rattle.block_tables.specs.declared.Output.{Output}
 use Rattle.block_tables.specs.declared.Point.{Point}

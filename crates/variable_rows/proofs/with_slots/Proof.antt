@@ -4,8 +4,8 @@ use mathlib.Core.List.{_++_, append-nil}
 use Prim.Native.Nat.{ℕ, _+_, _*_, _-_, _≤_, _<_}
 use native.Mathlib.Omega.{arith}
 use lib.ListN.{length, length-set}
+use Rattle.model.specs.Basic.{tab}
 use Rattle.model.specs.Bounds.{termLimit, inputTermLimit}
-use Rattle.model.specs.Image.{tab}
 use Rattle.variable_rows.specs.Rows.{Listed, listOf}
 use Rattle.variable_rows.proofs.Lists.{slot-more, listed-more}
 use Rattle.variable_rows.proofs.with_slots.Statement.{statement}
