@@ -1,15 +1,15 @@
--- A helper: the block that the tables stand for, a `Block` of the model. The contracts of block_updates tie it to the
--- model's rules, that of `image::store` to its `image`.
+-- A helper: the block that the tables stand for, a `Block` of the model. `Reads` of parse_state ties it to the model's
+-- rules, the contract of `image::store` to its `image`.
 use mathlib.Core.Path.{_≡_}
 use mathlib.Core.Bool.{false}
 use mathlib.Core.List.{List, []}
 use mathlib.Core.Option.{Option, none, some}
-use Prim.Native.Nat.{ℕ, _+_, _*_, _≤_}
+use Prim.Native.Nat.{ℕ, _+_, _*_, _≤_, _<_}
 use lib.IntN.{ℤ, pos}
 use lib.ListN.{length, getD}
 use lib.Seq.{slice}
 use Rattle.model.specs.Basic.{if_then_else_, tab}
-use Rattle.model.specs.Bounds.{inputLimit, outputLimit, termLimit, pointLimit, variableLimit, inputTermLimit, outputTermLimit, symbolLimit, inputPointLimit}
+use Rattle.model.specs.Bounds.{inputLimit, outputLimit, termLimit, pointLimit, variableLimit, inputTermLimit, outputTermLimit, symbolLimit}
 use Rattle.model.specs.Block as block
 use Rattle.model.specs.Block.{Block, Range, Rule}
 use Rattle.model.specs.declared.InputType.the-variants.{Real as real, Int as int}
@@ -18,10 +18,12 @@ use Rattle.model.specs.declared.Activation.the-variants.{Min as by-min}
 use Rattle.model.specs.declared.Accumulation.the-variants.{Max as by-max}
 use Rattle.model.specs.Image.{pairOf, accuOf, actOf}
 use Rattle.model.specs.declared.Crisp.{Crisp}
-use Rattle.lookup.specs.Names.{nameOf, Placed}
+use Rattle.lookup.specs.Names.{Placed}
 use Rattle.block_tables.specs.declared.Input.{Input}
 use Rattle.block_tables.specs.declared.Output.{Output}
 use Rattle.block_tables.specs.declared.Point.{Point}
+use Rattle.block_tables.specs.declared.Term.{Term}
+use Rattle.block_tables.specs.declared.Singleton.{Singleton}
 use Rattle.block_tables.specs.declared.Tables.{Tables}
 use Rattle.block_tables.specs.declared.Heading.{Heading}
 
@@ -30,21 +32,28 @@ abbrev pub zero-crisp : Crisp
 zero-crisp = record { 0 = pos 0 }
 
 abbrev pub no-input : Input
-no-input = record { int = false; terms = 0 }
+no-input = record { start = 0; end = 0; int = false; terms = 0 }
 
 abbrev pub no-output : Output
 no-output = record {
+  start = 0;
+  end = 0;
   terms = 0;
   ranged = false;
   least = zero-crisp;
   most = zero-crisp;
-  numbered =
-      false;
+  numbered = false;
   default = zero-crisp;
 }
 
 abbrev pub no-point : Point
 no-point = record { at = zero-crisp; degree = record { 0 = 0 } }
+
+abbrev pub no-term : Term
+no-term = record { start = 0; end = 0; count = 0; points = [] }
+
+abbrev pub no-singleton : Singleton
+no-singleton = record { start = 0; end = 0; at = zero-crisp }
 
 abbrev pub inputRow : Tables → ℕ → Input
 inputRow t i = getD (t .inputs) i no-input
@@ -52,29 +61,36 @@ inputRow t i = getD (t .inputs) i no-input
 abbrev pub outputRow : Tables → ℕ → Output
 outputRow t o = getD (t .outputs) o no-output
 
--- the point at place k, and the term j of input i
-unfoldable pub pointView : Tables → ℕ → block.Point
-pointView t k = record { at = getD (t .points) k no-point .at .0; degree = getD (t .points) k no-point .degree .0 }
+abbrev pub termRow : Tables → ℕ → Term
+termRow t k = getD (t .«input_terms») k no-term
 
+abbrev pub singletonRow : Tables → ℕ → Singleton
+singletonRow t k = getD (t .«output_terms») k no-singleton
+
+-- the k-th of some points
+unfoldable pub pointAt : List Point → ℕ → block.Point
+pointAt ps k = record { at = getD ps k no-point .at .0; degree = getD ps k no-point .degree .0 }
+
+abbrev pub aTerm : List ℕ → Term → block.Term
+aTerm s v = record { name = slice (v .start) (v .end) s; points = tab (pointAt (v .points)) (v .count) 0 }
+
+-- the term j of input i
 unfoldable pub termView : List ℕ → Tables → ℕ → ℕ → block.Term
-termView s t i j = record {
-  name = nameOf s (t .names) (variableLimit + i * termLimit + j);
-  points = tab (pointView t) (getD (t .counts) (i * termLimit + j) 0) ((i * termLimit + j) * pointLimit);
-}
+termView s t i j = aTerm s (termRow t (i * termLimit + j))
 
 unfoldable pub inputView : List ℕ → Tables → ℕ → block.Input
 inputView s t i = record {
-  name = nameOf s (t .names) i;
+  name = slice (inputRow t i .start) (inputRow t i .end) s;
   type = if inputRow t i .int then int else real;
   terms = tab (termView s t i) (inputRow t i .terms) 0;
 }
 
--- the singleton j of output o
+abbrev pub aSingleton : List ℕ → Singleton → block.Singleton
+aSingleton s v = record { name = slice (v .start) (v .end) s; at = v .at .0 }
+
+-- the term j of output o
 unfoldable pub singletonView : List ℕ → Tables → ℕ → ℕ → block.Singleton
-singletonView s t o j = record {
-  name = nameOf s (t .names) (variableLimit + (inputLimit + o) * termLimit + j);
-  at = getD (t .singletons) (o * termLimit + j) zero-crisp .0;
-}
+singletonView s t o j = aSingleton s (singletonRow t (o * termLimit + j))
 
 abbrev pub rangeView : Output → Option Range
 rangeView v = if v .ranged then some (record { least = v .least .0; most = v .most .0 }) else none
@@ -84,7 +100,7 @@ defaultView v = if v .numbered then some (v .default .0) else none
 
 unfoldable pub outputView : List ℕ → Tables → ℕ → block.Output
 outputView s t o = record {
-  name = nameOf s (t .names) (inputLimit + o);
+  name = slice (outputRow t o .start) (outputRow t o .end) s;
   terms = tab (singletonView s t o) (outputRow t o .terms) 0;
   range = rangeView (outputRow t o);
   default = defaultView (outputRow t o);
@@ -125,22 +141,35 @@ wholeView s t h rs = record {
   rules = rs;
 }
 
--- the tables have their sizes, and what they count is within the bounds
+-- the name k starts at a and ends at e
+abbrev pub Stands : List ℕ → ℕ → ℕ → ℕ → Type 0
+Stands names k a e = (getD names k 0 ≡ a) × (getD names (symbolLimit + k) 0 ≡ e)
+
+-- the names stand where the rows of the tables have them
+pub record Indexed (names : List ℕ) (t : Tables) : Type 0 where
+  pub input : (i : ℕ) → i < inputLimit → Stands names i (inputRow t i .start) (inputRow t i .end)
+  pub output : (o : ℕ) → o < outputLimit → Stands names (inputLimit + o) (outputRow t o .start) (outputRow t o .end)
+  pub term : (k : ℕ) → k < inputTermLimit → Stands names (variableLimit + k) (termRow t k .start) (termRow t k .end)
+  pub singleton : (k : ℕ) → k < outputTermLimit
+      → Stands names (variableLimit + inputTermLimit + k) (singletonRow t k .start) (singletonRow t k .end)
+
+-- the tables have their sizes, what they count is within the bounds, and their names are in the text
 pub record Holds (s : List ℕ) (t : Tables) : Type 0 where
   pub order : t .start ≤ t .end
   pub inside : t .end ≤ length s
   pub placed : Placed s (t .names)
+  pub indexed : Indexed (t .names) t
   pub inputCount : t .«input_count» ≤ inputLimit
   pub outputCount : t .«output_count» ≤ outputLimit
   pub inputTerms : (i : ℕ) → inputRow t i .terms ≤ termLimit
   pub outputTerms : (o : ℕ) → outputRow t o .terms ≤ termLimit
-  pub pointCounts : (k : ℕ) → getD (t .counts) k 0 ≤ pointLimit
+  pub pointCounts : (k : ℕ) → termRow t k .count ≤ pointLimit
   pub names-size : length (t .names) ≡ symbolLimit * 2
   pub inputs-size : length (t .inputs) ≡ inputLimit
   pub outputs-size : length (t .outputs) ≡ outputLimit
-  pub counts-size : length (t .counts) ≡ inputTermLimit
-  pub points-size : length (t .points) ≡ inputPointLimit
-  pub singletons-size : length (t .singletons) ≡ outputTermLimit
+  pub terms-size : length (t .«input_terms») ≡ inputTermLimit
+  pub points-size : (k : ℕ) → k < inputTermLimit → length (termRow t k .points) ≡ pointLimit
+  pub singletons-size : length (t .«output_terms») ≡ outputTermLimit
 
 -- a name in the text, and words of algorithms
 pub record Headed (s : List ℕ) (h : Heading) : Type 0 where

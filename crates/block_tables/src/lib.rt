@@ -1,16 +1,25 @@
-// The fixed tables that a text is read into, by value, and the arrays for its rules. Names are places in the text
-// (lookup); term j of a variable stands in place TERMS * v + j among those of its kind.
+// The fixed tables that a text is read into, by value, and the arrays for its rules. Where a name stands in the text is
+// kept with what it names; term j of a variable stands in place TERMS * v + j among those of its kind.
+ghost use mathlib.Core.Path.{_≡_};
+ghost use Prim.Native.Nat.{_≤_};
+ghost use lib.ListN.{length};
+ghost use Rattle.model.specs.Bounds.{inputLimit};
+ghost use Rattle.block_tables.specs.Changes.{named, Typed};
 use lookup::Names;
 use model::Crisp;
 use model::Degree;
 
 pub struct Input {
+    pub start: usize,
+    pub end: usize,
     pub int: bool,
     pub terms: usize,
 }
 
 // ranged, numbered: whether RANGE and a DEFAULT number are given; 0 in what they leave unused.
 pub struct Output {
+    pub start: usize,
+    pub end: usize,
     pub terms: usize,
     pub ranged: bool,
     pub least: Crisp,
@@ -24,21 +33,32 @@ pub struct Point {
     pub degree: Degree,
 }
 
-// How many points each input term has.
-pub type PointCounts = [usize; bounds::INPUT_TERMS];
+// A term of an input: the first `count` of the points are its own.
+pub struct Term {
+    pub start: usize,
+    pub end: usize,
+    pub count: usize,
+    pub points: [Point; bounds::POINTS],
+}
 
-// start, end: the block's name. points: POINTS places for each input term.
+// A term of an output.
+pub struct Singleton {
+    pub start: usize,
+    pub end: usize,
+    pub at: Crisp,
+}
+
+// start, end: the block's name. names: where the names stand, once more, in plain numbers, which can be lent to a lookup.
 pub struct Tables {
     pub start: usize,
     pub end: usize,
     pub input_count: usize,
     pub output_count: usize,
-    pub names: Names,
     pub inputs: [Input; bounds::INPUTS],
     pub outputs: [Output; bounds::OUTPUTS],
-    pub counts: PointCounts,
-    pub points: [Point; bounds::INPUT_POINTS],
-    pub singletons: [Crisp; bounds::OUTPUT_TERMS],
+    pub input_terms: [Term; bounds::INPUT_TERMS],
+    pub output_terms: [Singleton; bounds::OUTPUT_TERMS],
+    pub names: Names,
 }
 
 // What a rule block begins with: the place of its name, and the words of its algorithms.
@@ -51,9 +71,9 @@ pub struct Heading {
 }
 
 // A rule as it is kept: its number, how many condition words and conclusions it has, and its weight.
-pub const RULE_WIDTH: usize = 4;
+pub const KEPT_RULE_WIDTH: usize = 4;
 
-pub type Rules = [u32; bounds::RULES * RULE_WIDTH];
+pub type Rules = [u32; bounds::RULES * KEPT_RULE_WIDTH];
 
 pub type Words = [u32; bounds::WORDS];
 
@@ -67,4 +87,30 @@ pub struct Totals {
     pub rules: usize,
     pub words: usize,
     pub conclusions: usize,
+}
+
+// The block's name in the tables.
+pub fn set_name(t: Tables, start: usize, end: usize) -> Tables
+    ensures { λ r. ⌜ r ≡ named t start end ⌝ }
+{
+    let mut r = t;
+    r.start = start;
+    r.end = end;
+    r
+}
+
+// These rows, INT from one on up to another.
+pub fn typed(rows: [Input; bounds::INPUTS], from: usize, to: usize) -> [Input; bounds::INPUTS]
+    requires { ⌜ (to ≤ inputLimit) × (length rows ≡ inputLimit) ⌝ }
+    ensures { λ r. ⌜ Typed rows from to r ⌝ }
+{
+    let mut r = rows;
+    let mut i = from;
+    while i < to {
+        let mut v = r[i];
+        v.int = true;
+        r[i] = v;
+        i += 1;
+    }
+    r
 }

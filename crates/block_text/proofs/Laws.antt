@@ -2,15 +2,15 @@
 use mathlib.Core.Path.{_≡_, refl, sym, ap, _∙_}
 use mathlib.Core.Bool.{Bool, true, false, _&&_, not}
 use mathlib.Core.List.{List, [], _∷_, map}
-use Prim.Native.Nat.{ℕ, suc, _+_, _-_, _<_}
+use Prim.Native.Nat.{ℕ, zero, suc, _+_, _-_, _*_, _≤_, _<_}
 use native.Mathlib.Omega.{arith}
 use borrow.Author.Tests.{eq-eqb, ne-eqb, lt-ltb, le-ltb, ltb-true, ltb-false}
 use lib.Dec.{eqb, ltb}
 use lib.ListN.{length, getD, replicate}
 use Rattle.model.specs.Basic.{all, isEmpty, tab}
-use Rattle.model.specs.Bounds.{inputLimit}
 use Rattle.model.specs.Block as block
 use Rattle.model.specs.Block.{Block, termsOf, singletonsOf, emptyBlock}
+use Rattle.model.specs.Bounds.{inputLimit, outputLimit, pointLimit, variableLimit, inputTermLimit, outputTermLimit, symbolLimit}
 use Rattle.model.specs.Keywords.{END, END-FUNCTION-BLOCK, END-RULEBLOCK}
 use Rattle.model.specs.Parse.{Parse, Part, is, refuse, advance, judged, expect}
 use Rattle.model.specs.Tokens.{tokens}
@@ -18,7 +18,8 @@ use Rattle.model.specs.Reader.{start, partsThere, endOfBlock}
 use Rattle.laws.proofs.Places.{all-start}
 use Rattle.laws.proofs.Arrays.{replicate-at}
 use Rattle.block_tables.specs.declared.Tables.{Tables}
-use Rattle.block_tables.specs.View.{zero-crisp, no-input, no-output, no-point, blockView, Holds}
+use Rattle.block_tables.specs.declared.Term.{Term}
+use Rattle.block_tables.specs.View.{no-input, no-output, no-point, no-term, no-singleton, blockView, Stands, Indexed, Holds}
 use Rattle.cursor.specs.declared.Cursor.{Cursor}
 use Rattle.cursor.specs.View.{seen, Fits, Step}
 use Rattle.cursor.proofs.Laws.{kind-seen, block-seen, steps, lost-kind}
@@ -27,43 +28,73 @@ use Rattle.symbol_table.specs.Symbols.{Describes, first, inputCount, outputCoun
 use Rattle.block_text.specs.Block.{backText, blockEnd, textEnd, backTo, haveTerms, allHaveTerms, Ends}
 
 -- THE EMPTY TABLES
+abbrev blank-term : Term
+blank-term = record { start = 0; end = 0; count = 0; points = replicate pointLimit no-point }
+
 abbrev pub empty : Tables
 empty = record {
   start = 0;
   end = 0;
   «input_count» = 0;
   «output_count» = 0;
-  names = replicate 224 0;
-  inputs = replicate 8 no-input;
-  outputs = replicate 6 no-output;
-  counts = replicate 56 0;
-  points = replicate 224 no-point;
-  singletons = replicate 42 zero-crisp;
+  inputs = replicate inputLimit no-input;
+  outputs = replicate outputLimit no-output;
+  «input_terms» = replicate inputTermLimit blank-term;
+  «output_terms» = replicate outputTermLimit no-singleton;
+  names = replicate (symbolLimit * 2) 0;
 }
 
 pub empty-view : (s : List ℕ) → blockView s empty ≡ emptyBlock
 unfolding blockView tab
 empty-view s = refl
 
+-- what holds of an array's one value, and past its end
+alike : {A : Type 0} (P : A → Type 0) (n k : ℕ) (a d : A) → P a → P d → P (getD (replicate n a) k d)
+alike P zero k a d p q = q
+alike P (suc n) zero a d p q = p
+alike P (suc n) (suc k) a d p q = alike P n k a d p q
+
+alike-within : {A : Type 0} (P : A → Type 0) (n k : ℕ) (a d : A) → k < n → P a → P (getD (replicate n a) k d)
+alike-within P zero k a d h p = absurd (omega arith)
+alike-within P (suc n) zero a d h p = p
+alike-within P (suc n) (suc k) a d h p = alike-within P n k a d (omega arith) p
+
+no-place : (k : ℕ) → getD (empty .names) k 0 ≡ 0
+no-place k = replicate-at {A = ℕ} (symbolLimit * 2) k 0
+
+-- rows of one value stand at 0
+module _ {A : Type 0} (start end : A → ℕ) (n : ℕ) (a d : A) (s₁ : start a ≡ 0) (s₂ : start d ≡ 0) (e₁ : end a ≡ 0) (e₂ : end d ≡ 0) where
+  stand : (p k : ℕ) → Stands (empty .names) p (start (getD (replicate n a) k d)) (end (getD (replicate n a) k d))
+  stand p k = (
+    no-place p ∙ sym (alike (λ (v : A). start v ≡ 0) n k a d s₁ s₂),
+    no-place (symbolLimit + p) ∙ sym (alike (λ (v : A). end v ≡ 0) n k a d e₁ e₂),
+  )
+
+empty-indexed : Indexed (empty .names) empty
+empty-indexed = record {
+  input = λ i h. stand (λ v. v .start) (λ v. v .end) inputLimit no-input no-input refl refl refl refl i i;
+  output = λ o h. stand (λ v. v .start) (λ v. v .end) outputLimit no-output no-output refl refl refl refl (inputLimit + o) o;
+  term = λ k h. stand (λ v. v .start) (λ v. v .end) inputTermLimit blank-term no-term refl refl refl refl (variableLimit + k) k;
+  singleton = λ k h. stand (λ v. v .start) (λ v. v .end) outputTermLimit no-singleton no-singleton refl refl refl refl
+      (variableLimit + inputTermLimit + k) k;
+}
+
 pub empty-holds : (s : List ℕ) → Holds s empty
 empty-holds s = record {
   order = omega arith;
   inside = omega arith;
-  placed = record {
-    order = λ k h. rw (replicate-at {A = ℕ} 224 k 0, replicate-at {A = ℕ} 224 (112 + k) 0) (omega arith);
-    inside =
-        λ k. rw (replicate-at {A = ℕ} 224 k 0) (omega arith);
-  };
+  placed = record { order = λ k h. rw (no-place k, no-place (symbolLimit + k)) (omega arith); inside = λ k. rw (no-place k) (omega arith) };
+  indexed = empty-indexed;
   inputCount = omega arith;
   outputCount = omega arith;
-  inputTerms = λ i. rw (replicate-at 8 i no-input) (omega arith);
-  outputTerms = λ o. rw (replicate-at 6 o no-output) (omega arith);
-  pointCounts = λ k. rw (replicate-at {A = ℕ} 56 k 0) (omega arith);
+  inputTerms = λ i. rw (replicate-at inputLimit i no-input) (omega arith);
+  outputTerms = λ o. rw (replicate-at outputLimit o no-output) (omega arith);
+  pointCounts = λ k. alike (λ (v : Term). v .count ≤ pointLimit) inputTermLimit k blank-term no-term (omega arith) (omega arith);
   names-size = refl;
   inputs-size = refl;
   outputs-size = refl;
-  counts-size = refl;
-  points-size = refl;
+  terms-size = refl;
+  points-size = λ k h. alike-within (λ (v : Term). length (v .points) ≡ pointLimit) inputTermLimit k blank-term no-term h refl;
   singletons-size = refl;
 }
 

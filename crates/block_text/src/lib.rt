@@ -13,7 +13,9 @@ ghost use Rattle.block_text.specs.Block.{variablesText, frontText, backT
 use block_tables::Input;
 use block_tables::Output;
 use block_tables::Point;
+use block_tables::Singleton;
 use block_tables::Tables;
+use block_tables::Term;
 use cursor::Cursor;
 use model::Crisp;
 use model::Degree;
@@ -26,10 +28,14 @@ fn empty_tables() -> Tables
 {
     let z = Crisp(0);
     let i = Input {
+        start: 0,
+        end: 0,
         int: false,
         terms: 0,
     };
     let o = Output {
+        start: 0,
+        end: 0,
         terms: 0,
         ranged: false,
         least: z,
@@ -41,17 +47,27 @@ fn empty_tables() -> Tables
         at: z,
         degree: Degree(0),
     };
+    let v = Term {
+        start: 0,
+        end: 0,
+        count: 0,
+        points: [p; bounds::POINTS],
+    };
+    let w = Singleton {
+        start: 0,
+        end: 0,
+        at: z,
+    };
     Tables {
         start: 0,
         end: 0,
         input_count: 0,
         output_count: 0,
-        names: [0; lookup::ENDS + bounds::NAMES],
         inputs: [i; bounds::INPUTS],
         outputs: [o; bounds::OUTPUTS],
-        counts: [0; bounds::INPUT_TERMS],
-        points: [p; bounds::INPUT_POINTS],
-        singletons: [z; bounds::OUTPUT_TERMS],
+        input_terms: [v; bounds::INPUT_TERMS],
+        output_terms: [w; bounds::OUTPUT_TERMS],
+        names: [0; lookup::ENDS + bounds::NAMES],
     }
 }
 

@@ -17,8 +17,8 @@ use Rattle.cursor.specs.View.{seen, textOf, Fits, Step, fault}
 use Rattle.cursor.proofs.Laws.{text-seen, block-seen, fault-bad, fault-good, numbered}
 use Rattle.block_tables.specs.declared.Tables.{Tables}
 use Rattle.block_tables.specs.View.{blockView, Holds}
-use Rattle.block_updates.specs.Changes.{Changes}
-use Rattle.block_updates.proofs.Lookups as lookups
+use Rattle.block_tables.specs.Changes.{Changes}
+use Rattle.block_tables.proofs.Lookups as lookups
 use Rattle.parse_state.specs.declared.ParseState.{ParseState}
 use Rattle.parse_state.specs.Reads.{view, Reads}
 use Rattle.parse_state.proofs.Laws as reading
@@ -57,13 +57,13 @@ module _ (s : List ℕ) (c : Cursor) (names : List ℕ) (m n : ℕ) (b : Block) 
         unfolding tail fault
         a-new l = named-so ∙ simp (input-is i q, le-ltb i m h, output-is o u, le-ltb o n l) refl
 
-pub declares : (s : List ℕ) (t : Tables) → Declares s (t .names) (t .«input_count») (t .«output_count») (blockView s t)
+pub declares : (s : List ℕ) (t : Tables) → Holds s t → Declares s (t .names) (t .«input_count») (t .«output_count») (blockView s t)
 unfolding blockView
-declares s t = record {
+declares s t g = record {
   inputs = lookups.inputs-count s t (blockView s t) refl;
   outputs = lookups.outputs-count s t (blockView s t) refl;
-  input = lookups.input-of s t (blockView s t) refl;
-  output = lookups.output-of s t (blockView s t) refl;
+  input = lookups.input-of s t (blockView s t) refl g;
+  output = lookups.output-of s t (blockView s t) refl g;
 }
 
 -- A NEW VARIABLE
@@ -115,7 +115,7 @@ module _ (s : List ℕ) (c : Cursor) (t : Tables) (d : Cursor) where
 pub declaration-is : (s : List ℕ) (p : ParseState)
     → expect SEMICOLON (inputType (p .tables .«input_count») (expect COLON (listed (variable addInput inputCount inputLimit) (view s p))))
     ≡ inputDeclaration (view s p)
-unfolding inputDeclaration
+unfolding inputDeclaration blockView
 declaration-is s p =
     ap (λ (n : ℕ). expect SEMICOLON (inputType n (expect COLON (listed (variable addInput inputCount inputLimit) (view s p)))))
-    (sym (ap inputCount (reading.block-view s p) ∙ declares s (p .tables) .inputs))
+    (sym (ap inputCount (reading.block-view s p) ∙ lookups.inputs-count s (p .tables) (blockView s (p .tables)) refl))

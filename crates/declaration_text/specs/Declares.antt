@@ -37,12 +37,11 @@ withInputs m names p t = record {
     end = t .end;
     «input_count» = p .count;
     «output_count» = m;
-    names = names;
     inputs = p .rows;
     outputs = t .outputs;
-    counts = t .counts;
-    points = t .points;
-    singletons = t .singletons;
+    «input_terms» = t .«input_terms»;
+    «output_terms» = t .«output_terms»;
+    names = names;
   };
 }
 
@@ -55,11 +54,10 @@ withOutputs m names p t = record {
     end = t .end;
     «input_count» = m;
     «output_count» = p .count;
-    names = names;
     inputs = t .inputs;
     outputs = p .rows;
-    counts = t .counts;
-    points = t .points;
-    singletons = t .singletons;
+    «input_terms» = t .«input_terms»;
+    «output_terms» = t .«output_terms»;
+    names = names;
   };
 }

@@ -48,7 +48,7 @@ pub fn block_name(s: &[u8], p: ParseState) -> ParseState
         return r;
     }
     let t = p.tables;
-    let u = block_updates::set_name(t, c.start, c.end);
+    let u = block_tables::set_name(t, c.start, c.end);
     let d = cursor::advance(s, c);
     ParseState {
         cursor: d,
@@ -96,6 +96,8 @@ fn input(s: &[u8], names: &mut Names, p: DeclaredInputs, m: usize) -> DeclaredIn
         return r;
     }
     let v = Input {
+        start: c.start,
+        end: c.end,
         int: false,
         terms: 0,
     };
@@ -126,6 +128,8 @@ fn output(s: &[u8], names: &mut Names, p: DeclaredOutputs, m: usize) -> Declared
     }
     let z = Crisp(0);
     let v = Output {
+        start: c.start,
+        end: c.end,
         terms: 0,
         ranged: false,
         least: z,
@@ -184,7 +188,7 @@ fn input_type(s: &[u8], p: DeclaredInputs, n: usize) -> DeclaredInputs
     let mut r = p;
     if c.kind == token_kinds::INT {
         let rows = p.rows;
-        let next = block_updates::typed(rows, n, p.count);
+        let next = block_tables::typed(rows, n, p.count);
         let d = cursor::advance(s, c);
         r.rows = next;
         r.cursor = d;

@@ -11,6 +11,7 @@ use lib.IntN.{ℤ}
 use lib.ListN.{length}
 use lib.Signed.{ltZ}
 use Rattle.model.specs.Basic.{if_then_else_, isEmpty, indexOf, tab}
+use Rattle.model.specs.Bounds.{inputLimit, termLimit, variableLimit, inputTermLimit}
 use Rattle.model.specs.Block.{Block, Output, inRange, singletonsOf, rangeOf, withRange, withSingleton, withDefault}
 use Rattle.model.specs.Keywords.{NUMBER, ASSIGN, DOTS, OPEN, CLOSE, SEMICOLON, TERM}
 use Rattle.model.specs.Tokens.{valueOf, sameName}
@@ -23,8 +24,8 @@ use Rattle.lookup.specs.Names.{nameOf}
 use Rattle.block_tables.specs.declared.Tables.{Tables}
 use Rattle.block_tables.specs.declared.Output.{Output as Row}
 use Rattle.block_tables.specs.View.{outputRow, rangeView, outputsView, blockView, Holds}
-use Rattle.block_updates.specs.Changes.{Changes}
-use Rattle.block_updates.proofs.Lookups as lookups
+use Rattle.block_tables.specs.Changes.{Changes}
+use Rattle.block_tables.proofs.Lookups as lookups
 use Rattle.parse_state.specs.declared.ParseState.{ParseState}
 use Rattle.parse_state.specs.Reads.{view, Good, Reads}
 use Rattle.parse_state.proofs.Laws as reading
@@ -34,10 +35,14 @@ outputs-are : (s : List ℕ) (t : Tables) → blockView s t .outputs ≡ outputs
 unfolding blockView
 outputs-are s t = refl
 
-pub singletons : (s : List ℕ) (t : Tables) (o : ℕ) → o < t .«output_count» → HasSingletons s (t .names) o (outputRow t o .terms) (blockView s t)
-singletons s t o b = record {
-  count = lookups.singletons-count s t (blockView s t) (outputs-are s t) o b;
-  singleton = λ w. lookups.singleton-of s t (blockView s t) (outputs-are s t) w o b;
+singletons-count : (s : List ℕ) (t : Tables) (o : ℕ) → o < t .«output_count» → length (singletonsOf o (blockView s t)) ≡ outputRow t o .terms
+singletons-count s t o b = lookups.singletons-count s t (blockView s t) (outputs-are s t) o b
+
+pub singletons : (s : List ℕ) (t : Tables) (o : ℕ) → Holds s t → o < t .«output_count»
+    → HasSingletons s (t .names) o (outputRow t o .terms) (blockView s t)
+singletons s t o g b = record {
+  count = singletons-count s t o b;
+  singleton = λ w. lookups.singleton-of s t (blockView s t) (outputs-are s t) g w o b;
 }
 
 -- a number, and one check more
@@ -160,9 +165,9 @@ module _ (s names : List ℕ) (c : Cursor) (o n : ℕ) (b : Block) (m : ℕ) (h 
       turned false = refl
 
 pub found-at : (s names w : List ℕ) (o n j : ℕ) (b : Block) → HasSingletons s names o n b
-    → j ≡ indexOf (sameName w) (tab (nameOf s names) n (70 + o * 7)) → j ≡ singletonOf o w b
+    → j ≡ indexOf (sameName w) (tab (nameOf s names) n (variableLimit + inputTermLimit + o * termLimit)) → j ≡ singletonOf o w b
 found-at s names w o n j b h e =
-    let z : 70 + o * 7 ≡ 14 + (8 + o) * 7 = omega arith in
+    let z : variableLimit + inputTermLimit + o * termLimit ≡ variableLimit + (inputLimit + o) * termLimit = omega arith in
     e ∙ ap (λ (k : ℕ). indexOf (sameName w) (tab (nameOf s names) n k)) z ∙ sym (h .singleton w)
 
 module _ (s : List ℕ) (c : Cursor) (t : Tables) (o : ℕ) where
@@ -183,29 +188,29 @@ module _ (s : List ℕ) (c : Cursor) (t : Tables) (o : ℕ) where
       (sym (reading.text-view s (reading.at c t))))
 
   abbrev termGiven : Checks
-  termGiven = (is TERM q, 2) ∷ (ltb (length (singletonsOf o (q .block))) 7, 6) ∷ []
+  termGiven = (is TERM q, 2) ∷ (ltb (length (singletonsOf o (q .block))) termLimit, 6) ∷ []
 
   given-not : (c .kind ≡ 163 → ⊥) → fault termGiven ≡ 2
   unfolding fault
   given-not h = simp (reading.kind-view s (reading.at c t), ne-eqb _ _ h) refl
 
-  given-so : c .kind ≡ 163 → o < t .«output_count» → (x : Bool) → ltb (outputRow t o .terms) 7 ≡ x → fault termGiven ≡ (if x then 0 else 6)
+  given-so : c .kind ≡ 163 → o < t .«output_count» → (x : Bool) → ltb (outputRow t o .terms) termLimit ≡ x → fault termGiven ≡ (if x then 0 else 6)
   unfolding fault
   given-so h b x e =
       simp (reading.kind-view s (reading.at c t), eq-eqb _ _ h)
-      (ap (λ (n : ℕ). if ltb n 7 then 0 else 6) (ap (λ (z : Block). length (singletonsOf o z)) (reading.block-view s (reading.at c t))
-      ∙ singletons s t o b .count) ∙ ap (λ (z : Bool). if z then 0 else 6) e)
+      (ap (λ (n : ℕ). if ltb n termLimit then 0 else 6) (ap (λ (z : Block). length (singletonsOf o z)) (reading.block-view s (reading.at c t))
+      ∙ singletons-count s t o b) ∙ ap (λ (z : Bool). if z then 0 else 6) e)
 
   pub term-not : (d : Cursor) → (c .kind ≡ 163 → ⊥) → Holds s t → Step (refuse 2) s c d → Reads (outputTerm o) s (reading.at c t) (reading.at d t)
   unfolding outputTerm
   term-not d h g p = reading.refuses termGiven _ refl 2 (given-not h) (λ z. omega arith) g p
 
-  pub term-full : (d : Cursor) → c .kind ≡ 163 → o < t .«output_count» → 7 ≤ outputRow t o .terms → Holds s t → Step (refuse 6) s c d
+  pub term-full : (d : Cursor) → c .kind ≡ 163 → o < t .«output_count» → termLimit ≤ outputRow t o .terms → Holds s t → Step (refuse 6) s c d
       → Reads (outputTerm o) s (reading.at c t) (reading.at d t)
   unfolding outputTerm
   term-full d h b l g p = reading.refuses termGiven _ refl 6 (given-so h b false (le-ltb _ _ l)) (λ z. omega arith) g p
 
-  pub term-more : (d : Cursor) (r : ParseState) → c .kind ≡ 163 → o < t .«output_count» → outputRow t o .terms < 7 → Holds s t → Step advance s c d
+  pub term-more : (d : Cursor) (r : ParseState) → c .kind ≡ 163 → o < t .«output_count» → outputRow t o .terms < termLimit → Holds s t → Step advance s c d
       → Reads (singletonBody o) s (reading.at d t) r → Reads (outputTerm o) s (reading.at c t) r
   unfolding outputTerm numbered
   term-more d r h b l g p x = reading.passes termGiven _ refl refl (given-so h b true (lt-ltb _ _ l)) (reading.next (reading.step t g p) x) refl
@@ -274,11 +279,11 @@ module _ (s : List ℕ) (c : Cursor) (t : Tables) where
     given zero h q = tail ∙ simp (empty-at (singletonsOf i (v .block)) (there h ∙ q), many, lt-ltb _ _ h) refl
       where
         there : i < t .«output_count» → length (singletonsOf i (v .block)) ≡ outputRow t i .terms
-        there h = ap (λ (z : Block). length (singletonsOf i z)) (reading.block-view s (reading.at c t)) ∙ singletons s t i h .count
+        there h = ap (λ (z : Block). length (singletonsOf i z)) (reading.block-view s (reading.at c t)) ∙ singletons-count s t i h
     given (suc n) h q = tail ∙ simp (full-at (singletonsOf i (v .block)) n (there h ∙ q), ne-eqb (suc n) 0 (λ z. omega arith)) refl
       where
         there : i < t .«output_count» → length (singletonsOf i (v .block)) ≡ outputRow t i .terms
-        there h = ap (λ (z : Block). length (singletonsOf i z)) (reading.block-view s (reading.at c t)) ∙ singletons s t i h .count
+        there h = ap (λ (z : Block). length (singletonsOf i z)) (reading.block-view s (reading.at c t)) ∙ singletons-count s t i h
 
     pub part-unknown : (d : Cursor) → t .«output_count» ≤ i → Holds s t → Step (refuse 5) s c d → Reads defuzzifyVariable s (reading.at c t) (reading.at d t)
     unfolding defuzzifyVariable defuzzifyOf
@@ -297,6 +302,6 @@ module _ (s : List ℕ) (c : Cursor) (t : Tables) where
         reading.passes (partGiven (outputOf (text v) (v .block))) _ refl refl (given 0 h q) (reading.next (reading.step t g p) x)
         (ap (λ (k : ℕ). partText k (advance v)) (sym (output-is i f)))
 
-pub output-found : (s w : List ℕ) (t : Tables) (j : ℕ) → j ≡ indexOf (sameName w) (tab (nameOf s (t .names)) (t .«output_count») 8)
-    → j ≡ outputOf w (blockView s t)
-output-found s w t j e = e ∙ sym (lookups.output-of s t (blockView s t) (outputs-are s t) w)
+pub output-found : (s w : List ℕ) (t : Tables) (j : ℕ) → Holds s t
+    → j ≡ indexOf (sameName w) (tab (nameOf s (t .names)) (t .«output_count») inputLimit) → j ≡ outputOf w (blockView s t)
+output-found s w t j g e = e ∙ sym (lookups.output-of s t (blockView s t) (outputs-are s t) g w)

@@ -32,12 +32,11 @@ withOutputs names p t = record {
     end = t .end;
     «input_count» = t .«input_count»;
     «output_count» = p .count;
-    names = names;
     inputs = t .inputs;
     outputs = p .rows;
-    counts = t .counts;
-    points = t .points;
-    singletons = p .singletons;
+    «input_terms» = t .«input_terms»;
+    «output_terms» = p .singletons;
+    names = names;
   };
 }
 

@@ -17,6 +17,7 @@ ghost use Rattle.parse_state.specs.Reads.{Good, Reads};
 ghost use Rattle.parse_state.specs.Beside.{Ready, Collects};
 ghost use Rattle.defuzzify_text.specs.Output.{rowOf, withOutputs, HasSingletons, figureChecks, termChecks, methodText, partText};
 use block_tables::Output;
+use block_tables::Singleton;
 use cursor::Cursor;
 use lookup::Names;
 use model::Crisp;
@@ -28,7 +29,7 @@ struct Outputs {
     cursor: Cursor,
     count: usize,
     rows: [Output; bounds::OUTPUTS],
-    singletons: [Crisp; bounds::OUTPUT_TERMS],
+    singletons: [Singleton; bounds::OUTPUT_TERMS],
 }
 
 // The upper end of the RANGE of output o, above its lower end x.
@@ -52,6 +53,8 @@ fn upper_end(s: &[u8], p: Outputs, o: usize, x: Crisp) -> Outputs
         let v = p.rows[o];
         let e = v.default;
         let u = Output {
+            start: v.start,
+            end: v.end,
             terms: v.terms,
             ranged: true,
             least: x,
@@ -174,7 +177,12 @@ fn singleton_at(
     v.terms = j + 1;
     names[lookup::FIRST_OUTPUT_TERM + k] = start;
     names[lookup::ENDS + (lookup::FIRST_OUTPUT_TERM + k)] = end;
-    r.singletons[k] = x;
+    let u = Singleton {
+        start: start,
+        end: end,
+        at: x,
+    };
+    r.singletons[k] = u;
     r.rows[o] = v;
     let d = cursor::advance(s, c);
     r.cursor = d;
@@ -202,6 +210,8 @@ fn default_number(s: &[u8], p: Outputs, o: usize) -> Outputs
     let a = v.least;
     let b = v.most;
     let u = Output {
+        start: v.start,
+        end: v.end,
         terms: v.terms,
         ranged: v.ranged,
         least: a,
@@ -424,7 +434,7 @@ pub fn defuzzify_parts(s: &[u8], p: ParseState) -> ParseState
     let c = p.cursor;
     let mut t = p.tables;
     let rows = t.outputs;
-    let singletons = t.singletons;
+    let singletons = t.output_terms;
     let n = t.output_count;
     let q = parts(
         s,
@@ -438,9 +448,9 @@ pub fn defuzzify_parts(s: &[u8], p: ParseState) -> ParseState
     );
     let d = q.cursor;
     let next = q.rows;
-    let figures = q.singletons;
+    let terms = q.singletons;
     t.outputs = next;
-    t.singletons = figures;
+    t.output_terms = terms;
     ParseState {
         cursor: d,
         tables: t,

@@ -12,6 +12,7 @@ use lib.Seq.{slice, getD-set-same, getD-set-other}
 use Rattle.model.specs.Basic.{if_then_else_, isEmpty, indexOf, update, updateLast, tab}
 use Rattle.model.specs.Block as block
 use Rattle.model.specs.Block.{Block, termsOf, mayFollow, withInputs, withTerms, withPoint}
+use Rattle.model.specs.Bounds.{termLimit, pointLeast, pointLimit, variableLimit}
 use Rattle.model.specs.Keywords.{ASSIGN, CLOSE, COMMA, END-FUZZIFY, TERM, NUMBER}
 use Rattle.model.specs.Tokens.{valueOf, unitOf, sameName}
 use Rattle.model.specs.Parse.{Parse, Part, kind, text, refuse, advance, change, judged, expect, repeatOn, repeated, listed, aName, aCrisp, aUnit, valueHere}
@@ -28,19 +29,20 @@ use Rattle.cursor.proofs.Laws as cursor
 use Rattle.cursor.proofs.Laws.{kind-seen, text-seen, block-seen, judged-bad, judged-good, numbered}
 use Rattle.block_tables.specs.declared.Point.{Point}
 use Rattle.block_tables.specs.declared.Tables.{Tables}
-use Rattle.block_tables.specs.View.{no-point, inputRow, termView, blockView, Holds}
-use Rattle.block_updates.specs.Changes.{Changes}
-use Rattle.block_updates.proofs.Tabs.{tab-more}
-use Rattle.block_updates.proofs.Lookups as lookups
+use Rattle.block_tables.specs.View.{no-point, pointAt, inputRow, termView, blockView, Holds}
+use Rattle.block_tables.specs.Changes.{Changes}
+use Rattle.block_tables.proofs.Tabs.{tab-more}
+use Rattle.block_tables.proofs.Lookups as lookups
 use Rattle.parse_state.specs.declared.ParseState.{ParseState}
 use Rattle.parse_state.specs.Reads.{view, Good, Reads}
+use Rattle.parse_state.specs.Beside.{Ready}
 use Rattle.parse_state.proofs.Laws as reading
 use Rattle.parse_state.proofs.Laws.{at, kind-view, text-view, block-view}
 use Rattle.fuzzify_text.specs.declared.LastTwo.{LastTwo}
 use Rattle.fuzzify_text.specs.declared.PointRead.{PointRead}
 use Rattle.fuzzify_text.specs.declared.Shape.{Shape}
 use Rattle.fuzzify_text.specs.declared.TermName.{TermName}
-use Rattle.fuzzify_text.specs.Terms.{withTerm, mayStand, lastWith, positionAfter, endAfter, Place, blockWith, viewWith, pointOf, pointsWith, Ends, ReadsPoint, pointAt, pointsRead, noPoints, viewAt, Room, Reads as ReadsShape, termFrom, Terms, Names}
+use Rattle.fuzzify_text.specs.Terms.{withTerm, mayStand, lastWith, positionAfter, endAfter, Place, blockWith, viewWith, pointOf, pointsWith, Ends, ReadsPoint, pointsRead, noPoints, viewAt, Room, Reads as ReadsShape, termFrom, Terms, Names}
 
 -- A POSITION, THE END OF THE POINTS
 module _ (s : List ℕ) (c d : Cursor) where
@@ -72,11 +74,11 @@ module _ (s : List ℕ) (c d : Cursor) where
     unfolding endAfter judged
     end-none h q = restep q (λ b m. sym (simp (kind-seen, ne-eqb _ _ h)))
 
-    pub end-few : c .kind ≡ 59 → n < 2 → Step (refuse 7) s c d → Step (endAfter n) s c d
+    pub end-few : c .kind ≡ 59 → n < pointLeast → Step (refuse 7) s c d → Step (endAfter n) s c d
     unfolding endAfter judged
     end-few h l q = restep q (λ b m. sym (simp (kind-seen, eq-eqb _ _ h, lt-leb _ _ l)))
 
-    pub end-good : c .kind ≡ 59 → 2 ≤ n → Step advance s c d → Step (endAfter n) s c d
+    pub end-good : c .kind ≡ 59 → pointLeast ≤ n → Step advance s c d → Step (endAfter n) s c d
     unfolding endAfter judged
     end-good h l q = restep q (λ b m. sym (simp (kind-seen, eq-eqb _ _ h, le-leb _ _ l)))
 
@@ -202,15 +204,15 @@ module _ (s : List ℕ) (c d : Cursor) (n : ℕ) (last : LastTwo) where
 
   module _ (h : c .kind ≡ 40) where
     point-then : (x : Place) (ps : List block.Point) → length ps ≡ n → point (x .input) (viewWith s x ps c)
-        ≡ (if ltb n 4 then pointBody (x .input) (advance (viewWith s x ps c)) else refuse 6 (viewWith s x ps c))
+        ≡ (if ltb n pointLimit then pointBody (x .input) (advance (viewWith s x ps c)) else refuse 6 (viewWith s x ps c))
     unfolding point judged
     point-then x ps e = simp (kind-with, eq-eqb _ _ h, points-with, e)
 
-    pub point-full : (q : Point) → 4 ≤ n → Step (refuse 6) s c d → (d .why ≡ 0 → ⊥)
+    pub point-full : (q : Point) → pointLimit ≤ n → Step (refuse 6) s c d → (d .why ≡ 0 → ⊥)
         → ReadsPoint point n last s c (record { cursor = d; read = false; point = q })
     point-full q l y k = refused 6 q y k (λ x ps z. point-then x ps (z .count) ∙ simp (le-ltb _ _ l))
 
-    pub point-good : (r : PointRead) → n < 4 → Step advance s c d → ReadsPoint pointBody n last s d r → ReadsPoint point n last s c r
+    pub point-good : (r : PointRead) → n < pointLimit → Step advance s c d → ReadsPoint pointBody n last s d r → ReadsPoint point n last s c r
     point-good r l y z = record {
       reads = λ x ps e.
           z .reads x ps e ∙ ap (pointBody (x .input)) (step-with s x ps c y) ∙ sym (point-then x ps (e .count) ∙ simp (lt-ltb _ _ l));
@@ -270,7 +272,7 @@ module _ (s : List ℕ) (c d : Cursor) (n : ℕ) (last : LastTwo) where
 abbrev pub moved : Cursor → Shape → Shape
 moved c p = record { cursor = c; count = p .count; points = p .points }
 
-pub step : {part : Part} {s : List ℕ} {c d : Cursor} (p : Shape) → p .count ≤ 4 → length (p .points) ≡ 4 → Step part s c d
+pub step : {part : Part} {s : List ℕ} {c d : Cursor} (p : Shape) → p .count ≤ pointLimit → length (p .points) ≡ pointLimit → Step part s c d
     → ReadsShape (λ i. part) s (moved c p) (moved d p)
 unfolding pointsRead
 step {part} {s} {c} p f l q = record {
@@ -338,7 +340,7 @@ module _ (s : List ℕ) where
         (λ x. ap (λ (t : Bool). viewWith s x (if t then pointsRead p ++ (pointOf (a .point) ∷ []) else pointsRead p) (a .cursor)) (sym h) ∙ read-with x)
         (λ z. omega (arith, cursor.lost-kind s (a .cursor) (y .fits) (y .stops h)))
 
-    module _ (h : a .read ≡ true) (l : p .count < 4) where
+    module _ (h : a .read ≡ true) (l : p .count < pointLimit) where
       more-read : (x : Place) → viewAt s x (longer p (a .cursor) (a .point)) ≡ point (x .input) (viewAt s x p)
       more-read x =
           ap (λ (ps : List block.Point). viewWith s x ps (a .cursor)) (read-more p (a .cursor) (a .point) (omega (arith, g .0 .size)))
@@ -386,11 +388,11 @@ term-lost s i b c d e p q f w =
     ∙ cursor.lost-judged s e f w b 0 59 _ _ (λ x. omega arith))
 
 module _ (s names : List ℕ) (i n : ℕ) (b : Block) (t : Terms s names i n b) (c d : Cursor) where
-  pub term-full : c .kind ≡ 163 → 7 ≤ n → Step (refuse 6) s c d → seen s d b 0 ≡ inputTerm i (seen s c b 0)
+  pub term-full : c .kind ≡ 163 → termLimit ≤ n → Step (refuse 6) s c d → seen s d b 0 ≡ inputTerm i (seen s c b 0)
   unfolding inputTerm judged
   term-full h k q = q .reads b 0 ∙ sym (simp (kind-seen, eq-eqb _ _ h, block-seen, t .count, le-ltb _ _ k))
 
-  pub term-then : c .kind ≡ 163 → n < 7 → Step advance s c d → inputTerm i (seen s c b 0) ≡ termFrom i (termName i (seen s d b 0))
+  pub term-then : c .kind ≡ 163 → n < termLimit → Step advance s c d → inputTerm i (seen s c b 0) ≡ termFrom i (termName i (seen s d b 0))
   unfolding inputTerm judged
   term-then h k q =
       simp (kind-seen, eq-eqb _ _ h, block-seen, t .count, lt-ltb _ _ k) (ap (λ (r : Parse). termFrom i (termName i r)) (sym (q .reads b 0)))
@@ -399,7 +401,7 @@ module _ (s names : List ℕ) (i n : ℕ) (b : Block) (t : Terms s names i n b) 
   unfolding termName
   name-bad w f h q = q .reads b 0 ∙ sym (judged-bad (seen s c b 0) _ w (aName (seen s c b 0) []) _ (sym f) h)
 
-  module _ (f : 0 ≡ fault (aName (seen s c b 0) [])) (j : ℕ) (e : j ≡ indexOf (sameName (textOf s c)) (tab (nameOf s names) n (14 + i * 7))) where
+  module _ (f : 0 ≡ fault (aName (seen s c b 0) [])) (j : ℕ) (e : j ≡ indexOf (sameName (textOf s c)) (tab (nameOf s names) n (variableLimit + i * termLimit))) where
     found : isTerm i (text (seen s c b 0)) (seen s c b 0 .block) ≡ ltb j n
     found = simp (text-seen, block-seen, t .count, t .found) (ap (λ (k : ℕ). ltb k n) (sym e))
 
@@ -423,12 +425,12 @@ module _ (s names : List ℕ) (i n : ℕ) (b : Block) (t : Terms s names i n b) 
 
 -- TERMS, into the tables
 module _ (s : List ℕ) (t : Tables) (i : ℕ) where
-  pub terms-known : i < t .«input_count» → Terms s (t .names) i (inputRow t i .terms) (blockView s t)
+  pub terms-known : Holds s t → i < t .«input_count» → Terms s (t .names) i (inputRow t i .terms) (blockView s t)
   unfolding blockView
-  terms-known h = record {
+  terms-known g h = record {
     input = let z = lookups.inputs-count s t (blockView s t) refl in omega arith;
     count = lookups.terms-count s t (blockView s t) refl i h;
-    found = λ w. lookups.term-of s t (blockView s t) refl w i h;
+    found = λ w. lookups.term-of s t (blockView s t) refl g w i h;
   }
 
   module _ (c : Cursor) (a : TermName) (k : Names s i (blockView s t) c a) where
@@ -437,13 +439,13 @@ module _ (s : List ℕ) (t : Tables) (i : ℕ) where
     unfolding view
     turn-lost h f m w = record { reads = k .lost w; fewer = omega arith; good = record { fits = f; holds = h } }
 
-    pub turn-good : (q : Shape) (u : Tables) → i < t .«input_count» → a .cursor .why ≡ 0 → left s (a .cursor) < left s c
+    pub turn-good : (q : Shape) (u : Tables) → Holds s t → i < t .«input_count» → a .cursor .why ≡ 0 → left s (a .cursor) < left s c
         → ReadsShape termFrom s (noPoints (a .cursor)) q
         → Changes s t u (withTerm i (record { name = slice (a .start) (a .end) s; points = tab (pointAt (q .points)) (q .count) 0 }))
         → Reads (inputTerm i) s (at c t) (at (q .cursor) u)
     unfolding view viewWith pointsRead tab
-    turn-good q u h w m y z =
-        let x : Place = record { input = i; name = slice (a .start) (a .end) s; block = blockView s t; known = terms-known h .input } in
+    turn-good q u g h w m y z =
+        let x : Place = record { input = i; name = slice (a .start) (a .end) s; block = blockView s t; known = terms-known g h .input } in
         record {
           reads = ap (λ (b : Block). seen s (q .cursor) b 0) (z .view) ∙ y .reads x ∙ sym (k .named w);
           fewer = let f = y .fewer in omega arith;
@@ -489,6 +491,14 @@ module _ (i : ℕ) (s : List ℕ) where
   pub turns-end : (p₀ p : ParseState) → Turning p₀ p → (p .cursor .kind ≡ TERM → ⊥) → Reads (λ r. repeated TERM (inputTerm i) (inputTerm i r)) s p₀ p
   turns-end p₀ p g h = record { reads = g .4 h; fewer = g .2; good = g .1 }
 
+-- whatever the tables beside them
+pub record Gathers (i : ℕ) (s : List ℕ) (f₀ f : Tables → ParseState) : Type 0 where
+  pub from : Ready s f₀
+  pub turning : (t : Tables) → Good s (f₀ t) → Turning i s (f₀ t) (f t)
+
+pub gathered : {i : ℕ} {s : List ℕ} {f₀ f : Tables → ParseState} (g : Gathers i s f₀ f) → Turning i s (f₀ (g .from .tables)) (f (g .from .tables))
+gathered g = g .turning (g .from .tables) (g .from .good)
+
 pub terms-none : (s : List ℕ) (c : Cursor) (t : Tables) (d : Cursor) (i : ℕ) → Holds s t → (c .kind ≡ 163 → ⊥) → (d .why ≡ 0 → ⊥)
     → Step (refuse 2) s c d → Reads (λ r. repeated TERM (inputTerm i) (inputTerm i r)) s (at c t) (at d t)
 unfolding inputTerm judged view
@@ -506,10 +516,10 @@ module _ (s : List ℕ) (c : Cursor) (t : Tables) (d : Cursor) where
   part-bad w f g h q = reading.also (reading.step t g q) (sym (judged-bad (view s (at c t)) _ w (aName (view s (at c t)) []) _ (sym f) h))
 
   module _ (f : 0 ≡ fault (aName (seen s c (blockView s t) 0) [])) (i : ℕ)
-      (e : i ≡ indexOf (sameName (textOf s c)) (tab (nameOf s (t .names)) (t .«input_count») 0)) where
+      (e : i ≡ indexOf (sameName (textOf s c)) (tab (nameOf s (t .names)) (t .«input_count») 0)) (g : Holds s t) where
     input-is : inputOf (text (view s (at c t))) (view s (at c t) .block) ≡ i
     unfolding blockView
-    input-is = simp (text-view, block-view) (lookups.input-of s t (blockView s t) refl (textOf s c) ∙ sym e)
+    input-is = simp (text-view, block-view) (lookups.input-of s t (blockView s t) refl g (textOf s c) ∙ sym e)
 
     abbrev partFrom : Part
     partFrom r = expect END-FUZZIFY (repeated TERM (inputTerm i) (inputTerm i r))
@@ -531,9 +541,9 @@ module _ (s : List ℕ) (c : Cursor) (t : Tables) (d : Cursor) where
         (view s (at c t)) (partFrom (advance (view s (at c t))))) (block-view s (at c t))
         ∙ ap (λ (x : Bool). judged ((isEmpty (termsOf i (blockView s t)), 4) ∷ (x, 5) ∷ []) (view s (at c t)) (partFrom (advance (view s (at c t))))) known
 
-    pub part-unknown : Holds s t → t .«input_count» ≤ i → Step (refuse 5) s c d → Reads fuzzifyVariable s (at c t) (at d t)
+    pub part-unknown : t .«input_count» ≤ i → Step (refuse 5) s c d → Reads fuzzifyVariable s (at c t) (at d t)
     unfolding judged blockView
-    part-unknown g h q = reading.also (reading.step t g q) (sym (part-then ∙ simp (lookups.terms-none s t (blockView s t) refl i h, le-ltb _ _ h)))
+    part-unknown h q = reading.also (reading.step t g q) (sym (part-then ∙ simp (lookups.terms-none s t (blockView s t) refl i h, le-ltb _ _ h)))
 
     module _ (h : i < t .«input_count») where
       terms-are : termsOf i (blockView s t) ≡ tab (termView s t i) (inputRow t i .terms) 0
@@ -550,14 +560,14 @@ module _ (s : List ℕ) (c : Cursor) (t : Tables) (d : Cursor) where
       no-terms zero z = refl
       no-terms (suc n) z = absurd (omega arith)
 
-      pub part-again : Holds s t → (inputRow t i .terms ≡ 0 → ⊥) → Step (refuse 4) s c d → Reads fuzzifyVariable s (at c t) (at d t)
+      pub part-again : (inputRow t i .terms ≡ 0 → ⊥) → Step (refuse 4) s c d → Reads fuzzifyVariable s (at c t) (at d t)
       unfolding judged
-      part-again g z q = reading.also (reading.step t g q) (sym (part-then ∙ simp (terms-are, some-terms _ z)))
+      part-again z q = reading.also (reading.step t g q) (sym (part-then ∙ simp (terms-are, some-terms _ z)))
 
-      pub part-good : (p : ParseState) (k : Cursor) → Holds s t → inputRow t i .terms ≡ 0 → Step advance s c d
+      pub part-good : (p : ParseState) (k : Cursor) → inputRow t i .terms ≡ 0 → Step advance s c d
           → Reads (λ r. repeated TERM (inputTerm i) (inputTerm i r)) s (at d t) p → Step (expect END-FUZZIFY) s (p .cursor) k
           → Reads fuzzifyVariable s (at c t) (at k (p .tables))
       unfolding judged
-      part-good p k g z q y x =
+      part-good p k z q y x =
           reading.also (reading.next (reading.next (reading.step t g q) y) (reading.step (p .tables) (y .good .holds) x))
           (sym (part-then ∙ simp (terms-are, no-terms _ z, lt-ltb _ _ h)))

@@ -7,7 +7,7 @@ use mathlib.Core.List.{List, [], _∷_, _++_, map}
 use Prim.Native.Nat.{ℕ, _+_, _*_, _≤_, _<_}
 use lib.Dec.{eqb, leb}
 use lib.IntN.{ℤ}
-use lib.ListN.{length, getD, replicate}
+use lib.ListN.{length, replicate}
 use lib.Seq.{slice}
 use lib.Signed.{ltZ, leZ}
 use Rattle.model.specs.Basic.{if_then_else_, indexOf, update, tab}
@@ -22,11 +22,14 @@ use Rattle.lookup.specs.Names.{nameOf}
 use Rattle.cursor.specs.declared.Cursor.{Cursor}
 use Rattle.cursor.specs.View.{seen, Fits, left}
 use Rattle.block_tables.specs.declared.Point.{Point}
-use Rattle.block_tables.specs.View.{no-point}
+use Rattle.block_tables.specs.declared.Tables.{Tables}
+use Rattle.block_tables.specs.View.{no-point, pointAt}
+use Rattle.parse_state.specs.declared.ParseState.{ParseState}
 use Rattle.fuzzify_text.specs.declared.LastTwo.{LastTwo}
 use Rattle.fuzzify_text.specs.declared.PointRead.{PointRead}
 use Rattle.fuzzify_text.specs.declared.Shape.{Shape}
 use Rattle.fuzzify_text.specs.declared.TermName.{TermName}
+use Rattle.fuzzify_text.specs.declared.Inputs.{Inputs}
 
 -- one term more for input i of a block
 unfoldable pub withTerm : ℕ → block.Term → Block → Block
@@ -48,6 +51,23 @@ positionAfter n last r = judged (aCrisp r ((mayStand n last (valueHere r), 7) �
 
 unfoldable pub endAfter : ℕ → Part
 endAfter n r = judged ((is SEMICOLON r, 2) ∷ (leb pointLeast n, 7) ∷ []) r (advance r)
+
+-- the inputs p with their names, in the tables t
+abbrev pub inputsIn : List ℕ → Inputs → Tables → ParseState
+inputsIn names p t = record {
+  cursor = p .cursor;
+  tables = record {
+    start = t .start;
+    end = t .end;
+    «input_count» = p .count;
+    «output_count» = t .«output_count»;
+    inputs = p .rows;
+    outputs = t .outputs;
+    «input_terms» = p .terms;
+    «output_terms» = t .«output_terms»;
+    names = names;
+  };
+}
 
 -- POINTS
 -- the term that points are read for: of this name, behind the other terms of an input in a block
@@ -83,10 +103,6 @@ pub record ReadsPoint (part : ℕ → Part) (n : ℕ) (last : LastTwo) (s : List
   pub fewer : left s (r .cursor) ≤ left s c
   pub fits : Fits s (r .cursor)
   pub stops : r .read ≡ false → r .cursor .why ≡ 0 → ⊥
-
--- the points of an array
-unfoldable pub pointAt : List Point → ℕ → block.Point
-pointAt ps k = pointOf (getD ps k no-point)
 
 unfoldable pub pointsRead : Shape → List block.Point
 pointsRead p = tab (pointAt (p .points)) (p .count) 0

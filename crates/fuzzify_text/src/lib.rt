@@ -12,8 +12,11 @@ ghost use Rattle.model.specs.Declarations.{pointDegree as aDegree, pointBody, p
 ghost use Rattle.lookup.specs.Names.{Placed};
 ghost use Rattle.cursor.specs.View.{textOf, Fits, Step, Moves};
 ghost use Rattle.parse_state.specs.Reads.{Good, Reads};
-ghost use Rattle.fuzzify_text.specs.Terms.{mayStand, positionAfter, endAfter, ReadsPoint, noPoints, Reads as ReadsShape, termFrom, Terms, Names as Reached, Named};
+ghost use Rattle.parse_state.specs.Beside.{Ready, Collects};
+ghost use Rattle.fuzzify_text.specs.Terms.{mayStand, positionAfter, endAfter, ReadsPoint, noPoints, Reads as ReadsShape, termFrom, Terms, Names as Reached, Named, inputsIn};
+use block_tables::Input;
 use block_tables::Point;
+use block_tables::Term;
 use cursor::Cursor;
 use lookup::Names;
 use model::Crisp;
@@ -44,6 +47,14 @@ struct Shape {
     cursor: Cursor,
     count: usize,
     points: [Point; bounds::POINTS],
+}
+
+// A reading among inputs: what FUZZIFY changes of the tables, beside their names.
+struct Inputs {
+    cursor: Cursor,
+    count: usize,
+    rows: [Input; bounds::INPUTS],
+    terms: [Term; bounds::INPUT_TERMS],
 }
 
 // The cursor behind the name of a term, and the place of the name.
@@ -311,59 +322,58 @@ fn term_place(i: usize, n: usize) -> usize
     i * bounds::TERMS + n
 }
 
-// Terms, one or more. A term goes into the tables when its points are read: only this far down are the tables handed.
-fn input_terms(s: &[u8], p: ParseState, i: usize) -> ParseState
-    requires { ⌜ Good (now s) p × (i < p .tables .«input_count») ⌝ }
-    ensures { λ r. ⌜ Reads (λ q. repeated TERM (inputTerm i) (inputTerm i q)) (now (s .entry)) p r ⌝ }
+// Terms, one or more, each as a record into the terms of the inputs.
+fn input_terms(s: &[u8], names: &mut Names, p: Inputs, i: usize) -> Inputs
+    requires { ⌜ Ready (now s) (inputsIn (now names) p) × (i < p .count) ⌝ }
+    ensures { λ r. ⌜ Collects (λ q. repeated TERM (inputTerm i) (inputTerm i q))
+        (now (s .entry)) (inputsIn (now (names .entry)) p)
+        (inputsIn (now (names .exit)) r) ⌝ }
+    ensures count { λ r. ⌜ r .count ≡ p .count ⌝ }
 {
     let mut c = p.cursor;
-    let mut t = p.tables;
+    let mut r = p;
     if c.kind != token_kinds::TERM {
         let d = cursor::refuse(c, 2);
-        return ParseState {
-            cursor: d,
-            tables: t,
-        };
+        r.cursor = d;
+        return r;
     }
     while c.kind == token_kinds::TERM {
-        let mut v = t.inputs[i];
+        let mut v = r.rows[i];
         let n = v.terms;
-        let a = term_name(s, &t.names, c, i, n);
+        let a = term_name(s, names, c, i, n);
         let d = a.cursor;
         if d.why != 0 {
-            return ParseState {
-                cursor: d,
-                tables: t,
-            };
+            r.cursor = d;
+            return r;
         }
         let q = term_points(s, d);
         let ps = q.points;
         let k = term_place(i, n);
-        let m = k * bounds::POINTS;
-        t.names[lookup::FIRST_TERM + k] = a.start;
-        t.names[lookup::ENDS + (lookup::FIRST_TERM + k)] = a.end;
+        names[lookup::FIRST_TERM + k] = a.start;
+        names[lookup::ENDS + (lookup::FIRST_TERM + k)] = a.end;
         v.terms = n + 1;
-        t.inputs[i] = v;
-        t.counts[k] = q.count;
-        t.points[m] = ps[0];
-        t.points[m + 1] = ps[1];
-        t.points[m + 2] = ps[2];
-        t.points[m + 3] = ps[3];
+        r.rows[i] = v;
+        let t = Term {
+            start: a.start,
+            end: a.end,
+            count: q.count,
+            points: ps,
+        };
+        r.terms[k] = t;
         c = q.cursor;
     }
-    ParseState {
-        cursor: c,
-        tables: t,
-    }
+    r.cursor = c;
+    r
 }
 
 // The name of an input without terms, and its terms.
-fn fuzzify_named(s: &[u8], p: ParseState) -> ParseState
-    requires { ⌜ Good (now s) p ⌝ }
-    ensures { λ r. ⌜ Reads fuzzifyVariable (now (s .entry)) p r ⌝ }
+fn fuzzify_named(s: &[u8], names: &mut Names, p: Inputs) -> Inputs
+    requires { ⌜ Ready (now s) (inputsIn (now names) p) ⌝ }
+    ensures { λ r. ⌜ Collects fuzzifyVariable (now (s .entry)) (inputsIn (now (names .entry)) p)
+        (inputsIn (now (names .exit)) r) ⌝ }
+    ensures count { λ r. ⌜ r .count ≡ p .count ⌝ }
 {
     let c = p.cursor;
-    let t = p.tables;
     let w = cursor::name_fault(c);
     let mut q = p;
     if w != 0 {
@@ -371,14 +381,14 @@ fn fuzzify_named(s: &[u8], p: ParseState) -> ParseState
         q.cursor = d;
         return q;
     }
-    let n = t.input_count;
-    let i = lookup::find(s, &t.names, 0, n, c.start, c.end);
+    let n = p.count;
+    let i = lookup::find(s, names, 0, n, c.start, c.end);
     if n <= i {
         let d = cursor::refuse(c, 5);
         q.cursor = d;
         return q;
     }
-    let v = t.inputs[i];
+    let v = p.rows[i];
     if v.terms != 0 {
         let d = cursor::refuse(c, 4);
         q.cursor = d;
@@ -386,23 +396,39 @@ fn fuzzify_named(s: &[u8], p: ParseState) -> ParseState
     }
     let d = cursor::advance(s, c);
     q.cursor = d;
-    let mut r = input_terms(s, q, i);
+    let mut r = input_terms(s, names, q, i);
     let e = r.cursor;
     let f = cursor::expect(s, e, token_kinds::END_FUZZIFY);
     r.cursor = f;
     r
 }
 
-fn fuzzify(s: &[u8], p: ParseState) -> ParseState
-    requires { ⌜ Good (now s) p ⌝ }
-    ensures { λ r. ⌜ Reads aFuzzify (now (s .entry)) p r ⌝ }
+fn fuzzify(s: &[u8], names: &mut Names, p: Inputs) -> Inputs
+    requires { ⌜ Ready (now s) (inputsIn (now names) p) ⌝ }
+    ensures { λ r. ⌜ Collects aFuzzify (now (s .entry)) (inputsIn (now (names .entry)) p)
+        (inputsIn (now (names .exit)) r) ⌝ }
+    ensures count { λ r. ⌜ r .count ≡ p .count ⌝ }
     ensures moves { λ r. ⌜ Moves (now (s .entry)) (p .cursor) (r .cursor) ⌝ }
 {
     let c = p.cursor;
     let d = cursor::expect(s, c, token_kinds::FUZZIFY);
     let mut q = p;
     q.cursor = d;
-    fuzzify_named(s, q)
+    fuzzify_named(s, names, q)
+}
+
+fn parts(s: &[u8], names: &mut Names, p: Inputs) -> Inputs
+    requires { ⌜ Ready (now s) (inputsIn (now names) p) ⌝ }
+    ensures { λ r. ⌜ Collects (λ q. repeated FUZZIFY aFuzzify (aFuzzify q))
+        (now (s .entry)) (inputsIn (now (names .entry)) p)
+        (inputsIn (now (names .exit)) r) ⌝ }
+    ensures count { λ r. ⌜ r .count ≡ p .count ⌝ }
+{
+    let mut q = fuzzify(s, names, p);
+    while q.cursor.kind == token_kinds::FUZZIFY {
+        q = fuzzify(s, names, q);
+    }
+    q
 }
 
 // FUZZIFY parts, one or more.
@@ -410,9 +436,28 @@ pub fn fuzzify_parts(s: &[u8], p: ParseState) -> ParseState
     requires { ⌜ Good (now s) p ⌝ }
     ensures { λ r. ⌜ Reads (λ q. repeated FUZZIFY aFuzzify (aFuzzify q)) (now (s .entry)) p r ⌝ }
 {
-    let mut q = fuzzify(s, p);
-    while q.cursor.kind == token_kinds::FUZZIFY {
-        q = fuzzify(s, q);
+    let c = p.cursor;
+    let mut t = p.tables;
+    let rows = t.inputs;
+    let terms = t.input_terms;
+    let n = t.input_count;
+    let q = parts(
+        s,
+        &mut t.names,
+        Inputs {
+            cursor: c,
+            count: n,
+            rows: rows,
+            terms: terms,
+        },
+    );
+    let d = q.cursor;
+    let next = q.rows;
+    let read = q.terms;
+    t.inputs = next;
+    t.input_terms = read;
+    ParseState {
+        cursor: d,
+        tables: t,
     }
-    q
 }

@@ -12,7 +12,8 @@ use Rattle.model.specs.Image.{ruleTable}
 use Rattle.laws.proofs.Conditions.{length-pairs}
 use Rattle.laws.proofs.Lists.{length-gather}
 use Rattle.block_tables.specs.Stored.{Stored, ruleRow}
-use Rattle.image.specs.Rows.{rows, ruleWords, ruleNext}
+use Rattle.variable_rows.specs.Rows.{rows}
+use Rattle.image.specs.Rows.{ruleWords, ruleNext}
 
 -- ROWS of four words
 four : (l : List ℕ) (m i : ℕ) → i * 4 + 4 ≤ length l

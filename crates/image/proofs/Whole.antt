@@ -1,7 +1,7 @@
 -- What is written is the image of the block that the arrays stand for, and how long that is.
 use mathlib.Core.Path.{_≡_, sym, ap, _∙_}
 use mathlib.Core.List.{List, [], _∷_, _++_, append-assoc}
-use Prim.Native.Nat.{ℕ, _*_}
+use Prim.Native.Nat.{ℕ, _+_, _*_}
 use native.Mathlib.Omega.{arith}
 use lib.ListN.{length, take, length-append}
 use lib.Seq.{slice}
@@ -16,13 +16,14 @@ use Rattle.layout.specs.Tables.{outputRow, outputNext}
 use Rattle.layout.proofs.TableLaws.{output-table}
 use Rattle.block_tables.specs.declared.Tables.{Tables}
 use Rattle.block_tables.specs.declared.Heading.{Heading}
-use Rattle.block_tables.specs.View.{outputsView, inputView, outputView, wholeView, Holds, Headed}
+use Rattle.block_tables.specs.View.{outputsView, inputView, outputView, wholeView, Headed}
 use Rattle.block_tables.specs.Stored.{Stored}
 use Rattle.laws.proofs.Places.{length-tab}
 use Rattle.image.specs.declared.Counts.{Counts}
-use Rattle.image.specs.declared.Slots.{Slots}
-use Rattle.image.specs.Rows.{heldIn, variableRows, ruleRows, countList, headWords}
-use Rattle.image.proofs.Views.{Ordered, inputs-laid, outputs-laid, terms-laid, points-laid, first-output, terms-count, points-count}
+use Rattle.variable_rows.specs.declared.Slots.{Slots}
+use Rattle.variable_rows.specs.Rows.{heldIn, variableRows}
+use Rattle.image.specs.Rows.{ruleRows, countList, headWords}
+use Rattle.variable_rows.proofs.Views.{Ordered, inputs-laid, outputs-laid, terms-laid, points-laid, first-output, terms-count, points-count}
 use Rattle.layout.proofs.Lengths.{header-long, inputs-long, outputs-long, terms-long, points-long, rules-long}
 use Rattle.layout.proofs.Whole.{length-conditions}
 use Rattle.layout.proofs.Codes.{pair-code, accu-code, act-code}
@@ -60,14 +61,14 @@ module _ (b : Block) where
       )
 
 -- THE WHOLE
-module _ (s : List ℕ) (t : Tables) (h : Heading) (rs : List Rule) (ok : Holds s t) (head : Headed s h) (own list : Slots) (order : Ordered t own list)
+module _ (s : List ℕ) (t : Tables) (h : Heading) (rs : List Rule) (head : Headed s h) (own others : Slots) (order : Ordered t own others)
     (rules ws ks : List ℕ) (m n k : ℕ) (kept : Stored rs rules ws ks m n k) (wide : length rules ≡ 256) (long : length ws ≡ 640) (full : length ks ≡ 256) where
   abbrev pub whole : Counts
   whole = record {
     inputs = t .«input_count»;
     outputs = t .«output_count»;
-    terms = list .count;
-    points = heldIn (t .counts) (list .at) (list .count);
+    terms = own .count + others .count;
+    points = heldIn (t .«input_terms») (own .at) (own .count) + others .count;
     rules = m;
     words = n;
     conclusions = k;
@@ -78,8 +79,8 @@ module _ (s : List ℕ) (t : Tables) (h : Heading) (rs : List Rule) (ok : Holds 
   counts-are = λ j.
       length-tab (inputView s t) (t .«input_count») 0 j
       ∷ length-tab (outputView s t) (t .«output_count») 0 j
-      ∷ terms-count s t ok own list order j
-      ∷ points-count s t ok own list order j
+      ∷ terms-count s t own others order j
+      ∷ points-count s t own others order j
       ∷ all-kept rs rules ws ks m n k kept wide long full .many j
       ∷ words-count rs rules ws ks m n k kept wide long full j
       ∷ conclusions-count rs rules ws ks m n k kept wide long full j
@@ -97,15 +98,15 @@ module _ (s : List ℕ) (t : Tables) (h : Heading) (rs : List Rule) (ok : Holds 
       ++ (pair-code (h .pair) (head .pair) j ∷ accu-code (h .accu) (head .accu) j ∷ act-code (h .act) (head .act) j ∷ 0 ∷ named))))
 
   pub words-are : words (wholeView s t h rs) ≡ (headWords whole h ++ named)
-      ++ (variableRows s t (own .count) list ++ (ruleRows rules m ++ (take n ws ++ take (k * 2) ks)))
+      ++ (variableRows s t own others ++ (ruleRows rules m ++ (take n ws ++ take (k * 2) ks)))
   unfolding words wholeView variableRows ruleRows
   words-are =
       (λ j. header-is j
       ++ (inputs-laid s t j
       ++ ((output-table (wholeView s t h rs)
-      ∙ ap (λ (x : ℕ). laid outputRow outputNext x (outputsView s t)) (first-output s t ok own list order) ∙ outputs-laid s t (own .count)) j
-      ++ (terms-laid s t ok own list order j
-      ++ (points-laid s t ok own list order j
+      ∙ ap (λ (x : ℕ). laid outputRow outputNext x (outputsView s t)) (first-output s t own others order) ∙ outputs-laid s t (own .count)) j
+      ++ (terms-laid s t own others order j
+      ++ (points-laid s t own others order j
       ++ (all-kept rs rules ws ks m n k kept wide long full .table j
       ++ (sym (kept .words) j ++ sym (kept .conclusions) j)))))))
       ∙ simp append-assoc

@@ -16,7 +16,7 @@ use Rattle.cursor.specs.View.{seen, textOf, Fits, left, Step, fault}
 use Rattle.cursor.proofs.Laws as cursor
 use Rattle.block_tables.specs.declared.Tables.{Tables}
 use Rattle.block_tables.specs.View.{blockView, Holds}
-use Rattle.block_updates.specs.Changes.{Changes}
+use Rattle.block_tables.specs.Changes.{Changes}
 use Rattle.parse_state.specs.declared.ParseState.{ParseState}
 use Rattle.parse_state.specs.Reads.{view, Good, Reads}
 

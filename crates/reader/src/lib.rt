@@ -23,11 +23,11 @@ fn read_on(s: &[u8], p: ParseState, out: &mut [u8]) -> Written
         ≡ bufferAfter (now (out .entry)) (readsInto (length (now (out .entry))) (now (s .entry))) ⌝ }
 {
     let t = p.tables;
-    let symbols = block_symbols::symbols_of(t);
+    let symbols = symbol_table::symbols_of(t);
     let c = p.cursor;
     let o = rule_heading::rule_heading(s, c);
     let d = o.cursor;
-    let mut rules = [0u32; bounds::RULES * block_tables::RULE_WIDTH];
+    let mut rules = [0u32; bounds::RULES * block_tables::KEPT_RULE_WIDTH];
     let mut words = [0u32; bounds::WORDS];
     let mut conclusions = [0u32; bounds::CONCLUSIONS * block_tables::CONCLUSION_WIDTH];
     let none = Totals {

@@ -18,7 +18,7 @@ ghost use Rattle.condition_text.specs.Pending.{Adds};
 ghost use Rattle.rule_text.specs.Progress.{Kept, Standing, FewKept, Rows, Concludes, Onward, EndsRule, Goes, Within, midst};
 use block_tables::CONCLUSION_WIDTH;
 use block_tables::Conclusions;
-use block_tables::RULE_WIDTH;
+use block_tables::KEPT_RULE_WIDTH;
 use block_tables::Rules;
 use block_tables::Totals;
 use block_tables::Words;
@@ -61,7 +61,7 @@ fn is_used(rules: &Rules, count: usize, number: u32) -> bool
 {
     let mut k = 0;
     while k < count {
-        if rules[k * RULE_WIDTH] == number {
+        if rules[k * KEPT_RULE_WIDTH] == number {
             return true;
         }
         k += 1;
@@ -247,10 +247,10 @@ fn put_row(rules: &mut Rules, k: usize, number: u32, words: u32, conclusions: u3
     ensures { λ r. ⌜ Adds (k * 4) ((k + 1) * 4) (number ∷ words ∷ conclusions ∷ weight .0 ∷ [])
         (now (rules .entry)) (now (rules .exit)) ⌝ }
 {
-    rules[k * RULE_WIDTH] = number;
-    rules[k * RULE_WIDTH + 1] = words;
-    rules[k * RULE_WIDTH + 2] = conclusions;
-    rules[k * RULE_WIDTH + 3] = weight.0;
+    rules[k * KEPT_RULE_WIDTH] = number;
+    rules[k * KEPT_RULE_WIDTH + 1] = words;
+    rules[k * KEPT_RULE_WIDTH + 2] = conclusions;
+    rules[k * KEPT_RULE_WIDTH + 3] = weight.0;
 }
 
 // From THEN on, for the rule of this number and with so many condition words.

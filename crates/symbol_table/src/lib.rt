@@ -1,9 +1,17 @@
 // What the name at the cursor was declared as: an input, an output, or a term of one of them.
 ghost use mathlib.Core.Path.{_≡_};
-ghost use Prim.Native.Nat.{_+_, _*_, _≤_, _<_};
-ghost use Rattle.model.specs.Bounds.{inputLimit, outputLimit, termLimit, variableLimit};
+ghost use Prim.Native.Nat.{ℕ, _+_, _*_, _≤_, _<_};
+ghost use lib.Dec.{ltb};
+ghost use lib.ListN.{getD};
+ghost use Rattle.model.specs.Basic.{if_then_else_};
+ghost use Rattle.model.specs.Bounds.{inputLimit, outputLimit, termLimit, variableLimit, inputTermLimit};
 ghost use Rattle.cursor.specs.View.{Fits, textOf};
+ghost use Rattle.block_tables.specs.View.{no-input, no-output, inputRow, outputRow};
 ghost use Rattle.symbol_table.specs.Symbols.{Symbols, termCount, inputCount, outputCount, among};
+ghost use Rattle.symbol_table.specs.Firsts.{Firsts, symbolsIn};
+use block_tables::Input;
+use block_tables::Output;
+use block_tables::Tables;
 use cursor::Cursor;
 use lookup::Names;
 
@@ -57,4 +65,66 @@ pub fn term_of(s: &[u8], names: &Names, symbols: &SymbolTable, v: usize, c: Curs
         c.start,
         c.end,
     )
+}
+
+// The terms of a row, if it is one of the first n.
+fn terms_among(i: usize, n: usize, terms: usize) -> usize
+    ensures { λ r. ⌜ r ≡ (if ltb i n then terms else 0) ⌝ }
+    ensures within { λ r. ⌜ r ≤ terms ⌝ }
+{
+    if i < n {
+        return terms;
+    }
+    0
+}
+
+fn with_inputs(symbols: SymbolTable, rows: [Input; bounds::INPUTS], n: usize) -> SymbolTable
+    requires { ⌜ (getD symbols 0 0 ≡ 0) × ((i : ℕ) → getD rows i no-input .terms ≤ termLimit) ⌝ }
+    ensures { λ r. ⌜ ((c : ℕ → ℕ) → ((i : ℕ) → i < inputLimit
+        → c i ≡ (if ltb i n then getD rows i no-input .terms else 0))
+        → Firsts c inputLimit r) ⌝ }
+    ensures small { λ r. ⌜ getD r inputLimit 0 ≤ inputTermLimit ⌝ }
+{
+    let mut r = symbols;
+    let mut i = 0;
+    while i < bounds::INPUTS {
+        let v = rows[i];
+        let k = terms_among(i, n, v.terms);
+        r[i + 1] = r[i] + k;
+        i += 1;
+    }
+    r
+}
+
+fn with_outputs(symbols: SymbolTable, rows: [Output; bounds::OUTPUTS], n: usize) -> SymbolTable
+    requires { ⌜ (getD symbols inputLimit 0 ≤ inputTermLimit) × ((i : ℕ) → getD rows i no-output .terms ≤ termLimit) ⌝ }
+    ensures { λ r. ⌜ ((c : ℕ → ℕ) → Firsts c inputLimit symbols
+        → ((i : ℕ) → i < outputLimit → c (inputLimit + i) ≡ (if ltb i n then getD rows i no-output .terms else 0))
+        → Firsts c variableLimit r) ⌝ }
+{
+    let mut r = symbols;
+    let mut i = 0;
+    while i < bounds::OUTPUTS {
+        let v = rows[i];
+        let k = terms_among(i, n, v.terms);
+        r[bounds::INPUTS + i + 1] = r[bounds::INPUTS + i] + k;
+        i += 1;
+    }
+    r
+}
+
+// The symbols of a text's tables.
+pub fn symbols_of(t: Tables) -> SymbolTable
+    requires { ⌜ ((i : ℕ) → inputRow t i .terms ≤ termLimit) × ((o : ℕ) → outputRow t o .terms ≤ termLimit) ⌝ }
+    ensures { λ r. ⌜ r ≡ symbolsIn t ⌝ }
+{
+    let m = t.input_count;
+    let n = t.output_count;
+    let inputs = t.inputs;
+    let a = with_inputs([0; OUTPUT_COUNT + 1], inputs, m);
+    let outputs = t.outputs;
+    let mut r = with_outputs(a, outputs, n);
+    r[INPUT_COUNT] = m;
+    r[OUTPUT_COUNT] = n;
+    r
 }

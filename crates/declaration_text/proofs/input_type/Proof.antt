@@ -1,4 +1,4 @@
-use Rattle.block_updates.proofs.Types as types
+use Rattle.block_tables.proofs.Types as types
 use Rattle.declaration_text.proofs.Laws as laws
 use Rattle.declaration_text.specs.Declares.{withInputs}
 use native.Mathlib.Omega.{arith}
@@ -7,8 +7,8 @@ use Rattle.declaration_text.proofs.input_type.Tie as tie
 
 typed-requires : tie.Need-typed-requires
 typed-requires c κs =
-    let c5 = c .before .before .before .before .before in
-    c5 .pre .2 .good .holds .inputCount
+    let h = c .before .before .before .before .before .pre .2 .good .holds in
+    (h .inputCount, h .inputs-size)
 
 advance-requires : tie.Need-advance-requires
 advance-requires c κs =
@@ -22,7 +22,7 @@ returns c =
     let a = c7 .args in
     λ m names t g.
     laws.type-int (a .s .now) (a .p .cursor) (withInputs m names (a .p) t .tables) (c .advance .result) (a .n) _ (g .fits) (c3 .if1 .taken)
-    (types.typed (a .s .now) (withInputs m names (a .p) t .tables) (a .n) _ (c .before .typed .ensures (g .holds .inputs-size)) (g .holds)) (c .advance .ensures .0)
+    (types.typed (a .s .now) (withInputs m names (a .p) t .tables) (a .n) _ (c .before .typed .ensures) (g .holds)) (c .advance .ensures .0)
 
 expect-requires : tie.Need-expect-requires
 expect-requires c κs =

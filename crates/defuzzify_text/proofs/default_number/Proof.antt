@@ -2,7 +2,7 @@ use Rattle.model.specs.Block.{withDefault}
 use mathlib.Core.Path.{refl, sym, _∙_}
 use native.Mathlib.Omega.{arith}
 use borrow.Author.Needs.{needs}
-use Rattle.block_updates.proofs.Rows.{default-set}
+use Rattle.block_tables.proofs.Rows.{default-set}
 use Rattle.defuzzify_text.proofs.Laws as laws
 use Rattle.defuzzify_text.specs.Output.{withOutputs}
 use Rattle.defuzzify_text.proofs.default_number.Statement.{statement}

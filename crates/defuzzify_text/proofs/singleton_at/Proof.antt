@@ -3,7 +3,7 @@ use mathlib.Core.Path.{refl, sym, _∙_}
 use native.Mathlib.Omega.{arith}
 use borrow.Author.Needs.{needs}
 use lib.Seq.{slice}
-use Rattle.block_updates.proofs.Singletons.{singleton-added}
+use Rattle.block_tables.proofs.Singletons.{singleton-added}
 use Rattle.defuzzify_text.proofs.Laws as laws
 use Rattle.defuzzify_text.specs.Output.{withOutputs}
 use Rattle.defuzzify_text.proofs.singleton_at.Statement.{statement}
@@ -63,11 +63,11 @@ mul-names-2 c = search needs
 element-write-names-2 : tie.Need-element-write-names-2
 element-write-names-2 c = search needs
 
-mul-x : tie.Need-mul-x
-mul-x c = search needs
+mul-u : tie.Need-mul-u
+mul-u c = search needs
 
-element-set-from-x : tie.Need-element-set-from-x
-element-set-from-x c = search needs
+element-set-from-u : tie.Need-element-set-from-u
+element-set-from-u c = search needs
 
 mul-v-2 : tie.Need-mul-v-2
 mul-v-2 c = search needs
@@ -92,7 +92,8 @@ returns-2 c =
           laws.figure-set (a .s .now) (a .t3 .cursor) (c .advance .result) (withOutputs (a .names .now) (a .t3) t .tables) (a .o)
           (λ x. withSingleton (record { name = slice (a .start) (a .end) (a .s .now); at = x })) (h .1) _ _
           (sym z ∙ e .0 _ 0) (e .1 z .1) (g .fits) (λ q. omega (arith, e .1 z .0))
-          (singleton-added (a .s .now) (withOutputs (a .names .now) (a .t3) t .tables) (a .o) _ (a .start) (a .end) _ refl (h .1) (h .2) (g .holds) (h .3) (h .4))
+          (singleton-added (a .s .now) (withOutputs (a .names .now) (a .t3) t .tables) (a .o) _
+          (record { start = a .start; end = a .end; at = c3 .figure-here .result .value }) refl (h .1) (h .2) (g .holds) (h .3) (h .4))
           (c .advance .ensures .0),
       refl,
     )
@@ -116,8 +117,8 @@ singleton-at-spec =
     add-names-3
     mul-names-2
     element-write-names-2
-    mul-x
-    element-set-from-x
+    mul-u
+    element-set-from-u
     mul-v-2
     element-set-from-v
     advance-requires

@@ -29,7 +29,7 @@ returns c =
     let c7 = c .before .before .before .before .before .before .before in
     let a = c7 .args in (
       λ t g. laws.named-none (a .s .now) (a .t3 .cursor) (withOutputs (a .names .now) (a .t3) t .tables) (a .o) (c .refuse .result) _
-          (c .before .before .term-fault .ensures .0 _ 0 (laws.singletons _ _ _ (c7 .pre .1))) (c .before .if1 .taken) (g .holds) (c .refuse .ensures .0 _ (g .fits)),
+          (c .before .before .term-fault .ensures .0 _ 0 (laws.singletons _ _ _ (g .holds) (c7 .pre .1))) (c .before .if1 .taken) (g .holds) (c .refuse .ensures .0 _ (g .fits)),
       refl,
     )
 
@@ -66,7 +66,7 @@ returns-2 c =
       λ t g.
           let u = c .before .before .singleton-at .ensures .0 t (record { fits = c4 .expect .ensures .0 .fits; holds = g .holds }) in
           laws.named-some (a .s .now) (a .t3 .cursor) (withOutputs (a .names .now) (a .t3) t .tables) (a .o) _
-          (sym (c6 .if1 .left) ∙ c7 .term-fault .ensures .0 _ 0 (laws.singletons _ _ _ (h .1)))
+          (sym (c6 .if1 .left) ∙ c7 .term-fault .ensures .0 _ 0 (laws.singletons _ _ _ (g .holds) (h .1)))
           (reading.next (reading.next (reading.step _ (g .holds) (steps (c5 .advance .ensures .0) (c4 .expect .ensures .0))) u)
           (reading.step _ (u .good .holds) (c .expect2 .ensures .0))),
       c .before .before .singleton-at .ensures .1,

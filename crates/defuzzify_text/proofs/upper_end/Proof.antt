@@ -2,7 +2,7 @@ use mathlib.Core.Path.{refl, sym, _∙_}
 use native.Mathlib.Omega.{arith}
 use borrow.Author.Needs.{needs}
 use Rattle.number_tokens.proofs.Laws.{value-here}
-use Rattle.block_updates.proofs.Rows.{range-set}
+use Rattle.block_tables.proofs.Rows.{range-set}
 use Rattle.defuzzify_text.proofs.Laws as laws
 use Rattle.defuzzify_text.specs.Output.{withOutputs}
 use Rattle.defuzzify_text.proofs.upper_end.Statement.{statement}

@@ -3,14 +3,15 @@ use mathlib.Core.Path.{_≡_, refl}
 use Prim.Native.Nat.{_+_, _*_, _-_, _≤_}
 use native.Mathlib.Omega.{arith}
 use lib.ListN.{length}
+use Rattle.model.specs.Image.{ruleWidth}
 use Rattle.image.specs.Rows.{ruleWords, ruleNext, ruleRows}
-use Rattle.image.proofs.Turns.{Going, begins, goes, ends}
+use Rattle.variable_rows.proofs.Turns.{Going, begins, goes, ends}
 use Rattle.image.proofs.rule_table.Statement.{statement}
 use Rattle.image.proofs.rule_table.Tie as tie
 
 abbrev Inv-loop : tie.InvT-loop
 Inv-loop rules n out₀ at word₀ conclusion₀ p₀ i₀ out word conclusion p i =
-    (i ≤ n) × (p ≡ at + i * 6) × (length out ≡ length out₀) × Going (ruleWords rules) (ruleNext rules) (ruleRows rules n) n out₀ at i (word, conclusion) p out
+    (i ≤ n) × (p ≡ at + i * ruleWidth) × (length out ≡ length out₀) × Going (ruleWords rules) (ruleNext rules) (ruleRows rules n) n out₀ at i (word, conclusion) p out
 
 abbrev μ-loop : tie.MeasureT-loop
 μ-loop rules n out₀ at word₀ conclusion₀ p₀ i₀ out word conclusion p i = n - i

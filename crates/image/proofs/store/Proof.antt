@@ -6,13 +6,17 @@ use native.Mathlib.Omega.{arith}
 use lib.ListN.{length, getD}
 use lib.Seq.{slice}
 use Rattle.model.specs.Block.{Rule}
-use Rattle.model.specs.Image.{nameWords, words, image, endOf}
+use Rattle.model.specs.Bounds.{ruleLimit, wordLimit, conclusionLimit}
+use Rattle.model.specs.Image.{nameWords, words, image, endOf, headerSize, ruleWidth, conclusionWidth}
+use Rattle.block_tables.specs.declared.Tables.{Tables}
 use Rattle.block_tables.specs.View.{wholeView}
 use Rattle.block_tables.specs.Stored.{Stored}
+use Rattle.variable_rows.specs.declared.Slots.{Slots}
+use Rattle.variable_rows.specs.Rows.{heldIn, variableWords}
+use Rattle.variable_rows.proofs.Views.{Ordered}
 use Rattle.image.specs.declared.Counts.{Counts}
-use Rattle.image.specs.Rows.{headWords, variableWords, entriesOf}
+use Rattle.image.specs.Rows.{headWords, entriesOf}
 use Rattle.word_writer.proofs.Over.{joined, retold, from-start}
-use Rattle.image.proofs.Views.{Ordered}
 use Rattle.laws.proofs.Buffers.{too-short, stored}
 use Rattle.image.proofs.Whole.{words-are, size-is}
 use Rattle.image.proofs.store.Statement.{statement}
@@ -20,72 +24,66 @@ use Rattle.image.proofs.store.Tie as tie
 
 -- what is known once the counts are
 module _ (c : tie.After-wide) where
-  long-rules : length
-      (c .before .before .before .before .before .before .before .before .before .before .before .before .before .before .args .rules .now) ≡ 256
-  long-rules = omega (arith, c .before .before .before .before .before .before .before .before .before .before .before .rows .given)
+  abbrev start : tie.Start
+  start = c .before .before .before .before .before .before .before .before .before .before .before .before .before .before .before .before .before .before .before
 
-  long-words : length
-      (c .before .before .before .before .before .before .before .before .before .before .before .before .before .before .args .words .now) ≡ 640
-  long-words = omega (arith, c .before .before .before .before .before .before .before .before .before .before .ws .given)
+  abbrev own : Slots
+  own = c .before .before .before .before .before .before .before .before .before .before .input-slots .result
 
-  long-conclusions : length
-      (c .before .before .before .before .before .before .before .before .before .before .before .before .before .before .args .conclusions .now) ≡ 256
-  long-conclusions = omega (arith, c .before .before .before .before .before .before .before .before .before .ks .given)
+  abbrev others : Slots
+  others = c .before .before .before .before .before .before .before .before .before .output-slots .result
 
-  ordered : Ordered (c .before .before .before .before .before .before .before .before .before .before .before .before .before .before .args .t)
-      (c .before .before .before .before .before .input-slots .result) (c .before .before .before .before .output-slots .result)
+  abbrev points : ℕ
+  points = c .before .before .before .before .before .before .point-count .result
+
+  long-rules : length (start .args .rules .now) ≡ ruleLimit * 4
+  long-rules = omega (arith, c .before .before .before .before .before .before .before .before .before .before .before .before .before .before .before .before .rows .given)
+
+  long-words : length (start .args .words .now) ≡ wordLimit
+  long-words = omega (arith, c .before .before .before .before .before .before .before .before .before .before .before .before .before .before .before .ws .given)
+
+  long-conclusions : length (start .args .conclusions .now) ≡ conclusionLimit * 2
+  long-conclusions = omega (arith, c .before .before .before .before .before .before .before .before .before .before .before .before .before .before .ks .given)
+
+  ordered : Ordered (start .args .t) own others
   ordered =
-      let s = c .before .before .before .before .before .before .before .before .before .before .before .before .before .before .pre .0 in
-      let own = c .before .before .before .before .before .input-slots .ensures in
-      let list = c .before .before .before .before .output-slots .ensures in
+      let g = start .pre .0 in
+      let a = c .before .before .before .before .before .before .before .before .before .before .input-slots .ensures in
+      let b = c .before .before .before .before .before .before .before .before .before .output-slots .ensures in
       record {
-        own-few = omega (arith, own .1, s .inputCount);
-        few = omega (arith, own .1, list .1, s .inputCount, s .outputCount);
-        own-listed = own .0;
-        listed = list .0;
-        inputs = own .2;
-        outputs = list .2;
+        own-few = omega (arith, a .1, g .inputCount);
+        others-few = omega (arith, b .1, g .outputCount);
+        own-listed = a .0;
+        others-listed = b .0;
+        inputs = a .2;
+        outputs = b .2;
       }
 
-  head-is : c .before .head-words .result ≡ headWords
-      (entriesOf
-      (c .before .before .before .before .before .before .before .before .before .before .before .before .before .before .args .t .«input_count»)
-      (c .before .before .before .before .before .before .before .before .before .before .before .before .before .before .args .t .«output_count»)
-      (c .before .before .before .before .before .before .before .before .before .before .before .before .before .before .args .t .counts)
-      (c .before .before .before .before .output-slots .result)
-      (c .before .before .before .before .before .before .before .before .before .before .before .before .before .before .args .n))
-      (c .before .before .before .before .before .before .before .before .before .before .before .before .before .before .args .h)
-  head-is = c .before .head-words .ensures ∙ ap (λ (x : Counts). headWords x
-      (c .before .before .before .before .before .before .before .before .before .before .before .before .before .before .args .h))
-      (c .before .before .entries .ensures .0)
+  points-are : points ≡ heldIn (start .args .t .«input_terms») (own .at) (own .count)
+  points-are = c .before .before .before .before .before .before .point-count .ensures .0
+
+  abbrev entered : ℕ → Counts
+  entered x = entriesOf (start .args .t .«input_count») (start .args .t .«output_count») (own .count + others .count) (x + others .count) (start .args .n)
+
+  head-is : c .before .head-words .result ≡ headWords (entered (heldIn (start .args .t .«input_terms») (own .at) (own .count))) (start .args .h)
+  head-is =
+      c .before .head-words .ensures
+      ∙ ap (λ (x : Counts). headWords x (start .args .h)) (c .before .before .entries .ensures .0 ∙ ap entered points-are)
 
   extent : c .wide .result
-      ≡ 28 + variableWords
-      (c .before .before .before .before .before .before .before .before .before .before .before .before .before .before .args .t)
-      (c .before .before .before .before .output-slots .result)
-      + c .before .before .before .before .before .before .before .before .before .before .before .before .before .before .args .n .rules * 6
-      + c .before .before .before .before .before .before .before .before .before .before .before .before .before .before .args .n .words
-      + c .before .before .before .before .before .before .before .before .before .before .before .before .before .before .args .n .conclusions * 2
+      ≡ headerSize + variableWords (start .args .t) own others + start .args .n .rules * ruleWidth + start .args .n .words
+      + start .args .n .conclusions * conclusionWidth
   unfolding endOf headWords
   extent = c .wide .ensures .0 ∙ ap (λ (l : List ℕ). getD l 1 0) head-is ∙ omega arith
 
   length-is : (rs : List Rule)
-      → Stored rs
-      (c .before .before .before .before .before .before .before .before .before .before .before .before .before .before .args .rules .now)
-      (c .before .before .before .before .before .before .before .before .before .before .before .before .before .before .args .words .now)
-      (c .before .before .before .before .before .before .before .before .before .before .before .before .before .before .args .conclusions .now)
-      (c .before .before .before .before .before .before .before .before .before .before .before .before .before .before .args .n .rules)
-      (c .before .before .before .before .before .before .before .before .before .before .before .before .before .before .args .n .words)
-      (c .before .before .before .before .before .before .before .before .before .before .before .before .before .before .args .n .conclusions)
-      → length (image
-      (wholeView (c .before .before .before .before .before .before .before .before .before .before .before .before .before .before .args .s .now)
-      (c .before .before .before .before .before .before .before .before .before .before .before .before .before .before .args .t)
-      (c .before .before .before .before .before .before .before .before .before .before .before .before .before .before .args .h) rs)) ≡ c .wide .result * 4
+      → Stored rs (start .args .rules .now) (start .args .words .now) (start .args .conclusions .now) (start .args .n .rules) (start .args .n .words)
+      (start .args .n .conclusions)
+      → length (image (wholeView (start .args .s .now) (start .args .t) (start .args .h) rs)) ≡ c .wide .result * 4
   unfolding endOf
   length-is rs st =
-      let s = c .before .before .before .before .before .before .before .before .before .before .before .before .before .before in
-      let a = s .args in
-      size-is (a .s .now) (a .t) (a .h) rs (s .pre .0) (s .pre .1) _ _ ordered (a .rules .now) (a .words .now) (a .conclusions .now) _ _ _ st
+      let a = start .args in
+      size-is (a .s .now) (a .t) (a .h) rs (start .pre .1) _ _ ordered (a .rules .now) (a .words .now) (a .conclusions .now) _ _ _ st
       long-rules long-words long-conclusions
       ∙ omega (arith, extent)
 
@@ -94,6 +92,15 @@ input-slots-requires c κs = search needs
 
 output-slots-requires : tie.Need-output-slots-requires
 output-slots-requires c κs = search needs
+
+point-count-requires : tie.Need-point-count-requires
+point-count-requires c κs = search needs
+
+add-entries : tie.Need-add-entries
+add-entries c = search needs
+
+add-entries-2 : tie.Need-add-entries-2
+add-entries-2 c = search needs
 
 entries-requires : tie.Need-entries-requires
 entries-requires c κs = search needs
@@ -113,25 +120,31 @@ mul-size c = search needs
 returns : tie.Need-returns
 returns c =
     λ rs st.
-    let a = c .before .before .before .before .before .before .before .before .before .before .before .before .before .before .before .args in
-    too-short (image (wholeView (a .s .now) (a .t) (a .h) rs)) (a .out .now) (c .before .wide .result * 4) (length-is (c .before) rs st) (c .if1 .taken)
+    let b = c .before in
+    let a = start b .args in
+    too-short (image (wholeView (a .s .now) (a .t) (a .h) rs)) (a .out .now) (b .wide .result * 4) (length-is b rs st) (c .if1 .taken)
 
 header-requires : tie.Need-header-requires
 header-requires c κs =
-    let s = c .before .before .before .before .before .before .before .before .before .before .before .before .before .before .before .before in
-    (s .pre .0 .order, s .pre .0 .inside, s .pre .1, omega (arith, extent (c .before .before), c .before .if1 .left))
+    let b = c .before .before in
+    let s = start b in
+    (s .pre .0 .order, s .pre .0 .inside, s .pre .1, omega (arith, extent b, c .before .if1 .left))
 
 variables-requires : tie.Need-variables-requires
 variables-requires c κs =
-    let c3 = c .before .before .before in
-    let c5 = c3 .before .before in
-    let c6 = c5 .before in
-    let c11 = c6 .before .before .before .before .before in
-    let s = c11 .before .before .before .before .before .before .before .before .before in
-    let f = ordered c6 in
-    let own = c11 .input-slots .ensures in
-    let p = c3 .header in
-    (s .pre .0, f .listed, omega (arith, own .1, s .pre .0 .inputCount), f .few, omega (arith, extent c6, c5 .if1 .left, p .ensures .1, p .kept))
+    let b = c .before .before .before .before .before .before in
+    let s = start b in
+    let o = ordered b in
+    let p = c .before .before .before .header in (
+      s .pre .0,
+      o .own-listed,
+      o .others-listed,
+      o .own-few,
+      o .others-few,
+      points-are b,
+      omega (arith, c .before .before .before .before .before .before .before .before .before .before .before .before .point-count .ensures .1, o .own-few),
+      omega (arith, extent b, c .before .before .before .before .before .if1 .left, p .ensures .1, p .kept),
+    )
 
 rule-table-requires : tie.Need-rule-table-requires
 rule-table-requires c κs =
@@ -139,16 +152,15 @@ rule-table-requires c κs =
     let c7 = c3 .before .before .before .before in
     let c9 = c7 .before .before in
     let c10 = c9 .before in
-    let s = c10 .before .before .before .before .before .before .before .before .before .before .before .before .before .before in
+    let b = c10 in
     let p = c7 .header in
     let q = c3 .variables in
-    (omega (arith, s .pre .2, long-rules c10), omega (arith, extent c10, c9 .if1 .left, p .ensures .1, p .kept, q .ensures .1, q .kept))
+    (omega (arith, start b .pre .2 .1 .few-rules, long-rules b), omega (arith, extent b, c9 .if1 .left, p .ensures .1, p .kept, q .ensures .1, q .kept))
 
 mul-m : tie.Need-mul-m
 mul-m c =
-    let c14 = c .before .before .before .before .before .before .before .before .before .before .before .before .before .before in
-    let c28 = c14 .before .before .before .before .before .before .before .before .before .before .before .before .before .before in
-    omega (arith, c28 .pre)
+    let c33 = c .before .before .before .before .before .before .before .before .before .before .before .before .before .before .before .before .before .before .before .before .before .before .before .before .before .before .before .before .before .before .before .before .before in
+    omega (arith, c33 .pre .2 .1 .few-conclusions)
 
 copy-front-requires : tie.Need-copy-front-requires
 copy-front-requires c κs =
@@ -157,23 +169,11 @@ copy-front-requires c κs =
     let c12 = c8 .before .before .before .before in
     let c14 = c12 .before .before in
     let c15 = c14 .before in
-    let s = c15 .before .before .before .before .before .before .before .before .before .before .before .before .before .before in
+    let b = c15 in
     let p = c12 .header in
     let q = c8 .variables in
-    let r = c4 .rule-table in (
-      omega (arith, s .pre .3, long-words c15),
-      omega (
-        arith,
-        extent c15,
-        c14 .if1 .left,
-        p .ensures .1,
-        p .kept,
-        q .ensures .1,
-        q .kept,
-        r .ensures .1,
-        r .kept,
-      ),
-    )
+    let r = c4 .rule-table in
+    (omega (arith, start b .pre .2 .1 .few-words, long-words b), omega (arith, extent b, c14 .if1 .left, p .ensures .1, p .kept, q .ensures .1, q .kept, r .ensures .1, r .kept))
 
 copy-front-requires-2 : tie.Need-copy-front-requires-2
 copy-front-requires-2 c κs =
@@ -183,26 +183,12 @@ copy-front-requires-2 c κs =
     let c16 = c12 .before .before .before .before in
     let c18 = c16 .before .before in
     let c19 = c18 .before in
-    let s = c19 .before .before .before .before .before .before .before .before .before .before .before .before .before .before in
+    let b = c19 in
     let p = c16 .header in
     let q = c12 .variables in
     let r = c8 .rule-table in
-    let e = c3 .copy-front in (
-      omega (arith, s .pre .4, long-conclusions c19),
-      omega (
-        arith,
-        extent c19,
-        c18 .if1 .left,
-        p .ensures .1,
-        p .kept,
-        q .ensures .1,
-        q .kept,
-        r .ensures .1,
-        r .kept,
-        e .ensures .1,
-        e .kept,
-      ),
-    )
+    let e = c3 .copy-front in
+    (omega (arith, start b .pre .2 .1 .few-conclusions, long-conclusions b), omega (arith, extent b, c18 .if1 .left, p .ensures .1, p .kept, q .ensures .1, q .kept, r .ensures .1, r .kept, e .ensures .1, e .kept))
 
 same-length : tie.Need-same-length
 same-length c = search needs
@@ -216,29 +202,29 @@ returns-2 c =
     let c19 = c15 .before .before .before .before in
     let c21 = c19 .before .before in
     let c22 = c21 .before in
-    let s = c22 .before .before .before .before .before .before .before .before .before .before .before .before .before .before in
     λ rs st.
+    let b = c22 in
+    let s = start b in
     let a = s .args in
-    let w = c22 in
     let p = c19 .header in
     let q = c15 .variables in
     let r = c11 .rule-table in
     let e = c6 .copy-front in
     let f = c .before .before .copy-front2 in
     let room = c21 .if1 .left in
-    let x = extent w in
-    let b = wholeView (a .s .now) (a .t) (a .h) rs in
+    let x = extent b in
+    let v = wholeView (a .s .now) (a .t) (a .h) rs in
     let named = nameWords (slice (a .t .start) (a .t .end) (a .s .now)) ++ nameWords (slice (a .h .start) (a .h .end) (a .s .now)) in
     let all =
-    joined (omega (arith, x, room, p .ensures .1)) (retold (ap (λ (l : List ℕ). l ++ named) (head-is w)) (p .ensures .0))
+    joined (omega (arith, x, room, p .ensures .1)) (retold (ap (λ (l : List ℕ). l ++ named) (head-is b)) (p .ensures .0))
     (joined (omega (arith, x, room, p .ensures .1, p .kept, q .ensures .1)) (q .ensures .0)
     (joined (omega (arith, x, room, p .ensures .1, p .kept, q .ensures .1, q .kept, r .ensures .1)) (r .ensures .0)
     (joined (omega (arith, x, room, p .ensures .1, p .kept, q .ensures .1, q .kept, r .ensures .1, r .kept, e .ensures .1)) (e .ensures .0) (f .ensures .0))))
     in
-    let is = words-are (a .s .now) (a .t) (a .h) rs (s .pre .0) (s .pre .1) _ _ (ordered w) (a .rules .now) (a .words .now) (a .conclusions .now) _ _
-    _ st (long-rules w) (long-words w) (long-conclusions w) in
-    stored (image b) (a .out .now) (w .wide .result * 4) (length-is w rs st) (f .last .1 .1 .0) room
-    (from-start (f .result) (w .wide .result * 4) (words b) (a .out .now) (f .last .1 .1 .0) (retold (sym is) all) (length-is w rs st))
+    let is = words-are (a .s .now) (a .t) (a .h) rs (s .pre .1) _ _ (ordered b) (a .rules .now) (a .words .now) (a .conclusions .now) _ _
+    _ st (long-rules b) (long-words b) (long-conclusions b) in
+    stored (image v) (a .out .now) (b .wide .result * 4) (length-is b rs st) (f .last .1 .1 .0) room
+    (from-start (f .result) (b .wide .result * 4) (words v) (a .out .now) (f .last .1 .1 .0) (retold (sym is) all) (length-is b rs st))
 
 pub store-spec : {M : Type 1} → statement M
 store-spec =
@@ -246,6 +232,9 @@ store-spec =
     (tie.spec
     input-slots-requires
     output-slots-requires
+    point-count-requires
+    add-entries
+    add-entries-2
     entries-requires
     head-words-requires
     array-read-wide

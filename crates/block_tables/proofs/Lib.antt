@@ -1,0 +1,10 @@
+pub mod Fields
+pub mod Tabs
+pub mod Views
+pub mod Index
+pub mod Inputs
+pub mod Types
+pub mod Outputs
+pub mod Rows
+pub mod Singletons
+pub mod Lookups

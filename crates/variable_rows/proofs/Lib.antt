@@ -1,0 +1,4 @@
+pub mod Turns
+pub mod Signed
+pub mod Lists
+pub mod Views
