@@ -60,7 +60,8 @@ module _ {A : Type 0} (start end : A → ℕ) (d : A) (q : ℕ → ℕ) (n : ℕ
             (w .0 ∙ ap start g, w .1 ∙ ap end g)
 
         by : (t : Bool) → eqb j k ≡ t → Stands (put names (q k) (start v) (end v)) (q j) (start (getD (set l k v) j d)) (end (getD (set l k v) j d))
-        by true f = subst (λ (i : ℕ). Stands (put names (q k) (start v) (end v)) (q i) (start (getD (set l k v) i d)) (end (getD (set l k v) i d))) (sym (eqb-true j k f)) at-k
+        by true f = subst (λ (i : ℕ). Stands (put names (q k) (start v) (end v)) (q i) (start (getD (set l k v) i d)) (end (getD (set l k v) i d)))
+            (sym (eqb-true j k f)) at-k
         by false f =
             let o = eqb-false j k f in
             let w = stands-other names (q k) (start v) (end v) (low k h) (q j) _ _ (low j b) (λ x. o (c j x)) (r j b) in

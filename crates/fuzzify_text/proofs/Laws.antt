@@ -134,7 +134,8 @@ module _ (p : Shape) where
     unfolding mayStand
     ends-more last e =
         let at : List block.Point → List ℤ = map (λ v. v .at) in
-        let m : at (pointsRead (longer d q)) ≡ at (pointsRead p) ++ (q .at .0 ∷ []) = ap at read-more ∙ map-append (λ v. v .at) (pointsRead p) (pointOf q ∷ []) in
+        let m : at (pointsRead (longer d q)) ≡ at (pointsRead p) ++ (q .at .0 ∷ []) =
+        ap at read-more ∙ map-append (λ v. v .at) (pointsRead p) (pointOf q ∷ []) in
         record {
           count = points-count (longer d q);
           may = λ x. ap (λ (l : List ℤ). mayFollow l x) m ∙ e .more (q .at .0) x;
@@ -401,7 +402,8 @@ module _ (s names : List ℕ) (i n : ℕ) (b : Block) (t : Terms s names i n b) 
   unfolding termName
   name-bad w f h q = q .reads b 0 ∙ sym (judged-bad (seen s c b 0) _ w (aName (seen s c b 0) []) _ (sym f) h)
 
-  module _ (f : 0 ≡ fault (aName (seen s c b 0) [])) (j : ℕ) (e : j ≡ indexOf (sameName (textOf s c)) (tab (nameOf s names) n (variableLimit + i * termLimit))) where
+  module _ (f : 0 ≡ fault (aName (seen s c b 0) [])) (j : ℕ)
+      (e : j ≡ indexOf (sameName (textOf s c)) (tab (nameOf s names) n (variableLimit + i * termLimit))) where
     found : isTerm i (text (seen s c b 0)) (seen s c b 0 .block) ≡ ltb j n
     found = simp (text-seen, block-seen, t .count, t .found) (ap (λ (k : ℕ). ltb k n) (sym e))
 

@@ -7,6 +7,7 @@ use lib.ListN.{length, getD, take, drop}
 use lib.Seq.{drop-cons, length-take-le}
 use Rattle.layout.proofs.Whole.{length-conditions}
 use Rattle.model.specs.Basic.{gather, total}
+use Rattle.model.specs.Bounds.{ruleLimit, wordLimit, conclusionLimit}
 use Rattle.model.specs.Block.{Rule, size}
 use Rattle.model.specs.Image.{ruleTable}
 use Rattle.laws.proofs.Conditions.{length-pairs}
@@ -63,8 +64,8 @@ kept rules (r ∷ rs) (suc m) i n k h e a b =
       many = ap suc (rest .many);
     }
 
-module _ (rs : List Rule) (rules ws ks : List ℕ) (m n k : ℕ) (h : Stored rs rules ws ks m n k) (wide : length rules ≡ 256) (long : length ws ≡ 640)
-    (full : length ks ≡ 256) where
+module _ (rs : List Rule) (rules ws ks : List ℕ) (m n k : ℕ) (h : Stored rs rules ws ks m n k) (wide : length rules ≡ ruleLimit * 4) (long : length ws ≡ wordLimit)
+    (full : length ks ≡ conclusionLimit * 2) where
   pub words-count : total (λ r. size (r .condition)) rs ≡ n
   words-count = sym (length-conditions rs) ∙ ap length (sym (h .words)) ∙ length-take-le n ws (omega (arith, h .few-words))
 

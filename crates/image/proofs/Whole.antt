@@ -6,6 +6,7 @@ use native.Mathlib.Omega.{arith}
 use lib.ListN.{length, take, length-append}
 use lib.Seq.{slice}
 use Rattle.model.specs.Basic.{gather}
+use Rattle.model.specs.Bounds.{ruleLimit, wordLimit, conclusionLimit}
 use Rattle.model.specs.Block.{Block, Rule, conclusions}
 use Rattle.model.specs.Block as block
 use Rattle.model.specs.Image.{terms, points, pairWord, pairOf, accuWord, accuOf, actWord, actOf, nameWords, inputTable, outputTable, termTable, pointWords, ruleTable, postfix, conclusionWords, counts, widths, offsets, endOf, headerSize, header, words, image}
@@ -62,7 +63,7 @@ module _ (b : Block) where
 
 -- THE WHOLE
 module _ (s : List ℕ) (t : Tables) (h : Heading) (rs : List Rule) (head : Headed s h) (own others : Slots) (order : Ordered t own others)
-    (rules ws ks : List ℕ) (m n k : ℕ) (kept : Stored rs rules ws ks m n k) (wide : length rules ≡ 256) (long : length ws ≡ 640) (full : length ks ≡ 256) where
+    (rules ws ks : List ℕ) (m n k : ℕ) (kept : Stored rs rules ws ks m n k) (wide : length rules ≡ ruleLimit * 4) (long : length ws ≡ wordLimit) (full : length ks ≡ conclusionLimit * 2) where
   abbrev pub whole : Counts
   whole = record {
     inputs = t .«input_count»;

@@ -219,7 +219,8 @@ module _ (t : Tables) (w : List ℕ) (e : w ≡ symbolsIn t) where
                 lookups.singleton-of s t b bo g x o k ∙ ap (λ (n : ℕ). among s (t .names) x n (variableLimit + (inputLimit + o) * termLimit))
                 (sym (count-is (inputLimit + o) (omega arith) ∙ output-terms o k));
             inputFirst = λ i h. let k : i < t .«input_count» = omega (arith, inputs-are) in input-firsts i k ∙ sym (first-is i (omega arith));
-            outputFirst = λ o h. let k : o < t .«output_count» = omega (arith, outputs-are) in output-firsts o k ∙ sym (first-is (inputLimit + o) (omega arith));
+            outputFirst = λ o h. let k : o < t .«output_count» = omega (arith, outputs-are) in
+                output-firsts o k ∙ sym (first-is (inputLimit + o) (omega arith));
           }
 
 pub rows-in : (t : Tables) (i : ℕ) → i < inputLimit → termsAt t i ≡ (if ltb i (t .«input_count») then inputRow t i .terms else 0)

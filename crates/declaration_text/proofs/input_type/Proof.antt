@@ -34,7 +34,8 @@ returns-2 c =
     let c5 = c .before .before .before .before .before in
     let a = c5 .args in
     λ m names t g.
-    laws.type-real (a .s .now) (a .p .cursor) (withInputs m names (a .p) t .tables) (c .expect .result) (a .n) (g .holds) (c .before .if1 .left) (c .expect .ensures .0)
+    laws.type-real (a .s .now) (a .p .cursor) (withInputs m names (a .p) t .tables) (c .expect .result) (a .n) (g .holds)
+    (c .before .if1 .left) (c .expect .ensures .0)
 
 pub input-type-spec : {M : Type 1} → statement M
 input-type-spec =

@@ -16,8 +16,8 @@ returns : tie.Need-returns
 returns c =
     let c5 = c .before .before .before .before .before in
     let a = c5 .args in (
-      λ t g. laws.part-none (a .s .now) (a .t3 .cursor) (withOutputs (a .names .now) (a .t3) t .tables) (c .refuse .result) _ (c .before .before .name-fault .ensures .0 _ (g .fits) _ 0)
-          (c .before .if1 .taken) (g .holds) (c .refuse .ensures .0 _ (g .fits)),
+      λ t g. laws.part-none (a .s .now) (a .t3 .cursor) (withOutputs (a .names .now) (a .t3) t .tables) (c .refuse .result) _
+          (c .before .before .name-fault .ensures .0 _ (g .fits) _ 0) (c .before .if1 .taken) (g .holds) (c .refuse .ensures .0 _ (g .fits)),
       refl,
     )
 
@@ -38,8 +38,10 @@ returns-2 c =
     let c8 = c5 .before .before .before in
     let a = c8 .args in (
       λ t g.
-          laws.part-unknown (a .s .now) (a .t3 .cursor) (withOutputs (a .names .now) (a .t3) t .tables) (sym (c4 .if1 .left) ∙ c5 .name-fault .ensures .0 _ (g .fits) _ 0) _
-          (laws.output-found _ _ _ _ (g .holds) (c .before .before .find .ensures .0)) (c .refuse2 .result) (c .before .if2 .taken) (g .holds) (c .refuse2 .ensures .0 _ (g .fits)),
+          laws.part-unknown (a .s .now) (a .t3 .cursor) (withOutputs (a .names .now) (a .t3) t .tables)
+          (sym (c4 .if1 .left) ∙ c5 .name-fault .ensures .0 _ (g .fits) _ 0) _
+          (laws.output-found _ _ _ _ (g .holds) (c .before .before .find .ensures .0)) (c .refuse2 .result) (c .before .if2 .taken) (g .holds)
+          (c .refuse2 .ensures .0 _ (g .fits)),
       refl,
     )
 
@@ -63,7 +65,8 @@ returns-3 c =
     let c11 = c8 .before .before .before in
     let a = c11 .args in (
       λ t g.
-          laws.part-again (a .s .now) (a .t3 .cursor) (withOutputs (a .names .now) (a .t3) t .tables) (sym (c7 .if1 .left) ∙ c8 .name-fault .ensures .0 _ (g .fits) _ 0) _
+          laws.part-again (a .s .now) (a .t3 .cursor) (withOutputs (a .names .now) (a .t3) t .tables)
+          (sym (c7 .if1 .left) ∙ c8 .name-fault .ensures .0 _ (g .fits) _ 0) _
           (laws.output-found _ _ _ _ (g .holds) (c5 .find .ensures .0)) (c .refuse3 .result) (c4 .if2 .left) (c .before .if3 .taken) (g .holds)
           (c .refuse3 .ensures .0 _ (g .fits)),
       refl,
@@ -94,7 +97,8 @@ returns-4 c =
     let a = c13 .args in (
       λ t g.
           laws.part-read (a .s .now) (a .t3 .cursor) (withOutputs (a .names .now) (a .t3) t .tables)
-          (sym (c9 .if1 .left) ∙ c10 .name-fault .ensures .0 _ (g .fits) _ 0) _ (laws.output-found _ _ _ _ (g .holds) (c7 .find .ensures .0)) (c .before .before .advance .result) _
+          (sym (c9 .if1 .left) ∙ c10 .name-fault .ensures .0 _ (g .fits) _ 0) _ (laws.output-found _ _ _ _ (g .holds) (c7 .find .ensures .0))
+          (c .before .before .advance .result) _
           (c6 .if2 .left) (c3 .if3 .left) (g .holds) (c .before .before .advance .ensures .0)
           (c .output-part .ensures .0 t (record { fits = c .before .before .advance .ensures .0 .fits; holds = g .holds })),
       c .output-part .ensures .1,

@@ -29,7 +29,8 @@ returns c =
     let c7 = c .before .before .before .before .before .before .before in
     let a = c7 .args in (
       λ t g. laws.named-none (a .s .now) (a .t3 .cursor) (withOutputs (a .names .now) (a .t3) t .tables) (a .o) (c .refuse .result) _
-          (c .before .before .term-fault .ensures .0 _ 0 (laws.singletons _ _ _ (g .holds) (c7 .pre .1))) (c .before .if1 .taken) (g .holds) (c .refuse .ensures .0 _ (g .fits)),
+          (c .before .before .term-fault .ensures .0 _ 0 (laws.singletons _ _ _ (g .holds) (c7 .pre .1))) (c .before .if1 .taken)
+          (g .holds) (c .refuse .ensures .0 _ (g .fits)),
       refl,
     )
 
@@ -45,7 +46,8 @@ singleton-at-requires : tie.Need-singleton-at-requires
 singleton-at-requires c κs =
     let c9 = c .before .before .before .before .before .before .before .before .before in
     let r = c9 .pre .0 in
-    (record { tables = r .tables; good = record { fits = c .before .expect .ensures .0 .fits; holds = r .good .holds } }, c9 .pre .1, c9 .pre .2, r .good .fits .order, r .good .fits .inside)
+    let f = r .good .fits in
+    (record { tables = r .tables; good = record { fits = c .before .expect .ensures .0 .fits; holds = r .good .holds } }, c9 .pre .1, c9 .pre .2, f .order, f .inside)
 
 expect-requires-2 : tie.Need-expect-requires-2
 expect-requires-2 c κs =

@@ -18,7 +18,8 @@ returns : tie.Need-returns
 returns c =
     let c5 = c .before .before .before .before .before in
     let a = c5 .args in (
-      λ names t g. laws.upper-none (a .s .now) (a .t2 .cursor) (c .refuse .result) (withOutputs names (a .t2) t .tables) (a .o) (a .x .0) _ (c .before .before .crisp-here .ensures .0 _ 0)
+      λ names t g. laws.upper-none (a .s .now) (a .t2 .cursor) (c .refuse .result) (withOutputs names (a .t2) t .tables) (a .o) (a .x .0) _
+          (c .before .before .crisp-here .ensures .0 _ 0)
           (c .before .if1 .taken) (g .holds) (c .refuse .ensures .0 _ (g .fits)),
       refl,
     )

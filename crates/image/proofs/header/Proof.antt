@@ -37,7 +37,8 @@ same-length c = search needs
 returns : tie.Need-returns
 unfolding nameWords
 returns c =
-    let b = c .before .before .before .before .before .before .before .before .before .before .before .before .before .before .before .before .before .before .before in
+    let b9 = c .before .before .before .before .before .before .before .before .before in
+    let b = b9 .before .before .before .before .before .before .before .before .before .before in
     let a = b .args in
     let first : length (a .t2) ≡ BLOCK-NAME = omega (arith, b .good) in
     let x = c .before .before .before .before .before .before .before .before .before .before .before .name-words in

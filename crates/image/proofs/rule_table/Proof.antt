@@ -11,7 +11,8 @@ use Rattle.image.proofs.rule_table.Tie as tie
 
 abbrev Inv-loop : tie.InvT-loop
 Inv-loop rules n out₀ at word₀ conclusion₀ p₀ i₀ out word conclusion p i =
-    (i ≤ n) × (p ≡ at + i * ruleWidth) × (length out ≡ length out₀) × Going (ruleWords rules) (ruleNext rules) (ruleRows rules n) n out₀ at i (word, conclusion) p out
+    (i ≤ n) × (p ≡ at + i * ruleWidth) × (length out ≡ length out₀)
+    × Going (ruleWords rules) (ruleNext rules) (ruleRows rules n) n out₀ at i (word, conclusion) p out
 
 abbrev μ-loop : tie.MeasureT-loop
 μ-loop rules n out₀ at word₀ conclusion₀ p₀ i₀ out word conclusion p i = n - i

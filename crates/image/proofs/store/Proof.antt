@@ -25,7 +25,7 @@ use Rattle.image.proofs.store.Tie as tie
 -- what is known once the counts are
 module _ (c : tie.After-wide) where
   abbrev start : tie.Start
-  start = c .before .before .before .before .before .before .before .before .before .before .before .before .before .before .before .before .before .before .before
+  start = let b = c .before .before .before .before .before .before .before .before .before in b .before .before .before .before .before .before .before .before .before .before
 
   abbrev own : Slots
   own = c .before .before .before .before .before .before .before .before .before .before .input-slots .result
@@ -37,10 +37,10 @@ module _ (c : tie.After-wide) where
   points = c .before .before .before .before .before .before .point-count .result
 
   long-rules : length (start .args .rules .now) ≡ ruleLimit * 4
-  long-rules = omega (arith, c .before .before .before .before .before .before .before .before .before .before .before .before .before .before .before .before .rows .given)
+  long-rules = let b = c .before .before .before .before .before .before .before .before in omega (arith, b .before .before .before .before .before .before .before .before .rows .given)
 
   long-words : length (start .args .words .now) ≡ wordLimit
-  long-words = omega (arith, c .before .before .before .before .before .before .before .before .before .before .before .before .before .before .before .ws .given)
+  long-words = let b = c .before .before .before .before .before .before .before .before in omega (arith, b .before .before .before .before .before .before .before .ws .given)
 
   long-conclusions : length (start .args .conclusions .now) ≡ conclusionLimit * 2
   long-conclusions = omega (arith, c .before .before .before .before .before .before .before .before .before .before .before .before .before .before .ks .given)
@@ -159,7 +159,8 @@ rule-table-requires c κs =
 
 mul-m : tie.Need-mul-m
 mul-m c =
-    let c33 = c .before .before .before .before .before .before .before .before .before .before .before .before .before .before .before .before .before .before .before .before .before .before .before .before .before .before .before .before .before .before .before .before .before in
+    let c16 = c .before .before .before .before .before .before .before .before .before .before .before .before .before .before .before .before in
+    let c33 = c16 .before .before .before .before .before .before .before .before .before .before .before .before .before .before .before .before .before in
     omega (arith, c33 .pre .2 .1 .few-conclusions)
 
 copy-front-requires : tie.Need-copy-front-requires
@@ -172,8 +173,10 @@ copy-front-requires c κs =
     let b = c15 in
     let p = c12 .header in
     let q = c8 .variables in
-    let r = c4 .rule-table in
-    (omega (arith, start b .pre .2 .1 .few-words, long-words b), omega (arith, extent b, c14 .if1 .left, p .ensures .1, p .kept, q .ensures .1, q .kept, r .ensures .1, r .kept))
+    let r = c4 .rule-table in (
+      omega (arith, start b .pre .2 .1 .few-words, long-words b),
+      omega (arith, extent b, c14 .if1 .left, p .ensures .1, p .kept, q .ensures .1, q .kept, r .ensures .1, r .kept),
+    )
 
 copy-front-requires-2 : tie.Need-copy-front-requires-2
 copy-front-requires-2 c κs =
@@ -187,8 +190,10 @@ copy-front-requires-2 c κs =
     let p = c16 .header in
     let q = c12 .variables in
     let r = c8 .rule-table in
-    let e = c3 .copy-front in
-    (omega (arith, start b .pre .2 .1 .few-conclusions, long-conclusions b), omega (arith, extent b, c18 .if1 .left, p .ensures .1, p .kept, q .ensures .1, q .kept, r .ensures .1, r .kept, e .ensures .1, e .kept))
+    let e = c3 .copy-front in (
+      omega (arith, start b .pre .2 .1 .few-conclusions, long-conclusions b),
+      omega (arith, extent b, c18 .if1 .left, p .ensures .1, p .kept, q .ensures .1, q .kept, r .ensures .1, r .kept, e .ensures .1, e .kept),
+    )
 
 same-length : tie.Need-same-length
 same-length c = search needs

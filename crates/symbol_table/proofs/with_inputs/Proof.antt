@@ -14,7 +14,8 @@ use Rattle.symbol_table.proofs.with_inputs.Statement.{statement}
 use Rattle.symbol_table.proofs.with_inputs.Tie as tie
 
 abbrev Inv-loop : tie.InvT-loop
-Inv-loop n rows r₀ i₀ r i = (i ≤ inputLimit) × (length r ≡ laws.symbolCount) × (getD r i 0 ≤ i * termLimit) × ((k : ℕ) → getD rows k no-input .terms ≤ termLimit)
+Inv-loop n rows r₀ i₀ r i = (i ≤ inputLimit) × (length r ≡ laws.symbolCount) × (getD r i 0 ≤ i * termLimit)
+    × ((k : ℕ) → getD rows k no-input .terms ≤ termLimit)
     × ((c : ℕ → ℕ) → ((i : ℕ) → i < inputLimit → c i ≡ (if ltb i n then getD rows i no-input .terms else 0)) → Firsts c i r)
 
 abbrev μ-loop : tie.MeasureT-loop

@@ -13,8 +13,10 @@ use Rattle.symbol_table.proofs.with_outputs.Statement.{statement}
 use Rattle.symbol_table.proofs.with_outputs.Tie as tie
 
 abbrev Inv-loop : tie.InvT-loop
-Inv-loop n rows r₀ i₀ r i = (i ≤ outputLimit) × (length r ≡ laws.symbolCount) × (getD r (inputLimit + i) 0 ≤ inputTermLimit + i * termLimit) × ((k : ℕ) → getD rows k no-output .terms ≤ termLimit)
-    × ((c : ℕ → ℕ) → Firsts c inputLimit r₀ → ((i : ℕ) → i < outputLimit → c (inputLimit + i) ≡ (if ltb i n then getD rows i no-output .terms else 0)) → Firsts c (inputLimit + i) r)
+Inv-loop n rows r₀ i₀ r i = (i ≤ outputLimit) × (length r ≡ laws.symbolCount) × (getD r (inputLimit + i) 0 ≤ inputTermLimit + i * termLimit)
+    × ((k : ℕ) → getD rows k no-output .terms ≤ termLimit)
+    × ((c : ℕ → ℕ) → Firsts c inputLimit r₀
+    → ((i : ℕ) → i < outputLimit → c (inputLimit + i) ≡ (if ltb i n then getD rows i no-output .terms else 0)) → Firsts c (inputLimit + i) r)
 
 abbrev μ-loop : tie.MeasureT-loop
 μ-loop n rows r₀ i₀ r i = outputLimit - i

@@ -71,8 +71,11 @@ returns : tie.Need-returns Inv-loop μ-loop
 returns c =
     let c3 = c .before .before .before in
     let a = c3 .args in
-    let l = c .before .loop in
-    (ends (λ σ k. crispWord (getD (a .t1) (getD (a .slots .now) k 0) no-singleton .at .0) ∷ M ∷ []) onward _ _ _ _ (l .i) tt (l .p) (l .out) (search needs) (l .inv .3), omega arith)
+    let l = c .before .loop in (
+      ends (λ σ k. crispWord (getD (a .t1) (getD (a .slots .now) k 0) no-singleton .at .0) ∷ M ∷ []) onward _ _ _ _ (l .i) tt (l .p) (l .out)
+          (search needs) (l .inv .3),
+      omega arith,
+    )
 
 pub singleton-points-spec : {M : Type 1} → statement M
 singleton-points-spec =

@@ -16,7 +16,8 @@ use Rattle.variable_rows.proofs.term_table.Tie as tie
 abbrev Inv-loop : tie.InvT-loop
 Inv-loop s slots n out₀ at terms first₀ p₀ i₀ out first p i =
     (i ≤ n) × (first ≤ i * pointLimit) × (p ≡ at + i * termWidth) × (length out ≡ length out₀)
-    × Going (λ m k. termWords s (getD terms (getD slots k 0) no-term) m) (λ m k. m + termSize terms (getD slots k 0)) (termRows s terms slots n) n out₀ at i first p out
+    × Going (λ m k. termWords s (getD terms (getD slots k 0) no-term) m) (λ m k. m + termSize terms (getD slots k 0)) (termRows s terms slots n) n out₀
+    at i first p out
 
 abbrev μ-loop : tie.MeasureT-loop
 μ-loop s slots n out₀ at terms first₀ p₀ i₀ out first p i = n - i

@@ -73,8 +73,11 @@ singleton-points-requires c κs =
     let q = c19 .output-table in
     let r = c14 .term-table in
     let e = c9 .singleton-table in
-    let f = c4 .point-table in
-    (h .4, h .2 .below, omega (arith, h, p .ensures .1, p .kept, q .ensures .1, q .kept, r .ensures .1, r .kept, e .ensures .1, e .kept, f .ensures .1, f .kept))
+    let f = c4 .point-table in (
+      h .4,
+      h .2 .below,
+      omega (arith, h, p .ensures .1, p .kept, q .ensures .1, q .kept, r .ensures .1, r .kept, e .ensures .1, e .kept, f .ensures .1, f .kept),
+    )
 
 same-length : tie.Need-same-length
 same-length c =
@@ -116,7 +119,8 @@ returns c =
           (joined (omega (arith, h, p .ensures .1, p .kept, q .ensures .1)) (q .ensures .0)
           (joined (omega (arith, h, p .ensures .1, p .kept, q .ensures .1, q .kept, r .ensures .1)) (r .ensures .0)
           (joined (omega (arith, h, p .ensures .1, p .kept, q .ensures .1, q .kept, r .ensures .1, r .kept, e .ensures .1)) singles
-          (joined (omega (arith, h, p .ensures .1, p .kept, q .ensures .1, q .kept, r .ensures .1, r .kept, e .ensures .1, e .kept, f .ensures .1)) (f .ensures .0) (i .ensures .0))))),
+          (joined (omega (arith, h, p .ensures .1, p .kept, q .ensures .1, q .kept, r .ensures .1, r .kept, e .ensures .1, e .kept, f .ensures .1)) (f .ensures .0)
+          (i .ensures .0))))),
       omega (arith, p .ensures .1, q .ensures .1, r .ensures .1, e .ensures .1, f .ensures .1, i .ensures .1),
     )
 
