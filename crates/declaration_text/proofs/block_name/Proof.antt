@@ -39,7 +39,7 @@ returns-2 c =
     let e = c4 .name-fault .ensures in
     let z = c3 .if1 .left in
     laws.name-good (a .s .now) (a .p .cursor) (a .p .tables) (c .advance .result) (c .before .set-name .result) (sym z ∙ e .0 _ (g .fits) _ 0)
-    (g .fits) (λ q. omega (arith, e .1 z))
+    (g .fits) (λ q. omega (arith, e .1 .0 z))
     (rw (c .before .set-name .ensures) (is-named (a .s .now) (a .p .tables) _ _ (g .holds) (g .fits .order) (g .fits .inside))) (c .advance .ensures .0)
 
 pub block-name-spec : {M : Type 1} → statement M

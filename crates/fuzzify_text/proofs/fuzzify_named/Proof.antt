@@ -65,7 +65,7 @@ returns-3 c =
 advance-requires : tie.Need-advance-requires
 advance-requires c κs =
     let c6 = c .before .before .before .before .before .before in
-    (c6 .before .before .before .before .pre .good .fits, λ q. omega (arith, c6 .before .name-fault .ensures .1 (c6 .if1 .left)))
+    (c6 .before .before .before .before .pre .good .fits, λ q. omega (arith, c6 .before .name-fault .ensures .1 .0 (c6 .if1 .left)))
 
 input-terms-requires : tie.Need-input-terms-requires
 input-terms-requires c κs =

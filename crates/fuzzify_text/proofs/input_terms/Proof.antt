@@ -33,7 +33,7 @@ returns : tie.Need-returns Inv-loop μ-loop
 returns c =
     let a = c .before .before .before .before .before .args in (
       λ t g. laws.terms-none (a .s .now) (a .p .cursor) (inputsIn (a .names .now) (a .p) t .tables) (c .refuse .result) (a .i) (g .holds)
-          (c .before .if1 .taken) (c .refuse .ensures .1 .1) (c .refuse .ensures .0 _ (g .fits)),
+          (c .before .if1 .taken) (c .refuse .ensures .1 .1 .0) (c .refuse .ensures .0 _ (g .fits)),
       refl,
     )
 
