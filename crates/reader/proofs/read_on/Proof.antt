@@ -51,7 +51,6 @@ back-requires c κs = c .before .before .before .rules2 .ensures .1 .fits
 refusal-of-requires : tie.Need-refusal-of-requires
 refusal-of-requires c κs =
     let c3 = c .before .before .before in
-    let c3 = c3 in
     let c6 = c3 .before .before .before in
     let c14 = c6 .before .before .before .before .before .before .before .before in
     let c16 = c14 .before .before in
@@ -73,7 +72,6 @@ refusal-of-requires c κs =
 returns : tie.Need-returns
 returns c =
     let c3 = c .before .before .before in
-    let c3 = c3 in
     let c4 = c3 .before in
     let c7 = c4 .before .before .before in
     let c15 = c7 .before .before .before .before .before .before .before .before in
@@ -100,7 +98,6 @@ store-requires c κs =
     let c6 = c .before .before .before .before .before .before in
     let c8 = c6 .before .before in
     let c12 = c8 .before .before .before .before in
-    let c12 = c12 in
     let c20 = c12 .before .before .before .before .before .before .before .before in
     let c22 = c20 .before .before in
     let c26 = c22 .before .before .before .before in
@@ -111,7 +108,7 @@ store-requires c κs =
     let b = headed s h (blockView s t) in
     let k = describes _ _ (c22 .symbols-of .ensures) s g b (laws.inputs-headed s t h) (laws.outputs-headed s t h) in
     let G = c12 .rules2 .ensures .0 b k (laws.kept-none s t h _ _ _ refl refl refl) in
-    (g, c20 .rule-heading .ensures .1 .2, (G .rules, G .kept (c8 .back .ensures .1 (c6 .if1 .left)) .stored))
+    (g, c20 .rule-heading .ensures .1 .2, (G .rules, G .kept (c8 .back .ensures .sticky (c6 .if1 .left)) .stored))
 
 same-length : tie.Need-same-length
 same-length c = search needs
@@ -119,7 +116,6 @@ same-length c = search needs
 returns-2 : tie.Need-returns-2
 returns-2 c =
     let c9 = c .before .before .before .before .before .before .before .before .before in
-    let c9 = c9 in
     let c11 = c9 .before .before in
     let c12 = c11 .before in
     let c15 = c12 .before .before .before in
