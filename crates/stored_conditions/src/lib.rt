@@ -37,13 +37,15 @@ pub const ROOM: usize = 2 * DEPTH + 3;
 // A subtree is kept as one number, its shape: FORMS times the parentheses open at once in it, and its form.
 const FORMS: u8 = 8;
 
+// As a constant, so that the quotient is a shift.
+const WIDE_FORMS: usize = FORMS as usize;
+
 // l: the loosest form that stands bare; a looser one carries into the depth.
 fn opening(l: u8, shape: u8) -> usize
     requires { ⌜ l ≤ 4 ⌝ }
     ensures { λ r. ⌜ r ≡ opened l (formOf shape) (depthOf shape) ⌝ }
 {
-    let forms = FORMS as usize;
-    (shape as usize + forms - 1 - l as usize) / forms
+    (shape as usize + WIDE_FORMS - 1 - l as usize) / WIDE_FORMS
 }
 
 fn negated_form(form: u8) -> u8

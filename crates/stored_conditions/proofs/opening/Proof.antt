@@ -3,9 +3,6 @@ use Rattle.stored_conditions.proofs.Steps as laws
 use Rattle.stored_conditions.proofs.opening.Statement.{statement}
 use Rattle.stored_conditions.proofs.opening.Tie as tie
 
-cast-forms : tie.Need-cast-forms
-cast-forms c = search needs
-
 add-result : tie.Need-add-result
 add-result c = search needs
 
@@ -15,11 +12,8 @@ sub-result c = search needs
 sub-result-2 : tie.Need-sub-result-2
 sub-result-2 c = search needs
 
-div-result : tie.Need-div-result
-div-result c = search needs
-
 returns : tie.Need-returns
 returns c = laws.opening-is _ _ (c .pre)
 
 pub opening-spec : {M : Type 1} → statement M
-opening-spec = tie.close (tie.spec cast-forms add-result sub-result sub-result-2 div-result returns)
+opening-spec = tie.close (tie.spec add-result sub-result sub-result-2 returns)
