@@ -13,7 +13,7 @@ use Rattle.model.specs.Basic.{indexOf, capital, tab}
 use Rattle.model.specs.Bounds.{symbolLimit}
 use Rattle.model.specs.Tokens.{sameName}
 use Rattle.laws.proofs.Words.{other-word}
-use Rattle.lookup.specs.Names.{nameOf, Placed}
+use Rattle.lookup.specs.Names.{Placed}
 
 -- NAMES OF DIFFERENT LENGTHS, AND BYTE BY BYTE
 module _ (s : List ℕ) (a e b f : ℕ) (he : e ≤ length s) (hf : f ≤ length s) where
@@ -84,14 +84,6 @@ module _ (s names : List ℕ) (k a e : ℕ) where
 
   place-other : (j : ℕ) → (j ≡ k → ⊥) → (j ≡ symbolLimit + k → ⊥) → getD changed j 0 ≡ getD names j 0
   place-other j p q = getD-set-other (set names k a) (symbolLimit + k) j e 0 q ∙ getD-set-other names k j a 0 p
-
-  pub name-same : k < symbolLimit → length names ≡ symbolLimit + symbolLimit → nameOf s (set (set names k a) (symbolLimit + k) e) k ≡ slice a e s
-  unfolding nameOf
-  name-same h n = rw (start-same h n, end-same h n)
-
-  pub name-other : (j : ℕ) → (j ≡ k → ⊥) → j < symbolLimit → k < symbolLimit → nameOf s (set (set names k a) (symbolLimit + k) e) j ≡ nameOf s names j
-  unfolding nameOf
-  name-other j q hj hk = rw (place-other j q (λ z. omega arith), place-other (symbolLimit + j) (λ z. omega arith) (λ z. q (omega arith)))
 
   pub placed-set : k < symbolLimit → length names ≡ symbolLimit + symbolLimit → a ≤ e → e ≤ length s → Placed s names → Placed s (set (set names k a) (symbolLimit + k) e)
   placed-set hk n ae es p = record {
