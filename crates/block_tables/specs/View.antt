@@ -21,7 +21,7 @@ use Rattle.model.specs.declared.Crisp.{Crisp}
 use Rattle.lookup.specs.Names.{Placed}
 use Rattle.block_tables.specs.declared.Input.{Input}
 use Rattle.block_tables.specs.declared.Output.{Output}
-use Rattle.block_tables.specs.declared.Point.{Point}
+use Rattle.model.specs.declared.Point.{Point}
 use Rattle.block_tables.specs.declared.Term.{Term}
 use Rattle.block_tables.specs.declared.Singleton.{Singleton}
 use Rattle.block_tables.specs.declared.Tables.{Tables}

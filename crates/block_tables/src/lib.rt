@@ -7,7 +7,7 @@ ghost use Rattle.model.specs.Bounds.{inputLimit};
 ghost use Rattle.block_tables.specs.Changes.{named, Typed};
 use lookup::Names;
 use model::Crisp;
-use model::Degree;
+use model::Point;
 
 pub struct Input {
     pub start: usize,
@@ -26,11 +26,6 @@ pub struct Output {
     pub most: Crisp,
     pub numbered: bool,
     pub default: Crisp,
-}
-
-pub struct Point {
-    pub at: Crisp,
-    pub degree: Degree,
 }
 
 // A term of an input: the first `count` of the points are its own.

@@ -12,13 +12,13 @@ ghost use Rattle.symbol_table.specs.Symbols.{inputCount, outputCount};
 ghost use Rattle.block_text.specs.Block.{variablesText, frontText, backTo, haveTerms, allHaveTerms};
 use block_tables::Input;
 use block_tables::Output;
-use block_tables::Point;
 use block_tables::Singleton;
 use block_tables::Tables;
 use block_tables::Term;
 use cursor::Cursor;
 use model::Crisp;
 use model::Degree;
+use model::Point;
 use parse_state::ParseState;
 use symbol_table::SymbolTable;
 

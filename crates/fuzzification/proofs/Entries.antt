@@ -9,7 +9,7 @@ use Rattle.model.specs.Bounds.{M, crispLimit}
 use Rattle.model.specs.Block.{Point as BlockPoint}
 use Rattle.model.specs.WellFormed.{unitOk, pointOk}
 use Rattle.laws.proofs.Tests.{both}
-use Rattle.terms.specs.declared.Point.{Point}
+use Rattle.model.specs.declared.Point.{Point}
 use Rattle.terms.specs.Points.{PointOk, pointView}
 
 pub fine : (p : Point) → pointOk (pointView p) ≡ true → PointOk p

@@ -8,7 +8,7 @@ use Rattle.model.specs.Basic.{tab}
 use Rattle.model.specs.Block.{Point as BlockPoint}
 use Rattle.laws.proofs.Lists.{map-tab}
 use Rattle.laws.proofs.Places.{tab-ext}
-use Rattle.terms.specs.declared.Point.{Point}
+use Rattle.model.specs.declared.Point.{Point}
 use Rattle.terms.specs.Points.{pointView, pointAt, pointViews}
 
 front : {A : Type 0} (d : A) (n : ℕ) (xs : List A) → n ≤ length xs → take n xs ≡ tab (λ k. getD xs k d) n 0

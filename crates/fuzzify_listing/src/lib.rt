@@ -16,11 +16,11 @@ use header::Header;
 use listing_writer::puts;
 use model::Crisp;
 use model::Degree;
+use model::Point;
 use name_listing::name;
 use number_listing::crisp;
 use number_listing::unit;
 use stored_points::point_at;
-use terms::Point;
 use words::whole_word;
 
 fn point(out: &mut [u8], k: usize, p: Point) -> usize

@@ -27,7 +27,7 @@ use Rattle.cursor.specs.declared.Cursor.{Cursor}
 use Rattle.cursor.specs.View.{seen, textOf, Fits, left, Step, fault}
 use Rattle.cursor.proofs.Laws as cursor
 use Rattle.cursor.proofs.Laws.{kind-seen, text-seen, block-seen, judged-bad, judged-good, numbered}
-use Rattle.block_tables.specs.declared.Point.{Point}
+use Rattle.model.specs.declared.Point.{Point}
 use Rattle.block_tables.specs.declared.Tables.{Tables}
 use Rattle.block_tables.specs.View.{no-point, pointAt, inputRow, termView, blockView, Holds}
 use Rattle.block_tables.specs.Changes.{Changes}

@@ -21,7 +21,7 @@ use Rattle.model.specs.Declarations.{termOf, point, endOfPoints, inputTerm}
 use Rattle.lookup.specs.Names.{nameOf}
 use Rattle.cursor.specs.declared.Cursor.{Cursor}
 use Rattle.cursor.specs.View.{seen, Fits, left}
-use Rattle.block_tables.specs.declared.Point.{Point}
+use Rattle.model.specs.declared.Point.{Point}
 use Rattle.block_tables.specs.declared.Tables.{Tables}
 use Rattle.block_tables.specs.View.{no-point, pointAt}
 use Rattle.parse_state.specs.declared.ParseState.{ParseState}

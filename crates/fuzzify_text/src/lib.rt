@@ -15,12 +15,12 @@ ghost use Rattle.parse_state.specs.Reads.{Good, Reads};
 ghost use Rattle.parse_state.specs.Beside.{Ready, Collects};
 ghost use Rattle.fuzzify_text.specs.Terms.{mayStand, positionAfter, endAfter, ReadsPoint, noPoints, Reads as ReadsShape, termFrom, Terms, Names as Reached, Named, inputsIn};
 use block_tables::Input;
-use block_tables::Point;
 use block_tables::Term;
 use cursor::Cursor;
 use lookup::Names;
 use model::Crisp;
 use model::Degree;
+use model::Point;
 use parse_state::ParseState;
 
 // The cursor behind a position, and its value where it is not refused.

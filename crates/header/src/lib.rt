@@ -2,7 +2,6 @@
 ghost use mathlib.Core.Path.{_≡_};
 ghost use Prim.Native.Nat.{ℕ, _*_, _≤_};
 ghost use lib.ListN.{length};
-ghost use Rattle.model.specs.Block.{Block};
 ghost use Rattle.model.specs.Image.{headerSize, wordAt, layoutWord, inputPlace, outputPlace, termPlace, pointPlace, rulePlace, conclusionPlace};
 ghost use Rattle.header.specs.Header.{Heads};
 use words::whole_word;
@@ -160,9 +159,9 @@ pub const LAST_TYPE: usize = INT;
 // The flag of RANGE and the kind of DEFAULT where they are given, else 0.
 pub const GIVEN: usize = 1;
 
-// The layout that reader and load check agree on.
-pub fn layout_word() -> usize
-    ensures { λ r. ⌜ ((b : Block) → r ≡ layoutWord b) ⌝ }
+// The layout of an image with so many rules, condition words and conclusions.
+pub fn layout_word(rules: usize, words: usize, conclusions: usize) -> usize
+    ensures { λ r. ⌜ r ≡ layoutWord rules words conclusions ⌝ }
 {
     1
 }

@@ -4,7 +4,7 @@ use mathlib.Core.List.{List, [], _∷_, _++_}
 use Prim.Native.Nat.{ℕ, _+_, _*_, _%_, _^_, _≤_}
 use lib.ListN.{getD}
 use Rattle.model.specs.Bounds.{inputLimit, outputLimit, pointLimit, ruleLimit, wordLimit, conclusionLimit, allTermLimit}
-use Rattle.model.specs.Image.{endOf, offsets, headerSize, widths}
+use Rattle.model.specs.Image.{layoutWord, endOf, offsets, headerSize, widths}
 use Rattle.block_tables.specs.declared.Heading.{Heading}
 use Rattle.block_tables.specs.declared.Totals.{Totals}
 use Rattle.variable_rows.specs.Rows.{rows}
@@ -49,5 +49,5 @@ pub record Bounded (c : Counts) : Type 0 where
 
 unfoldable pub headWords : Counts → Heading → List ℕ
 headWords c h =
-    1 ∷ endOf headerSize (countList c) widths
+    layoutWord (c .rules) (c .words) (c .conclusions) ∷ endOf headerSize (countList c) widths
     ∷ (countList c ++ (offsets headerSize (countList c) widths ++ (h .pair ∷ h .accu ∷ h .act ∷ 0 ∷ [])))

@@ -103,7 +103,7 @@ fn head_words(c: Counts, h: Heading) -> [u32; header::BLOCK_NAME]
     requires { ⌜ Bounded c ⌝ }
     ensures { λ r. ⌜ r ≡ headWords c h ⌝ }
 {
-    let layout = header::layout_word() as u32;
+    let layout = header::layout_word(c.rules as usize, c.words as usize, c.conclusions as usize) as u32;
     let outputs = SIZE + c.inputs * INPUT_WIDTH;
     let terms = outputs + c.outputs * OUTPUT_WIDTH;
     let points = terms + c.terms * TERM_WIDTH;

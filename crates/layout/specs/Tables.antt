@@ -8,7 +8,7 @@ use lib.ListN.{length, take}
 use Rattle.model.specs.Basic.{every, all, run, same, tab}
 use Rattle.model.specs.Bounds.{M}
 use Rattle.model.specs.Block.{Point, Term, Input, Output, Rule, size}
-use Rattle.model.specs.Image.{nameWords, nameAt, typeWord, rangeWords, defaultWords, pointWords, postfix, singletonTerm, pointAt, termAt, singletonAt, inputAt, outputAt, ruleAt, headerSize, inputWidth, outputWidth, termWidth, pointWidth, ruleWidth, conclusionWidth, INPUTS, OUTPUTS, TERMS, POINTS, RULES, WORDS, CONCLUSIONS, INPUT-TABLE, OUTPUT-TABLE, TERM-TABLE, POINT-TABLE, RULE-TABLE, WORD-TABLE, CONCLUSION-TABLE, PAIR-WORD, ACCU-WORD, ACT-WORD, BLOCK-NAME, RULE-BLOCK-NAME, inputPlace, outputPlace, termPlace, rulePlace, wordPlace}
+use Rattle.model.specs.Image.{layoutWord, nameWords, nameAt, typeWord, rangeWords, defaultWords, pointWords, postfix, singletonTerm, pointAt, termAt, singletonAt, inputAt, outputAt, ruleAt, headerSize, inputWidth, outputWidth, termWidth, pointWidth, ruleWidth, conclusionWidth, LAYOUT, TOTAL, INPUTS, OUTPUTS, TERMS, POINTS, RULES, WORDS, CONCLUSIONS, INPUT-TABLE, OUTPUT-TABLE, TERM-TABLE, POINT-TABLE, RULE-TABLE, WORD-TABLE, CONCLUSION-TABLE, PAIR-WORD, ACCU-WORD, ACT-WORD, SPARE, BLOCK-NAME, RULE-BLOCK-NAME, inputPlace, outputPlace, termPlace, rulePlace, wordPlace}
 use Rattle.layout.specs.Rows.{rowsOk}
 
 -- ROWS, n being the first term, point or word of the next one
@@ -133,7 +133,7 @@ nameExact w o = same (tab w 4 o) (nameWords (nameAt w o))
 -- layout, offsets without gaps, total, pair, ACCU, ACT, the spare word, the two names
 unfoldable pub headerOk : (ℕ → ℕ) → Bool
 headerOk w = every (
-    eqb (w 0) 1
+    eqb (w LAYOUT) (layoutWord (w RULES) (w WORDS) (w CONCLUSIONS))
     ∷ eqb (w INPUT-TABLE) headerSize
     ∷ eqb (w OUTPUT-TABLE) (w INPUT-TABLE + w INPUTS * inputWidth)
     ∷ eqb (w TERM-TABLE) (w OUTPUT-TABLE + w OUTPUTS * outputWidth)
@@ -141,11 +141,11 @@ headerOk w = every (
     ∷ eqb (w RULE-TABLE) (w POINT-TABLE + w POINTS * pointWidth)
     ∷ eqb (w WORD-TABLE) (w RULE-TABLE + w RULES * ruleWidth)
     ∷ eqb (w CONCLUSION-TABLE) (w WORD-TABLE + w WORDS)
-    ∷ eqb (w 1) (w CONCLUSION-TABLE + w CONCLUSIONS * conclusionWidth)
+    ∷ eqb (w TOTAL) (w CONCLUSION-TABLE + w CONCLUSIONS * conclusionWidth)
     ∷ leb (w PAIR-WORD) 2
     ∷ leb (w ACCU-WORD) 1
     ∷ leb (w ACT-WORD) 1
-    ∷ eqb (w 19) 0
+    ∷ eqb (w SPARE) 0
     ∷ nameExact w BLOCK-NAME
     ∷ nameExact w RULE-BLOCK-NAME
     ∷ [])

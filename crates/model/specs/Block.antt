@@ -100,6 +100,9 @@ size (term t) = 1
 size (neg c) = size c + 1
 size (two o a b) = size a + size b + 1
 
+abbrev pub wordTotal : Block → ℕ
+wordTotal b = total (λ r. size (r .condition)) (b .rules)
+
 -- the terms of input i, of output o
 unfoldable pub termsOf : ℕ → Block → List Term
 termsOf i b = getD (map (λ v. v .terms) (b .inputs)) i []

@@ -6,9 +6,9 @@ use Prim.Native.Nat.{ℕ, suc, _+_, _*_, _-_, _/_, _%_}
 use lib.Dec.{leb, ltb, eqb}
 use lib.IntN.{ℤ, pos, negsuc}
 use lib.ListN.{length, take, getD}
-use Rattle.model.specs.Basic.{if_then_else_, total, gather, tab, run, same}
+use Rattle.model.specs.Basic.{if_then_else_, gather, tab, run, same}
 use Rattle.model.specs.Bounds.{M}
-use Rattle.model.specs.Block.{Point, Term, Singleton, InputType, real, int, Input, Range, Output, Op, and, or, Condition, term, neg, two, Conclusion, Rule, Pair, min-max, prod-asum, bdif-bsum, Accumulation, by-max, by-bsum, Activation, by-min, by-prod, Block, inputTerms, outputTerms, outputFirst, conclusions, size}
+use Rattle.model.specs.Block.{Point, Term, Singleton, InputType, real, int, Input, Range, Output, Op, and, or, Condition, term, neg, two, Conclusion, Rule, Pair, min-max, prod-asum, bdif-bsum, Accumulation, by-max, by-bsum, Activation, by-min, by-prod, Block, inputTerms, outputTerms, outputFirst, conclusions, size, wordTotal}
 use Rattle.model.specs.Outcome.{Outcome, accepted, refused}
 use Rattle.model.specs.WellFormed.{wellFormed}
 
@@ -37,8 +37,9 @@ unfoldable pub nameWords : List ℕ → List ℕ
 nameWords w = wordAt w 0 ∷ wordAt w 1 ∷ wordAt w 2 ∷ wordAt w 3 ∷ []
 
 -- THE WORDS OF A BLOCK
-abbrev pub layoutWord : Block → ℕ
-layoutWord b = 1
+-- of how many rules, condition words and conclusions there are
+abbrev pub layoutWord : ℕ → ℕ → ℕ → ℕ
+layoutWord rules words conclusions = 1
 
 abbrev pub pairWord : Pair → ℕ
 pairWord min-max = 0
@@ -71,9 +72,16 @@ abbrev pub opWord : Op → ℕ
 opWord and = 1
 opWord or = 2
 
+-- the condition words beside those of the operators: NOT, and the first input term
+abbrev pub NOT-WORD : ℕ
+NOT-WORD = 0
+
+abbrev pub TERM-WORD : ℕ
+TERM-WORD = 16
+
 unfoldable pub postfix : Condition → List ℕ
-postfix (term t) = (16 + t) ∷ []
-postfix (neg c) = postfix c ++ (0 ∷ [])
+postfix (term t) = (TERM-WORD + t) ∷ []
+postfix (neg c) = postfix c ++ (NOT-WORD ∷ [])
 postfix (two o a b) = postfix a ++ (postfix b ++ (opWord o ∷ []))
 
 -- n is the first term of the next variable
@@ -122,7 +130,7 @@ conclusionWords k = k .output ∷ k .term ∷ []
 abbrev pub counts : Block → List ℕ
 counts b =
     length (b .inputs) ∷ length (b .outputs) ∷ length (terms b) ∷ length (points b)
-    ∷ length (b .rules) ∷ total (λ r. size (r .condition)) (b .rules) ∷ length (conclusions b) ∷ []
+    ∷ length (b .rules) ∷ wordTotal b ∷ length (conclusions b) ∷ []
 
 abbrev pub inputWidth : ℕ
 inputWidth = 7
@@ -164,7 +172,7 @@ headerSize = 28
 
 unfoldable pub header : Block → List ℕ
 header b =
-    layoutWord b ∷ endOf headerSize (counts b) widths
+    layoutWord (length (b .rules)) (wordTotal b) (length (conclusions b)) ∷ endOf headerSize (counts b) widths
     ∷ (counts b ++ (offsets headerSize (counts b) widths
     ++ (pairWord (b .pair) ∷ accuWord (b .accu) ∷ actWord (b .act) ∷ 0
     ∷ (nameWords (b .name) ++ nameWords (b .ruleBlock)))))
@@ -184,7 +192,14 @@ unfoldable pub image : Block → List ℕ
 image b = bytesOf (words b)
 
 -- THE BLOCK THAT WORDS STAND FOR, w giving the word at each place
--- which word of the header holds what: the counts, the offsets of the tables, the algorithms, the two names
+-- which word of the header holds what: layout and total, the counts, the offsets of the tables, the algorithms, a spare
+-- word, the two names
+abbrev pub LAYOUT : ℕ
+LAYOUT = 0
+
+abbrev pub TOTAL : ℕ
+TOTAL = 1
+
 abbrev pub INPUTS : ℕ
 INPUTS = 2
 
@@ -235,6 +250,9 @@ ACCU-WORD = 17
 
 abbrev pub ACT-WORD : ℕ
 ACT-WORD = 18
+
+abbrev pub SPARE : ℕ
+SPARE = 19
 
 abbrev pub BLOCK-NAME : ℕ
 BLOCK-NAME = 20
@@ -316,10 +334,10 @@ joinTop o (b ∷ a ∷ st) = two o a b ∷ st
 
 unfoldable pub grown : ℕ → List Condition → List Condition
 grown w st =
-    if leb 16 w then term (w - 16) ∷ st else
-    if eqb w 0 then negateTop st else
-    if eqb w 1 then joinTop and st else
-    if eqb w 2 then joinTop or st else []
+    if leb TERM-WORD w then term (w - TERM-WORD) ∷ st else
+    if eqb w NOT-WORD then negateTop st else
+    if eqb w (opWord and) then joinTop and st else
+    if eqb w (opWord or) then joinTop or st else []
 
 unfoldable pub trees : List ℕ → List Condition → List Condition
 trees [] st = st

@@ -7,10 +7,10 @@ use lib.Dec.{leb, ltb, eqb}
 use lib.IntN.{ℤ}
 use lib.ListN.{length}
 use lib.Signed.{ltZ}
-use Rattle.model.specs.Basic.{between, isEmpty, every, all, total, distinct}
+use Rattle.model.specs.Basic.{between, isEmpty, every, all, distinct}
 use Rattle.model.specs.Bounds.{M, inputLimit, outputLimit, termLimit, pointLeast, pointLimit, ruleLimit, wordLimit, conclusionLimit, ruleNumberLeast, ruleNumberLimit, depthLimit}
 use Rattle.model.specs.Tokens.{isName, sameName, inCrisp}
-use Rattle.model.specs.Block.{Point, Term, Singleton, Input, Range, Output, Condition, term, neg, two, Conclusion, Rule, Block, inputTerms, outputFirst, conclusions, size, singletonsOf, inRange, mayFollow}
+use Rattle.model.specs.Block.{Point, Term, Singleton, Input, Range, Output, Condition, term, neg, two, Conclusion, Rule, Block, inputTerms, outputFirst, conclusions, wordTotal, singletonsOf, inRange, mayFollow}
 use Rattle.model.specs.Parentheses.{depth}
 
 -- a degree or a weight of a text: whole thousandths, 0 to 1
@@ -103,6 +103,6 @@ wellFormed b = every (
     ∷ between 1 ruleLimit (length (b .rules))
     ∷ all (ruleOk b) (b .rules)
     ∷ distinct eqb (map (λ r. r .number) (b .rules))
-    ∷ leb (total (λ r. size (r .condition)) (b .rules)) wordLimit
+    ∷ leb (wordTotal b) wordLimit
     ∷ leb (length (conclusions b)) conclusionLimit
     ∷ [])

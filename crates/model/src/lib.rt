@@ -7,6 +7,12 @@ pub struct Crisp(pub i32);
 // A degree, in millionths.
 pub struct Degree(pub u32);
 
+// A point of a term.
+pub struct Point {
+    pub at: Crisp,
+    pub degree: Degree,
+}
+
 // The declared type of an input.
 pub enum InputType {
     Real,

@@ -5,7 +5,7 @@ use mathlib.Core.List.{List, [], _∷_}
 use Prim.Native.Nat.{ℕ, _+_, _*_}
 use lib.Dec.{leb, eqb}
 use Rattle.model.specs.Basic.{if_then_else_}
-use Rattle.model.specs.Image.{inputWidth, outputWidth, termWidth, pointWidth, ruleWidth, wordWidth, conclusionWidth, headerSize, PAIR-WORD, ACCU-WORD, ACT-WORD, BLOCK-NAME, RULE-BLOCK-NAME}
+use Rattle.model.specs.Image.{layoutWord, inputWidth, outputWidth, termWidth, pointWidth, ruleWidth, wordWidth, conclusionWidth, headerSize, LAYOUT, TOTAL, PAIR-WORD, ACCU-WORD, ACT-WORD, SPARE, BLOCK-NAME, RULE-BLOCK-NAME}
 use Rattle.header.specs.declared.Header.{Header}
 use Rattle.layout.specs.Tables.{nameExact}
 
@@ -20,7 +20,7 @@ padRun m (c ∷ l) = padRun (padStep m c) l
 -- the header's offsets, each with the one before it and a table's size, and its codes and names
 abbrev pub offsetTests : (ℕ → ℕ) → Header → List Bool
 offsetTests w h =
-    eqb (w 0) 1
+    eqb (w LAYOUT) (layoutWord (h .rules) (h .words) (h .conclusions))
     ∷ eqb (h .«input_table») headerSize
     ∷ eqb (h .«output_table») (h .«input_table» + h .inputs * inputWidth)
     ∷ eqb (h .«term_table») (h .«output_table» + h .outputs * outputWidth)
@@ -28,7 +28,7 @@ offsetTests w h =
     ∷ eqb (h .«rule_table») (h .«point_table» + h .points * pointWidth)
     ∷ eqb (h .«word_table») (h .«rule_table» + h .rules * ruleWidth)
     ∷ eqb (h .«conclusion_table») (h .«word_table» + h .words * wordWidth)
-    ∷ eqb (w 1) (h .«conclusion_table» + h .conclusions * conclusionWidth)
+    ∷ eqb (w TOTAL) (h .«conclusion_table» + h .conclusions * conclusionWidth)
     ∷ []
 
 abbrev pub codeTests : (ℕ → ℕ) → List Bool
@@ -36,7 +36,7 @@ codeTests w =
     leb (w PAIR-WORD) 2
     ∷ leb (w ACCU-WORD) 1
     ∷ leb (w ACT-WORD) 1
-    ∷ eqb (w 19) 0
+    ∷ eqb (w SPARE) 0
     ∷ nameExact w BLOCK-NAME
     ∷ nameExact w RULE-BLOCK-NAME
     ∷ []

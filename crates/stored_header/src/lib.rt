@@ -75,7 +75,7 @@ fn offsets_ok(img: &[u8], h: Header) -> bool
     requires { ⌜ Heads (wordAt (now img)) h × (headerSize * 4 ≤ length (now img)) ⌝ }
     ensures { λ r. ⌜ r ≡ every (offsetTests (wordAt (now (img .entry))) h) ⌝ }
 {
-    if whole_word(img, header::LAYOUT) != header::layout_word() {
+    if whole_word(img, header::LAYOUT) != header::layout_word(h.rules, h.words, h.conclusions) {
         return false;
     }
     if h.input_table != header::SIZE {

@@ -7,7 +7,7 @@ ghost use Rattle.terms.specs.Points.{pointView};
 use header::Header;
 use model::Crisp;
 use model::Degree;
-use terms::Point;
+use model::Point;
 use words::whole_crisp;
 use words::whole_word;
 

@@ -7,7 +7,7 @@ use lib.ListN.{getD, take}
 use Rattle.model.specs.Bounds.{M}
 use Rattle.model.specs.Block.{Point as BlockPoint}
 use Rattle.crisp.specs.Crisp.{InCrisp}
-use Rattle.terms.specs.declared.Point.{Point}
+use Rattle.model.specs.declared.Point.{Point}
 
 abbrev pub pointView : Point → BlockPoint
 pointView p = record { at = p .at .0; degree = p .degree .0 }

@@ -1,6 +1,7 @@
-// The points of a term, and the degree on the straight line between two of them.
+// The degree on the straight line between two points of a term.
 use model::Crisp;
 use model::Degree;
+use model::Point;
 ghost use mathlib.Core.Path.{_≡_};
 ghost use Prim.Native.Nat.{_≤_};
 ghost use lib.Signed.{_≤ℤ_, _<ℤ_};
@@ -8,11 +9,6 @@ ghost use Rattle.model.specs.Bounds.{M};
 ghost use Rattle.model.specs.Degrees.{onLine};
 ghost use Rattle.crisp.specs.Crisp.{InCrisp};
 ghost use Rattle.terms.specs.Points.{PointOk, pointView};
-
-pub struct Point {
-    pub at: Crisp,
-    pub degree: Degree,
-}
 
 // At x, between the points p and q.
 pub fn on_line(x: Crisp, p: Point, q: Point) -> Degree

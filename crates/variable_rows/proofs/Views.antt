@@ -20,7 +20,7 @@ use Rattle.layout.specs.Tables as layout
 use Rattle.layout.proofs.RowLaws.{laid-append}
 use Rattle.layout.proofs.TableLaws.{input-table, term-table, gather-laid}
 use Rattle.block_tables.specs.declared.Output.{Output}
-use Rattle.block_tables.specs.declared.Point.{Point}
+use Rattle.model.specs.declared.Point.{Point}
 use Rattle.block_tables.specs.declared.Term.{Term}
 use Rattle.block_tables.specs.declared.Singleton.{Singleton}
 use Rattle.block_tables.specs.declared.Tables.{Tables}

@@ -12,7 +12,7 @@ use Rattle.model.specs.Bounds.{M, inputLimit, outputLimit, termLimit, inputTerm
 use Rattle.model.specs.Image.{crispWord, nameWords, inputWidth, outputWidth, termWidth, pointWidth}
 use Rattle.block_tables.specs.declared.Input.{Input}
 use Rattle.block_tables.specs.declared.Output.{Output}
-use Rattle.block_tables.specs.declared.Point.{Point}
+use Rattle.model.specs.declared.Point.{Point}
 use Rattle.block_tables.specs.declared.Term.{Term}
 use Rattle.block_tables.specs.declared.Singleton.{Singleton}
 use Rattle.block_tables.specs.declared.Tables.{Tables}

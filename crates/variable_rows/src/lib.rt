@@ -12,11 +12,11 @@ ghost use Rattle.word_writer.specs.Over.{Wrote};
 ghost use Rattle.variable_rows.specs.Rows.{bit, given, InText, inputsNamed, outputsNamed, termsNamed, singletonsNamed, inputSize, outputSize, termSize, inputWords, inputRows, outputWords, outputRows, slotsOf, listOf, Listed, heldIn, termWords, termRows, singletonWords, singletonRows, pointRow, pointRows, singletonPoints, variableRows, variableWords, rows, onward};
 use block_tables::Input;
 use block_tables::Output;
-use block_tables::Point;
 use block_tables::Singleton;
 use block_tables::Tables;
 use block_tables::Term;
 use model::Crisp;
+use model::Point;
 
 // The degree 1 as a word.
 const ONE: u32 = bounds::M as u32;

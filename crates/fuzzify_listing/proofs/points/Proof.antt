@@ -8,7 +8,7 @@ use Rattle.model.specs.Listing.{commaed, pointText}
 use Rattle.listing_writer.specs.Prepends.{Prepends}
 use Rattle.listing_writer.proofs.Prepends.{nothing}
 use Rattle.listing_writer.proofs.Lists.{from, commaed-last, commaed-more, commaed-all}
-use Rattle.terms.specs.declared.Point.{Point}
+use Rattle.model.specs.declared.Point.{Point}
 use Rattle.fuzzify_listing.proofs.Views.{viewAt, views}
 use Rattle.fuzzify_listing.proofs.points.Statement.{statement}
 use Rattle.fuzzify_listing.proofs.points.Tie as tie

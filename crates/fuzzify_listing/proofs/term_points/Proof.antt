@@ -9,7 +9,7 @@ use lib.Seq.{take-suc-set}
 use Rattle.model.specs.Basic.{tab}
 use Rattle.model.specs.Bounds.{pointLimit}
 use Rattle.model.specs.Image.{wordAt, pointAt}
-use Rattle.terms.specs.declared.Point.{Point}
+use Rattle.model.specs.declared.Point.{Point}
 use Rattle.terms.specs.Points.{pointView, pointViews}
 use Rattle.laws.proofs.Lists.{tab-append}
 use Rattle.fuzzify_listing.proofs.term_points.Statement.{statement}

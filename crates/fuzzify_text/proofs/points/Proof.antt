@@ -4,7 +4,7 @@ use native.Mathlib.Omega.{arith}
 use borrow.Author.Tests.{not-true, not-false}
 use Rattle.cursor.specs.declared.Cursor.{Cursor}
 use Rattle.cursor.specs.View.{left}
-use Rattle.block_tables.specs.declared.Point.{Point}
+use Rattle.model.specs.declared.Point.{Point}
 use Rattle.fuzzify_text.specs.declared.Shape.{Shape}
 use Rattle.fuzzify_text.specs.Terms.{noPoints}
 use Rattle.fuzzify_text.proofs.Laws as laws

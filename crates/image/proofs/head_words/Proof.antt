@@ -1,17 +1,25 @@
 use borrow.Author.Needs.{needs}
 use native.Mathlib.Nat.{mul-one}
 use native.Mathlib.Omega.{arith}
-use Rattle.model.specs.Block.{emptyBlock}
 use Rattle.model.specs.Image.{endOf, offsets}
 use Rattle.image.specs.Rows.{headWords}
 use Rattle.image.proofs.head_words.Statement.{statement}
 use Rattle.image.proofs.head_words.Tie as tie
 
+cast-layout-word : tie.Need-cast-layout-word
+cast-layout-word c = search needs
+
+cast-layout-word-2 : tie.Need-cast-layout-word-2
+cast-layout-word-2 c = search needs
+
+cast-layout-word-3 : tie.Need-cast-layout-word-3
+cast-layout-word-3 c = search needs
+
 layout-word-requires : tie.Need-layout-word-requires
 layout-word-requires c κs = search needs
 
 cast-layout : tie.Need-cast-layout
-cast-layout c = let one = c .layout-word .ensures emptyBlock in omega arith
+cast-layout c = let one = c .layout-word .ensures in omega arith
 
 mul-outputs : tie.Need-mul-outputs
 mul-outputs c = search needs
@@ -55,13 +63,16 @@ add-end c = search needs
 returns : tie.Need-returns
 unfolding headWords endOf offsets
 returns c =
-    let one = c .before .before .before .before .before .before .before .layout-word .ensures emptyBlock in
+    let one = c .before .before .before .before .before .before .before .layout-word .ensures in
     simp (one, mul-one)
 
 pub head-words-spec : {M : Type 1} → statement M
 head-words-spec =
     tie.close
     (tie.spec
+    cast-layout-word
+    cast-layout-word-2
+    cast-layout-word-3
     layout-word-requires
     cast-layout
     mul-outputs

@@ -3,7 +3,7 @@ use mathlib.Core.Path.{refl, sym, _∙_}
 use lib.Dec.{eqb}
 use borrow.Author.Needs.{needs}
 use borrow.Author.Tests.{not-true, not-false}
-use Rattle.model.specs.Image.{wordAt, decode}
+use Rattle.model.specs.Image.{wordAt}
 use Rattle.header.proofs.Laws.{small}
 use lib.ListN.{take, getD}
 use mathlib.Core.Bool.{true}
@@ -21,9 +21,8 @@ layout-word-requires c κs = search needs
 
 returns : tie.Need-returns
 returns c =
-    let start = c .before .before .before .before in
-    let one = c .before .layout-word .ensures (decode (wordAt (start .args .img .now))) in
-    sym (one-fails _ 0 (differs _ _ _ (c .before .before .whole-word .ensures .0) (λ q. c .if1 .taken (q ∙ sym one))))
+    let layout = c .before .layout-word .ensures in
+    sym (one-fails _ 0 (differs _ _ _ (c .before .before .whole-word .ensures .0) (λ q. c .if1 .taken (q ∙ sym layout))))
 
 returns-2 : tie.Need-returns-2
 returns-2 c = sym (one-fails _ 1 (differs _ _ _ refl (c .if2 .taken)))
@@ -104,7 +103,7 @@ returns-9 c =
     ∙ (λ j. eqb (total j) (a .h .«conclusion_table» + a .h .conclusions * 2))
     ∙ sym
     (last-decides (take 8 tests) (getD tests 8 true) (
-      equal _ _ _ (first .whole-word .ensures .0) (lay .if1 .left ∙ lay .before .layout-word .ensures (decode w)),
+      equal _ _ _ (first .whole-word .ensures .0) (lay .if1 .left ∙ lay .before .layout-word .ensures),
       (
         equal _ _ _ refl (size .if2 .left),
         (
