@@ -20,7 +20,7 @@ use Rattle.model.specs.WellFormed.{unitOk, outputOk, conclusionOk}
 use Rattle.laws.proofs.Tests.{both, passed}
 use Rattle.layout.specs.Tables.{inputTermsIn}
 use Rattle.layout.specs.Groups.{Sound, variablesOk}
-use Rattle.layout.proofs.Sound.{input-terms}
+use Rattle.layout.proofs.Sound.{own-few, input-terms}
 use Rattle.layout.proofs.Rules.{rule-parts, conclusion-good}
 
 -- by the number that the code matches
@@ -30,22 +30,16 @@ pair-last x h k = rw (ne-eqb x 0 h, ne-eqb x 1 k) refl
 pub accu-last : (x : ℕ) → (x ≡ 0 → ⊥) → Bsum ≡ accuOf x
 accu-last x h = rw (ne-eqb x 0 h) refl
 
-own-few : (v : Output) → outputOk v ≡ true → length (v .terms) ≤ termLimit
-unfolding outputOk
-own-few v e =
-    let n = length (v .terms) in
-    leb-true n termLimit (both (leb 1 n) (leb n termLimit) (passed _ e .1 .0) .1)
-
 -- the terms of the outputs before o, and of o
-terms-few : (vs : List Output) (o : ℕ) → all outputOk vs ≡ true
+terms-before : (vs : List Output) (o : ℕ) → all outputOk vs ≡ true
     → total (λ v. length (v .terms)) (take o vs) + length (getD (map (λ v. v .terms) vs) o []) ≤ termLimit * length vs
 unfolding all total
-terms-few [] zero e = omega arith
-terms-few [] (suc o) e = omega arith
-terms-few (v ∷ vs) zero e = omega (arith, own-few v (both (outputOk v) (all outputOk vs) e .0))
-terms-few (v ∷ vs) (suc o) e =
+terms-before [] zero e = omega arith
+terms-before [] (suc o) e = omega arith
+terms-before (v ∷ vs) zero e = omega (arith, own-few v (both (outputOk v) (all outputOk vs) e .0))
+terms-before (v ∷ vs) (suc o) e =
     let b = both (outputOk v) (all outputOk vs) e in
-    omega (arith, own-few v (b .0), terms-few vs o (b .1))
+    omega (arith, own-few v (b .0), terms-before vs o (b .1))
 
 -- by the degrees of the conditions
 abbrev pub degreeBy : (ℕ → ℕ) → List ℕ → ℕ → ℕ
@@ -82,7 +76,7 @@ module _ (w : ℕ → ℕ) (ok : Sound w) where
         let q = passed _ (conclusion-good w ok i h j l) in
         let lo : outputFirst (k .output) (decode w) ≤ k .term = leb-true _ _ (q .1 .0) in
         let hi : k .term < outputFirst (k .output) (decode w) + length (singletonsOf (k .output) (decode w)) = ltb-true _ _ (q .1 .1 .0) in
-        omega (arith, lo, hi, input-terms w (ok .frame), outputs-few .0, terms-few (decode w .outputs) (k .output) (outputs-few .1))
+        omega (arith, lo, hi, input-terms w (ok .frame), outputs-few .0, terms-before (decode w .outputs) (k .output) (outputs-few .1))
 
     pub term-read : (first n j t : ℕ) → first ≡ w (row + 3) → n ≡ w (row + 4) → j < n → t ≡ w (conclusionPlace w (first + j) + 1)
         → (t ≡ conclusionAt w (first + j) .term) × (inputTermsIn w ≤ t) × (t < inputTermsIn w + outputTermLimit)

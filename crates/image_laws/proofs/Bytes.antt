@@ -11,7 +11,7 @@ use lib.Dec.{leb, eqb}
 use lib.IntN.{ℤ, pos, negsuc}
 use lib.ListN.{length, take, getD, length-append, length-map}
 use Rattle.model.specs.Basic.{between, total, gather}
-use Rattle.model.specs.Bounds.{M, crispLimit, inputLimit, outputLimit, termLimit, pointLeast, pointLimit, ruleLimit, wordLimit, conclusionLimit, ruleNumberLeast, depthLimit}
+use Rattle.model.specs.Bounds.{M, crispLimit, inputLimit, outputLimit, termLimit, pointLeast, pointLimit, ruleLimit, wordLimit, conclusionLimit, inputTermLimit, outputTermLimit, allTermLimit, ruleNumberLeast, depthLimit}
 use Rattle.model.specs.Block.{Term, Singleton, Input, Range, Output, Op, and, or, Condition, term, neg, two, Conclusion, Rule, Block, inputTerms, outputTerms, conclusions, outputFirst, singletonsOf, size}
 use Rattle.model.specs.declared.InputType.{InputType}
 use Rattle.model.specs.declared.InputType.the-variants.{Real, Int}
@@ -30,6 +30,7 @@ use Rattle.laws.proofs.Tests.{both, passed}
 use Rattle.words.proofs.Bytes.{word-fits}
 use Rattle.layout.specs.Rows.{laid}
 use Rattle.layout.specs.Tables.{ruleRow, ruleNext}
+use Rattle.layout.proofs.Sound.{own-few}
 use Rattle.layout.proofs.TableLaws.{input-table, output-table, term-table, rule-table}
 use Rattle.image_laws.proofs.Fields.{Spelt, below}
 use Rattle.image_laws.proofs.Tables.{FineOutput}
@@ -183,10 +184,6 @@ input-count : (v : Input) → inputOk v ≡ true → length (v .terms) ≤ termL
 unfolding inputOk
 input-count v h = at-most 1 _ _ (passed _ h .1 .0)
 
-output-count : (v : Output) → outputOk v ≡ true → length (v .terms) ≤ termLimit
-unfolding outputOk
-output-count v h = at-most 1 _ _ (passed _ h .1 .0)
-
 input-terms : (v : Input) → inputOk v ≡ true → Each (λ t. termOk t ≡ true) (v .terms)
 unfolding inputOk
 input-terms v h = each-passes termOk (v .terms) (passed _ h .1 .1 .0)
@@ -198,10 +195,10 @@ term-count t h = at-most pointLeast _ _ (passed _ h .1 .0)
 record Counted (b : Block) : Type 0 where
   inputs : length (b .inputs) ≤ inputLimit
   outputs : length (b .outputs) ≤ outputLimit
-  inputTerms′ : length (inputTerms b) ≤ 56
-  outputTerms′ : length (outputTerms b) ≤ 42
-  terms′ : length (terms b) ≤ 98
-  points′ : length (points b) ≤ 392
+  inputTerms′ : length (inputTerms b) ≤ inputTermLimit
+  outputTerms′ : length (outputTerms b) ≤ outputTermLimit
+  terms′ : length (terms b) ≤ allTermLimit
+  points′ : length (points b) ≤ allTermLimit * pointLimit
   rules : length (b .rules) ≤ ruleLimit
   words′ : sizes (b .rules) ≤ wordLimit
   conclusions′ : length (conclusions b) ≤ conclusionLimit
@@ -215,10 +212,10 @@ module _ (b : Block) (h : wellFormed b ≡ true) where
       let i : length (b .inputs) ≤ inputLimit = at-most 1 _ _ (r .1 .1 .0) in
       let o : length (b .outputs) ≤ outputLimit = at-most 1 _ _ (r .1 .1 .1 .0) in
       let is = each-passes inputOk (b .inputs) (r .1 .1 .1 .1 .0) in
-      let oo = each-so output-count (b .outputs) (each-passes outputOk (b .outputs) (r .1 .1 .1 .1 .1 .0)) in
+      let oo = each-so own-few (b .outputs) (each-passes outputOk (b .outputs) (r .1 .1 .1 .1 .1 .0)) in
       let it : length (inputTerms b) ≤ length (b .inputs) * termLimit = few (λ v. v .terms) termLimit (b .inputs) (each-so input-count (b .inputs) is) in
       let ot : length (outputTerms b) ≤ length (b .outputs) * termLimit = few (λ v. v .terms) termLimit (b .outputs) oo in
-      let lt : length (terms b) ≤ 98 =
+      let lt : length (terms b) ≤ allTermLimit =
       omega (arith, length-append (inputTerms b) (map singletonTerm (outputTerms b)), length-map (outputTerms b) singletonTerm) in
       let ts = each-gather (λ t. termOk t ≡ true) (λ v. v .terms) (b .inputs) (each-so input-terms (b .inputs) is) in
       let ps : Each (λ t. length (t .points) ≤ pointLimit) (terms b) =

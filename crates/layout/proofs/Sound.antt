@@ -36,6 +36,12 @@ unfolding sums
 sums-le c m zero i h = omega arith
 sums-le c m (suc k) i h = omega (arith, h i (omega arith), sums-le c m k (suc i) (λ j l. h j (omega arith)), suc-mul k m)
 
+pub own-few : (v : Output) → outputOk v ≡ true → length (v .terms) ≤ termLimit
+unfolding outputOk
+own-few v h =
+    let n = length (v .terms) in
+    leb-true n termLimit (both (leb 1 n) (leb n termLimit) (passed _ h .1 .0) .1)
+
 -- the terms of output o
 pub output-terms : (w : ℕ → ℕ) (o : ℕ) → o < w 3 → length (singletonsOf o (decode w)) ≡ outputCount w o
 unfolding singletonsOf decode outputAt
@@ -80,11 +86,9 @@ module _ (w : ℕ → ℕ) (s : Sound w) where
   good i h = ap (λ (k : ℕ). outputOk (outputAt w k)) (omega arith) ∙ all-at outputOk (outputAt w) (w 3) 0 i h (passed _ (s .variables) .1 .1 .1 .1 .1 .0)
 
   pub terms-few : (i : ℕ) → i < w 3 → outputCount w i ≤ termLimit
-  unfolding outputOk outputAt
+  unfolding outputAt
   terms-few i h =
-      let n = length (outputAt w i .terms) in
-      let b = both (leb 1 n) (leb n termLimit) (passed _ (good i h) .1 .0) in
-      let l : length (outputAt w i .terms) ≤ termLimit = leb-true _ _ (b .1) in
+      let l = own-few (outputAt w i) (good i h) in
       omega (arith, length-tab (singletonAt w) (w (w 10 + i * 11 + 5)) (w (w 10 + i * 11 + 4)))
 
   -- the terms before output i
