@@ -2,7 +2,7 @@
 ghost use mathlib.Core.Path.{_≡_};
 ghost use mathlib.Core.List.{[], _∷_};
 ghost use Rattle.model.specs.Basic.{between};
-ghost use Rattle.model.specs.Bounds.{M, crispLimit, textLimit, nameLimit, digitLimit, fractionLimit, inputLimit, outputLimit, termLimit, pointLeast, pointLimit, ruleLimit, wordLimit, conclusionLimit, ruleNumberLeast, ruleNumberLimit, depthLimit, variableLimit, inputTermLimit, outputTermLimit, allTermLimit, symbolLimit, inputPointLimit, imageLimit, listingLimit};
+ghost use Rattle.model.specs.Bounds.{M, crispLimit, textLimit, nameLimit, digitLimit, fractionLimit, inputLimit, outputLimit, termLimit, pointLeast, pointLimit, ruleLimit, wordLimit, conclusionLimit, ruleNumberLeast, ruleNumberLimit, depthLimit, variableLimit, inputTermLimit, outputTermLimit, allTermLimit, symbolLimit, imageLimit, listingLimit};
 
 // The degree 1, in millionths.
 pub const M: usize = 1_000_000;
@@ -56,19 +56,17 @@ pub const ALL_TERMS: usize = INPUT_TERMS + OUTPUT_TERMS;
 // Names of variables and of their terms.
 pub const NAMES: usize = VARIABLES + ALL_TERMS;
 
-pub const INPUT_POINTS: usize = INPUT_TERMS * POINTS;
-
 // Bytes of the longest image and of the longest listing.
 pub const IMAGE: usize = 10_200;
 
 pub const LISTING: usize = 31_421;
 
 // All of them, in the order of the definitions.
-pub fn limits() -> [usize; 25]
+pub fn limits() -> [usize; 24]
     ensures { λ r. ⌜ r ≡ crispLimit ∷ M ∷ textLimit ∷ nameLimit ∷ digitLimit ∷ fractionLimit ∷ inputLimit ∷ outputLimit
         ∷ termLimit ∷ pointLeast ∷ pointLimit ∷ ruleLimit ∷ wordLimit ∷ conclusionLimit ∷ ruleNumberLeast
         ∷ ruleNumberLimit ∷ depthLimit ∷ variableLimit ∷ inputTermLimit ∷ outputTermLimit ∷ allTermLimit ∷ symbolLimit
-        ∷ inputPointLimit ∷ imageLimit ∷ listingLimit ∷ [] ⌝ }
+        ∷ imageLimit ∷ listingLimit ∷ [] ⌝ }
 {
     [
         CRISP,
@@ -93,7 +91,6 @@ pub fn limits() -> [usize; 25]
         OUTPUT_TERMS,
         ALL_TERMS,
         NAMES,
-        INPUT_POINTS,
         IMAGE,
         LISTING,
     ]

@@ -7,17 +7,20 @@ use Rattle.model.specs.Bounds.{inputLimit, outputLimit, pointLimit, ruleLimit, 
 use Rattle.model.specs.Image.{layoutWord, endOf, offsets, headerSize, widths}
 use Rattle.block_tables.specs.declared.Heading.{Heading}
 use Rattle.block_tables.specs.declared.Totals.{Totals}
+use Rattle.block_tables.specs.Stored.{keptWidth}
 use Rattle.variable_rows.specs.Rows.{rows}
 use Rattle.image.specs.declared.Counts.{Counts}
 
 -- RULES: the first condition word and the first conclusion of the next one, in 32 bits
 unfoldable pub ruleWords : List ℕ → ℕ × ℕ → ℕ → List ℕ
 ruleWords rules σ k =
-    getD rules (k * 4) 0 ∷ σ .0 ∷ getD rules (k * 4 + 1) 0 ∷ σ .1 ∷ getD rules (k * 4 + 2) 0 ∷ getD rules
-    (k * 4 + 3) 0 ∷ []
+    let o : ℕ = k * keptWidth in
+    getD rules o 0 ∷ σ .0 ∷ getD rules (o + 1) 0 ∷ σ .1 ∷ getD rules (o + 2) 0 ∷ getD rules (o + 3) 0 ∷ []
 
 abbrev pub ruleNext : List ℕ → ℕ × ℕ → ℕ → ℕ × ℕ
-ruleNext rules σ k = ((σ .0 + getD rules (k * 4 + 1) 0) % 2 ^ 32, (σ .1 + getD rules (k * 4 + 2) 0) % 2 ^ 32)
+ruleNext rules σ k =
+    let o : ℕ = k * keptWidth in
+    ((σ .0 + getD rules (o + 1) 0) % 2 ^ 32, (σ .1 + getD rules (o + 2) 0) % 2 ^ 32)
 
 unfoldable pub ruleRows : List ℕ → ℕ → List ℕ
 ruleRows rules k = rows (ruleWords rules) (ruleNext rules) k 0 (0, 0)

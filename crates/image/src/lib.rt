@@ -10,7 +10,7 @@ ghost use Rattle.model.specs.Image.{nameWords, headerSize, ruleWidth, image};
 ghost use Rattle.model.specs.Outcome.{into, lengthIn, bufferAfter};
 ghost use Rattle.model.specs.Refusals.{writtenOf};
 ghost use Rattle.block_tables.specs.View.{wholeView, Holds, Headed};
-ghost use Rattle.block_tables.specs.Stored.{Stored};
+ghost use Rattle.block_tables.specs.Stored.{keptWidth, Stored};
 ghost use Rattle.word_writer.specs.Over.{Wrote};
 ghost use Rattle.image.specs.Rows.{ruleRows, entriesOf, Bounded, headWords};
 use block_tables::CONCLUSION_WIDTH;
@@ -58,7 +58,7 @@ fn wide(w: u32) -> usize
 
 // Firsts wrap, so that the table is safe to write from any words.
 fn rule_table(rules: &[u32], n: usize, out: &mut [u8], at: usize) -> usize
-    requires { ⌜ (n * 4 ≤ length (now rules)) × ((at + n * ruleWidth) * 4 ≤ length (now out)) ⌝ }
+    requires { ⌜ (n * keptWidth ≤ length (now rules)) × ((at + n * ruleWidth) * 4 ≤ length (now out)) ⌝ }
     ensures { λ r. ⌜ Wrote at r (ruleRows (now (rules .entry)) n) (now (out .entry)) (now (out .exit)) ⌝ }
     ensures next { λ r. ⌜ r ≡ at + n * ruleWidth ⌝ }
 {
@@ -103,7 +103,11 @@ fn head_words(c: Counts, h: Heading) -> [u32; header::BLOCK_NAME]
     requires { ⌜ Bounded c ⌝ }
     ensures { λ r. ⌜ r ≡ headWords c h ⌝ }
 {
-    let layout = header::layout_word(c.rules as usize, c.words as usize, c.conclusions as usize) as u32;
+    let layout = header::layout_word(
+        c.rules as usize,
+        c.words as usize,
+        c.conclusions as usize,
+    ) as u32;
     let outputs = SIZE + c.inputs * INPUT_WIDTH;
     let terms = outputs + c.outputs * OUTPUT_WIDTH;
     let points = terms + c.terms * TERM_WIDTH;

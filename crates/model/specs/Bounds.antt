@@ -76,10 +76,6 @@ allTermLimit = inputTermLimit + outputTermLimit
 abbrev pub symbolLimit : ℕ
 symbolLimit = variableLimit + allTermLimit
 
--- points of all input terms
-abbrev pub inputPointLimit : ℕ
-inputPointLimit = inputTermLimit * pointLimit
-
 -- bytes of the longest image and of the longest listing
 abbrev pub imageLimit : ℕ
 imageLimit = 10200

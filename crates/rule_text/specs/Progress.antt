@@ -7,11 +7,11 @@ use lib.ListN.{length, take}
 use Rattle.model.specs.Basic.{gather, total}
 use Rattle.model.specs.Bounds.{ruleLimit, wordLimit, conclusionLimit}
 use Rattle.model.specs.Block.{Block, Rule, Conclusion, size, withRules, withWeight}
-use Rattle.model.specs.Image.{conclusionWords}
+use Rattle.model.specs.Image.{conclusionWords, conclusionWidth}
 use Rattle.model.specs.Parse.{Part}
 use Rattle.cursor.specs.View.{seen, Fits, left}
 use Rattle.block_tables.specs.declared.Totals.{Totals}
-use Rattle.block_tables.specs.Stored.{Stored, ruleRow}
+use Rattle.block_tables.specs.Stored.{Stored, keptWidth, ruleRow}
 use Rattle.symbol_table.specs.Symbols.{Describes}
 use Rattle.condition_text.specs.Pending.{Adds}
 use Rattle.rule_text.specs.declared.Concluded.{Concluded}
@@ -20,9 +20,9 @@ use Rattle.rule_text.specs.declared.Progress.{Progress}
 -- the rules rs are kept: their words, and how many there are
 pub record Kept (rs : List Rule) (rules ws ks : List ℕ) (n : Totals) : Type 0 where
   pub stored : Stored rs rules ws ks (n .rules) (n .words) (n .conclusions)
-  pub rules-size : length rules ≡ ruleLimit * 4
+  pub rules-size : length rules ≡ ruleLimit * keptWidth
   pub words-size : length ws ≡ wordLimit
-  pub conclusions-size : length ks ≡ conclusionLimit * 2
+  pub conclusions-size : length ks ≡ conclusionLimit * conclusionWidth
   pub rules-count : length rs ≡ n .rules
   pub words-count : total (λ r. size (r .condition)) rs ≡ n .words
   pub conclusions-count : length (gather (λ r. r .conclusions) rs) ≡ n .conclusions
@@ -59,7 +59,7 @@ gives ks q = record {
 
 -- n rows in rules are those of rs
 pub record Rows (rs : List Rule) (rules : List ℕ) (n : ℕ) : Type 0 where
-  pub rows : take (n * 4) rules ≡ gather ruleRow rs
+  pub rows : take (n * keptWidth) rules ≡ gather ruleRow rs
   pub count : length rs ≡ n
 
 -- in the midst of the rule q, part reads conclusions more, and their words are put
@@ -68,7 +68,7 @@ pub record Concludes (part : Part) (s : List ℕ) (b : Block) (rs : List Rule) (
   pub more : List Conclusion
   pub reads : seen s (r .cursor) (midst b rs (gives more q)) m ≡ part (seen s (p .cursor) (midst b rs q) m)
   pub count : r .count ≡ p .count + length more
-  pub put : Adds (p .count * 2) (r .count * 2) (gather conclusionWords more) old new
+  pub put : Adds (p .count * conclusionWidth) (r .count * conclusionWidth) (gather conclusionWords more) old new
 
 -- whatever the block
 pub record Onward (s : List ℕ) (p r : Concluded) : Type 0 where
@@ -87,8 +87,8 @@ pub record EndsRule (part : Part) (s : List ℕ) (b : Block) (rs : List Rule) (q
   pub rules : r .totals .rules ≡ p .totals .rules + 1
   pub words : r .totals .words ≡ p .totals .words
   pub conclusions : r .totals .conclusions ≡ p .totals .conclusions + length more
-  pub row : Adds (p .totals .rules * 4) (r .totals .rules * 4) (n ∷ w ∷ length more ∷ weight ∷ []) rows rows′
-  pub put : Adds (p .totals .conclusions * 2) (r .totals .conclusions * 2) (gather conclusionWords more) ks ks′
+  pub row : Adds (p .totals .rules * keptWidth) (r .totals .rules * keptWidth) (n ∷ w ∷ length more ∷ weight ∷ []) rows rows′
+  pub put : Adds (p .totals .conclusions * conclusionWidth) (r .totals .conclusions * conclusionWidth) (gather conclusionWords more) ks ks′
 
 -- in b, part is read from p to r, and where it does not refuse, the rules that it leaves are kept
 pub record Goes (part : Part) (s : List ℕ) (b : Block) (p r : Progress) (rules′ ws′ ks′ : List ℕ) : Type 0 where

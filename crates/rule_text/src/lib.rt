@@ -12,6 +12,7 @@ ghost use Rattle.model.specs.Bounds.{M, ruleLimit, conclusionLimit};
 ghost use Rattle.model.specs.Parse.{refuse, expect, repeated, listed};
 ghost use Rattle.model.specs.Tokens.{decimal};
 ghost use Rattle.model.specs.Rules.{ruleNumber, concludedTerm, conclusion as conclusionOf, weighted as weightedOf, ruleFrom, rule as ruleOf};
+ghost use Rattle.block_tables.specs.Stored.{keptWidth};
 ghost use Rattle.cursor.specs.View.{seen, textOf, Fits, left, Step, Moves};
 ghost use Rattle.symbol_table.specs.Symbols.{Symbols, Describes, outputCount};
 ghost use Rattle.condition_text.specs.Pending.{Adds};
@@ -244,7 +245,7 @@ fn weighted(s: &[u8], c: Cursor) -> Weighed
 // The row of rule k.
 fn put_row(rules: &mut Rules, k: usize, number: u32, words: u32, conclusions: u32, weight: Degree)
     requires { ⌜ k < ruleLimit ⌝ }
-    ensures { λ r. ⌜ Adds (k * 4) ((k + 1) * 4) (number ∷ words ∷ conclusions ∷ weight .0 ∷ [])
+    ensures { λ r. ⌜ Adds (k * keptWidth) ((k + 1) * keptWidth) (number ∷ words ∷ conclusions ∷ weight .0 ∷ [])
         (now (rules .entry)) (now (rules .exit)) ⌝ }
 {
     rules[k * KEPT_RULE_WIDTH] = number;
