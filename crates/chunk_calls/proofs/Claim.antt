@@ -14,7 +14,7 @@ use Rattle.model.specs.Bounds.{textLimit}
 use Rattle.model.specs.Outcome.{refused}
 use Rattle.model.specs.Chunks.{TextCall, chunk, finish, textOf, anyFinish, isOver, answer, answerAfter, TextState, isOpen, bytesIn, answerIn, behind, closed, stateAfter, Made, callOf, stateThen, Tells, Link, Trace, EachCall, InChunks}
 use Rattle.laws.proofs.Tests.{clash}
-use Rattle.chunked_text.proofs.Laws.{is-open, answer-over, state-over, room, few, longer, chunk-long, chunk-kept, end-read}
+use Rattle.chunk_store.proofs.Laws.{is-open, answer-over, state-over, room, few, longer, chunk-long, chunk-kept, end-read}
 
 -- THE CALLS, with one more
 text-chunk : (cs : List TextCall) (d : List ℕ) → textOf (cs ++ (chunk d ∷ [])) ≡ textOf cs ++ d

@@ -22,14 +22,14 @@ use Rattle.model.specs.Chunks.{appended, finished, Link}
 use Rattle.model.specs.declared.Verdict.{Verdict}
 use Rattle.model.specs.declared.Written.{Written}
 use Rattle.reader.proofs.read as read
-use Rattle.chunked_text.proofs.append as append
+use Rattle.chunk_store.proofs.append as append
 use Rattle.chunked_text.proofs.finish as finish
 
 module _ {M : Type 1} (𝓤 : URA M) (H : Heap 𝓤) (A : Atoms 𝓤) (at-mem : Memory → SProp 𝓤) (run : Routine → Fun 𝓤) (κ κ′ κ″ : Lft) where
   abbrev Asks-nothing : SProp 𝓤 → Type 2
   Asks-nothing p = p ≡ connectives 𝓤 .⊤ₛ
 
-  -- `chunked_text::append`: a link with the lent store and number, as they come and as they are left
+  -- `chunk_store::append`: a link with the lent store and number, as they come and as they are left
   append-links : (d store : RefT (List ℕ)) (count : RefT ℕ) (r : Verdict) (e : AtExit append.ended (κ, (κ′, (κ″, tt))))
       → let c = append.clauses 𝓤 H A at-mem run (κ, (κ′, (κ″, tt))) (d, (store, (count, tt))) in
       Asks-nothing (c .requires tt)

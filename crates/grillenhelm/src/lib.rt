@@ -34,7 +34,7 @@ pub extern "C" fn grillenhelm_read(text: &[u8], image: &mut [u8]) -> Grillenhelm
     written(w)
 }
 
-// `chunked_text::append`.
+// `chunk_store::append`.
 #[no_mangle]
 pub extern "C" fn grillenhelm_append(
     chunk: &[u8],
@@ -47,7 +47,7 @@ pub extern "C" fn grillenhelm_append(
         ≡ stateAfter (record { store = now (store .entry); count = now (count .entry) })
         (aChunk (now (chunk .entry))) ⌝ }
 {
-    let v = chunked_text::append(chunk, store, count);
+    let v = chunk_store::append(chunk, store, count);
     verdict(v)
 }
 

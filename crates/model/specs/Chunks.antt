@@ -99,7 +99,7 @@ abbrev pub Tells : Made → Outcome (List ℕ) → Type 0
 Tells (appended d r t) o = verdictOf r ≡ verdictIn o
 Tells (finished old r new t) o = (writtenOf r ≡ lengthIn o) × (new ≡ bufferAfter old o)
 
--- what the contracts of `chunked_text::append` and `chunked_text::finish` say of a call in the state t
+-- what the contracts of `chunk_store::append` and `chunked_text::finish` say of a call in the state t
 -- (`chunk_calls/proofs/Contracts`)
 abbrev pub Link : TextState → Made → Type 0
 Link t m = Tells m (answerIn t (callOf m)) × (stateThen m ≡ stateAfter t (callOf m))

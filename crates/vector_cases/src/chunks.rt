@@ -33,7 +33,7 @@ fn run_chunk(text: &[u8], at: usize, n: usize, store: &mut [u8], count: &mut usi
         return at;
     }
     let e = at + n;
-    let v = chunked_text::append(&text[at..e], store, count);
+    let v = chunk_store::append(&text[at..e], store, count);
     write_verdict(v);
     io::write_all(1, b"\n");
     e

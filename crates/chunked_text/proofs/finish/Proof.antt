@@ -6,7 +6,7 @@ use borrow.Author.Needs.{needs}
 use borrow.Author.Tests.{not-true, not-false}
 use Rattle.model.specs.Outcome.{lengthIn, bufferAfter}
 use Rattle.model.specs.Chunks.{finish, TextState, isOpen}
-use Rattle.chunked_text.proofs.Laws.{answer-over, state-over, room, few, end-read}
+use Rattle.chunk_store.proofs.Laws.{answer-over, state-over, room, few, end-read}
 use Rattle.chunked_text.proofs.finish.Statement.{statement}
 use Rattle.chunked_text.proofs.finish.Tie as tie
 

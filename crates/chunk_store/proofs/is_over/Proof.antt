@@ -1,9 +1,9 @@
 use mathlib.Core.Path.{sym, _∙_}
 use borrow.Author.Tests.{lt-ltb}
 use Rattle.model.specs.Chunks.{TextState}
-use Rattle.chunked_text.proofs.Laws.{short-store, by-count}
-use Rattle.chunked_text.proofs.is_over.Statement.{statement}
-use Rattle.chunked_text.proofs.is_over.Tie as tie
+use Rattle.chunk_store.proofs.Laws.{short-store, by-count}
+use Rattle.chunk_store.proofs.is_over.Statement.{statement}
+use Rattle.chunk_store.proofs.is_over.Tie as tie
 
 abbrev state : tie.Start → TextState
 state s = record { store = s .args .store .now; count = s .args .n }

@@ -7,9 +7,9 @@ use borrow.Author.Needs.{needs}
 use borrow.Author.Tests.{not-true, not-false}
 use Rattle.model.specs.Outcome.{verdictIn}
 use Rattle.model.specs.Chunks.{chunk, TextState, isOpen}
-use Rattle.chunked_text.proofs.Laws.{answer-over, state-over, room, few, chunk-long, chunk-kept}
-use Rattle.chunked_text.proofs.append.Statement.{statement}
-use Rattle.chunked_text.proofs.append.Tie as tie
+use Rattle.chunk_store.proofs.Laws.{answer-over, state-over, room, few, chunk-long, chunk-kept}
+use Rattle.chunk_store.proofs.append.Statement.{statement}
+use Rattle.chunk_store.proofs.append.Tie as tie
 
 -- the state that is lent
 abbrev state : tie.Start → TextState
