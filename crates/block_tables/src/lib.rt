@@ -4,7 +4,7 @@ ghost use mathlib.Core.Path.{_≡_};
 ghost use Prim.Native.Nat.{_≤_};
 ghost use lib.ListN.{length};
 ghost use Rattle.model.specs.Bounds.{inputLimit};
-ghost use Rattle.block_tables.specs.Changes.{named, Typed};
+ghost use Rattle.block_tables.specs.Changes.{Typed};
 use lookup::Names;
 use model::Crisp;
 use model::Point;
@@ -82,16 +82,6 @@ pub struct Totals {
     pub rules: usize,
     pub words: usize,
     pub conclusions: usize,
-}
-
-// The block's name in the tables.
-pub fn set_name(t: Tables, start: usize, end: usize) -> Tables
-    ensures { λ r. ⌜ r ≡ named t start end ⌝ }
-{
-    let mut r = t;
-    r.start = start;
-    r.end = end;
-    r
 }
 
 // These rows, INT from one on up to another.

@@ -1,4 +1,4 @@
--- The empty tables, the parts that are there, and the end.
+-- The empty tables, the sections up to the rule block, the parts that are there, and the end.
 use mathlib.Core.Path.{_≡_, refl, sym, ap, _∙_}
 use mathlib.Core.Bool.{Bool, true, false, _&&_, not}
 use mathlib.Core.List.{List, [], _∷_, map}
@@ -9,28 +9,38 @@ use lib.Dec.{eqb, ltb}
 use lib.ListN.{length, getD, replicate}
 use Rattle.model.specs.Basic.{all, isEmpty, tab}
 use Rattle.model.specs.Block as block
-use Rattle.model.specs.Block.{Block, termsOf, singletonsOf, emptyBlock}
+use Rattle.model.specs.Block.{Block, termsOf, singletonsOf, emptyBlock, withName}
 use Rattle.model.specs.Bounds.{inputLimit, outputLimit, pointLimit, variableLimit, inputTermLimit, outputTermLimit, symbolLimit}
-use Rattle.model.specs.Keywords.{END, END-FUNCTION-BLOCK, END-RULEBLOCK}
-use Rattle.model.specs.Parse.{Parse, Part, is, refuse, advance, judged, expect}
+use Rattle.model.specs.Keywords.{END, DEFUZZIFY, END-FUNCTION-BLOCK, END-RULEBLOCK, FUNCTION-BLOCK, FUZZIFY}
+use Rattle.model.specs.Parse.{Parse, Part, is, refuse, advance, judged, expect, repeated, ownName}
+use Rattle.model.specs.Declarations.{fuzzify, defuzzify}
 use Rattle.model.specs.Tokens.{tokens}
 use Rattle.model.specs.Reader.{start, partsThere, endOfBlock}
 use Rattle.laws.proofs.Places.{all-start}
 use Rattle.laws.proofs.Arrays.{replicate-at}
 use Rattle.block_tables.specs.declared.Tables.{Tables}
 use Rattle.block_tables.specs.declared.Term.{Term}
-use Rattle.block_tables.specs.View.{no-input, no-output, no-point, no-term, no-singleton, blockView, Stands, Indexed, Holds}
+use Rattle.block_tables.specs.View.{no-input, no-output, no-term, no-singleton, blockView, Stands, Indexed, Holds}
 use Rattle.cursor.specs.declared.Cursor.{Cursor}
 use Rattle.cursor.specs.View.{seen, Fits, Step}
 use Rattle.cursor.proofs.Laws.{kind-seen, block-seen, steps, lost-kind}
-use Rattle.parse_state.specs.Reads.{view}
+use Rattle.parse_state.specs.Reads.{view, Reads}
+use Rattle.parse_state.specs.Beside.{Ready, Collects}
+use Rattle.parse_state.proofs.Laws as reading
+use Rattle.parse_state.proofs.Laws.{at}
+use Rattle.declaration_text.specs.declared.BlockName.{BlockName}
+use Rattle.declaration_text.specs.declared.DeclaredInputs.{DeclaredInputs}
+use Rattle.declaration_text.specs.declared.DeclaredOutputs.{DeclaredOutputs}
+use Rattle.declaration_text.specs.Declares.{unnamed, withBlockName, withInputs, withOutputs}
+use Rattle.fuzzify_text.specs.declared.Inputs.{Inputs}
+use Rattle.fuzzify_text.specs.Terms.{inputsIn}
+use Rattle.defuzzify_text.specs.declared.Outputs.{Outputs}
+use Rattle.defuzzify_text.specs.Output.{withOutputs as outputsIn}
 use Rattle.symbol_table.specs.Symbols.{Describes, first, inputCount, outputCount}
+use Rattle.block_text.specs.Block.{blankTerm, noInputs, noOutputs, noTerms, noSingletons, inputsText, outputsText, frontText}
 use Rattle.block_text.specs.Block.{backText, blockEnd, textEnd, backTo, haveTerms, allHaveTerms, Ends}
 
 -- THE EMPTY TABLES
-abbrev blank-term : Term
-blank-term = record { start = 0; end = 0; count = 0; points = replicate pointLimit no-point }
-
 abbrev pub empty : Tables
 empty = record {
   start = 0;
@@ -39,12 +49,12 @@ empty = record {
   «output_count» = 0;
   inputs = replicate inputLimit no-input;
   outputs = replicate outputLimit no-output;
-  «input_terms» = replicate inputTermLimit blank-term;
+  «input_terms» = replicate inputTermLimit blankTerm;
   «output_terms» = replicate outputTermLimit no-singleton;
   names = replicate (symbolLimit * 2) 0;
 }
 
-pub empty-view : (s : List ℕ) → blockView s empty ≡ emptyBlock
+empty-view : (s : List ℕ) → blockView s empty ≡ emptyBlock
 unfolding blockView tab
 empty-view s = refl
 
@@ -74,7 +84,7 @@ empty-indexed : Indexed (empty .names) empty
 empty-indexed = record {
   input = λ i h. stand (λ v. v .start) (λ v. v .end) inputLimit no-input no-input refl refl refl refl i i;
   output = λ o h. stand (λ v. v .start) (λ v. v .end) outputLimit no-output no-output refl refl refl refl (inputLimit + o) o;
-  term = λ k h. stand (λ v. v .start) (λ v. v .end) inputTermLimit blank-term no-term refl refl refl refl (variableLimit + k) k;
+  term = λ k h. stand (λ v. v .start) (λ v. v .end) inputTermLimit blankTerm no-term refl refl refl refl (variableLimit + k) k;
   singleton = λ k h. stand (λ v. v .start) (λ v. v .end) outputTermLimit no-singleton no-singleton refl refl refl refl
       (variableLimit + inputTermLimit + k) k;
 }
@@ -89,19 +99,68 @@ empty-holds s = record {
   outputCount = omega arith;
   inputTerms = λ i. rw (replicate-at inputLimit i no-input) (omega arith);
   outputTerms = λ o. rw (replicate-at outputLimit o no-output) (omega arith);
-  pointCounts = λ k. alike (λ (v : Term). v .count ≤ pointLimit) inputTermLimit k blank-term no-term (omega arith) (omega arith);
+  pointCounts = λ k. alike (λ (v : Term). v .count ≤ pointLimit) inputTermLimit k blankTerm no-term (omega arith) (omega arith);
   names-size = refl;
   inputs-size = refl;
   outputs-size = refl;
   terms-size = refl;
-  points-size = λ k h. alike-within (λ (v : Term). length (v .points) ≡ pointLimit) inputTermLimit k blank-term no-term h refl;
+  points-size = λ k h. alike-within (λ (v : Term). length (v .points) ≡ pointLimit) inputTermLimit k blankTerm no-term h refl;
   singletons-size = refl;
 }
 
-pub begun : (s : List ℕ) (c : Cursor) (t : Tables) → ((b : Block) (n : ℕ) → seen s c b n ≡ record { rest = tokens s; why = 0; place = 0; block = b; words = n })
-    → blockView s t ≡ emptyBlock → view s (record { cursor = c; tables = t }) ≡ start s
+pub begun : (s : List ℕ) (c : Cursor) → ((b : Block) (n : ℕ) → seen s c b n ≡ record { rest = tokens s; why = 0; place = 0; block = b; words = n })
+    → view s (record { cursor = c; tables = empty }) ≡ start s
 unfolding view
-begun s c t e h = e (blockView s t) 0 ∙ ap (λ (b : Block). record { rest = tokens s; why = 0; place = 0; block = b; words = 0 }) h
+begun s c e = e (blockView s empty) 0 ∙ ap (λ (b : Block). record { rest = tokens s; why = 0; place = 0; block = b; words = 0 }) (empty-view s)
+
+-- ONE SECTION AFTER THE OTHER, each beside the tables that those before it left
+module _ (s : List ℕ) (a b : Cursor) (n : BlockName) (x : Step (expect FUNCTION-BLOCK) s a b)
+    (y : Collects (ownName withName) s (withBlockName (unnamed b)) (withBlockName n)) where
+  called : Reads (λ r. ownName withName (expect FUNCTION-BLOCK r)) s (at a empty) (withBlockName n empty)
+  called = reading.next (reading.step empty (empty-holds s) x) (y empty (record { fits = x .fits; holds = empty-holds s }))
+
+  pub ready-inputs : Ready s (withInputs 0 (empty .names) (noInputs (n .cursor)))
+  ready-inputs = record { tables = withBlockName n empty .tables; good = called .good }
+
+  module _ (names₁ : List ℕ) (i : DeclaredInputs)
+      (z : Collects inputsText s (withInputs 0 (empty .names) (noInputs (n .cursor))) (withInputs 0 names₁ i)) where
+    abbrev taking : Tables
+    taking = withInputs 0 names₁ i (withBlockName n empty .tables) .tables
+
+    takes : Reads (λ r. inputsText (ownName withName (expect FUNCTION-BLOCK r))) s (at a empty) (at (i .cursor) taking)
+    takes = reading.next called (z (withBlockName n empty .tables) (called .good))
+
+    pub ready-outputs : Ready s (withOutputs (i .count) names₁ (noOutputs (i .cursor)))
+    ready-outputs = record { tables = taking; good = takes .good }
+
+    module _ (names₂ : List ℕ) (o : DeclaredOutputs)
+        (u : Collects outputsText s (withOutputs (i .count) names₁ (noOutputs (i .cursor))) (withOutputs (i .count) names₂ o)) where
+      abbrev giving : Tables
+      giving = withOutputs (i .count) names₂ o taking .tables
+
+      gives : Reads (λ r. outputsText (inputsText (ownName withName (expect FUNCTION-BLOCK r)))) s (at a empty) (at (o .cursor) giving)
+      gives = reading.next takes (u taking (takes .good))
+
+      pub ready-terms : Ready s (inputsIn names₂ (noTerms (o .cursor) i))
+      ready-terms = record { tables = giving; good = gives .good }
+
+      module _ (names₃ : List ℕ) (p : Inputs)
+          (v : Collects (λ q. repeated FUZZIFY fuzzify (fuzzify q)) s (inputsIn names₂ (noTerms (o .cursor) i)) (inputsIn names₃ p)) where
+        abbrev fuzzifying : Tables
+        fuzzifying = inputsIn names₃ p giving .tables
+
+        fuzzifies : Reads (λ r. repeated FUZZIFY fuzzify (fuzzify (outputsText (inputsText (ownName withName (expect FUNCTION-BLOCK r)))))) s (at a empty)
+            (at (p .cursor) fuzzifying)
+        fuzzifies = reading.next gives (v giving (gives .good))
+
+        pub ready-singletons : Ready s (outputsIn names₃ (noSingletons (p .cursor) o))
+        ready-singletons = record { tables = fuzzifying; good = fuzzifies .good }
+
+        pub whole : {names₄ : List ℕ} {q : Outputs}
+            → Collects (λ r. repeated DEFUZZIFY defuzzify (defuzzify r)) s (outputsIn names₃ (noSingletons (p .cursor) o)) (outputsIn names₄ q)
+            → Reads frontText s (at a empty) (outputsIn names₄ q fuzzifying)
+        unfolding frontText
+        whole w = reading.next fuzzifies (w fuzzifying (fuzzifies .good))
 
 -- EVERY VARIABLE HAS ITS PART
 filled : {A : Type 0} (l : List A) → not (isEmpty l) ≡ ltb 0 (length l)

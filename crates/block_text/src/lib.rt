@@ -1,39 +1,75 @@
 // A function block's text around its rule block: name, variables, FUZZIFY and DEFUZZIFY before it, the end behind it.
 ghost use mathlib.Core.Path.{_≡_};
-ghost use mathlib.Core.List.{List};
-ghost use Prim.Native.Nat.{ℕ, _+_, _≤_};
+ghost use Prim.Native.Nat.{_+_, _≤_};
 ghost use Rattle.model.specs.Bounds.{inputLimit, outputLimit, variableLimit};
-ghost use Rattle.model.specs.Block.{emptyBlock};
+ghost use Rattle.model.specs.Keywords.{FUZZIFY, DEFUZZIFY};
+ghost use Rattle.model.specs.Parse.{repeated};
+ghost use Rattle.model.specs.Declarations.{fuzzify, defuzzify};
 ghost use Rattle.model.specs.Reader.{start};
-ghost use Rattle.block_tables.specs.View.{blockView, Holds};
 ghost use Rattle.cursor.specs.View.{Fits, Step};
-ghost use Rattle.parse_state.specs.Reads.{view, Good, Reads};
+ghost use Rattle.parse_state.specs.Reads.{view, Good};
+ghost use Rattle.parse_state.specs.Beside.{Ready, Collects};
+ghost use Rattle.declaration_text.specs.Declares.{withInputs, withOutputs};
+ghost use Rattle.fuzzify_text.specs.Terms.{inputsIn};
+ghost use Rattle.defuzzify_text.specs.Output.{withOutputs as outputsIn};
 ghost use Rattle.symbol_table.specs.Symbols.{inputCount, outputCount};
-ghost use Rattle.block_text.specs.Block.{variablesText, frontText, backTo, haveTerms, allHaveTerms};
+ghost use Rattle.block_text.specs.Block.{noInputs, noOutputs, noTerms, noSingletons};
+ghost use Rattle.block_text.specs.Block.{inputsText, outputsText, frontText, backTo, haveTerms, allHaveTerms};
 use block_tables::Input;
 use block_tables::Output;
 use block_tables::Singleton;
 use block_tables::Tables;
 use block_tables::Term;
 use cursor::Cursor;
+use declaration_text::DeclaredInputs;
+use declaration_text::DeclaredOutputs;
+use defuzzify_text::Outputs;
+use fuzzify_text::Inputs;
+use lookup::Names;
 use model::Crisp;
 use model::Degree;
 use model::Point;
 use parse_state::ParseState;
 use symbol_table::SymbolTable;
 
-fn empty_tables() -> Tables
-    ensures { λ r. ⌜ ((s : List ℕ) → blockView s r ≡ emptyBlock) ⌝ }
-    ensures holds { λ r. ⌜ ((s : List ℕ) → Holds s r) ⌝ }
+// VAR_INPUT, declarations, END_VAR.
+fn inputs(s: &[u8], names: &mut Names, c: Cursor) -> DeclaredInputs
+    requires { ⌜ Ready (now s) (withInputs 0 (now names) (noInputs c)) ⌝ }
+    ensures { λ r. ⌜ Collects inputsText (now (s .entry))
+        (withInputs 0 (now (names .entry)) (noInputs c)) (withInputs 0 (now (names .exit)) r) ⌝ }
 {
-    let z = Crisp(0);
-    let i = Input {
+    let v = Input {
         start: 0,
         end: 0,
         int: false,
         terms: 0,
     };
-    let o = Output {
+    let rows = [v; bounds::INPUTS];
+    let d = cursor::expect(s, c, token_kinds::VAR_INPUT);
+    let mut r = declaration_text::all_inputs(
+        s,
+        names,
+        DeclaredInputs {
+            cursor: d,
+            count: 0,
+            rows: rows,
+        },
+        0,
+    );
+    let e = r.cursor;
+    let f = cursor::expect(s, e, token_kinds::END_VAR);
+    r.cursor = f;
+    r
+}
+
+// VAR_OUTPUT, declarations, END_VAR, beside m inputs.
+fn outputs(s: &[u8], names: &mut Names, c: Cursor, m: usize) -> DeclaredOutputs
+    requires { ⌜ Ready (now s) (withOutputs m (now names) (noOutputs c)) ⌝ }
+    ensures { λ r. ⌜ Collects outputsText (now (s .entry))
+        (withOutputs m (now (names .entry)) (noOutputs c)) (withOutputs m (now (names .exit)) r) ⌝ }
+{
+    let z = Crisp(0);
+    let v = Output {
         start: 0,
         end: 0,
         terms: 0,
@@ -43,72 +79,116 @@ fn empty_tables() -> Tables
         numbered: false,
         default: z,
     };
-    let p = Point {
-        at: z,
+    let rows = [v; bounds::OUTPUTS];
+    let d = cursor::expect(s, c, token_kinds::VAR_OUTPUT);
+    let mut r = declaration_text::all_outputs(
+        s,
+        names,
+        DeclaredOutputs {
+            cursor: d,
+            count: 0,
+            rows: rows,
+        },
+        m,
+    );
+    let e = r.cursor;
+    let f = cursor::expect(s, e, token_kinds::END_VAR);
+    r.cursor = f;
+    r
+}
+
+// FUZZIFY parts of the inputs v.
+fn input_terms(s: &[u8], names: &mut Names, c: Cursor, v: DeclaredInputs) -> Inputs
+    requires { ⌜ Ready (now s) (inputsIn (now names) (noTerms c v)) ⌝ }
+    ensures { λ r. ⌜ Collects (λ q. repeated FUZZIFY fuzzify (fuzzify q)) (now (s .entry))
+        (inputsIn (now (names .entry)) (noTerms c v)) (inputsIn (now (names .exit)) r) ⌝ }
+{
+    let z = Point {
+        at: Crisp(0),
         degree: Degree(0),
     };
-    let v = Term {
+    let t = Term {
         start: 0,
         end: 0,
         count: 0,
-        points: [p; bounds::POINTS],
+        points: [z; bounds::POINTS],
     };
-    let w = Singleton {
-        start: 0,
-        end: 0,
-        at: z,
-    };
-    Tables {
-        start: 0,
-        end: 0,
-        input_count: 0,
-        output_count: 0,
-        inputs: [i; bounds::INPUTS],
-        outputs: [o; bounds::OUTPUTS],
-        input_terms: [v; bounds::INPUT_TERMS],
-        output_terms: [w; bounds::OUTPUT_TERMS],
-        names: [0; lookup::ENDS + bounds::NAMES],
-    }
+    let terms = [t; bounds::INPUT_TERMS];
+    let rows = v.rows;
+    fuzzify_text::parts(
+        s,
+        names,
+        Inputs {
+            cursor: c,
+            count: v.count,
+            rows: rows,
+            terms: terms,
+        },
+    )
 }
 
-fn variables(s: &[u8], p: ParseState) -> ParseState
-    requires { ⌜ Good (now s) p ⌝ }
-    ensures { λ r. ⌜ Reads variablesText (now (s .entry)) p r ⌝ }
+// DEFUZZIFY parts of the outputs v.
+fn output_terms(s: &[u8], names: &mut Names, c: Cursor, v: DeclaredOutputs) -> Outputs
+    requires { ⌜ Ready (now s) (outputsIn (now names) (noSingletons c v)) ⌝ }
+    ensures { λ r. ⌜ Collects (λ q. repeated DEFUZZIFY defuzzify (defuzzify q)) (now (s .entry))
+        (outputsIn (now (names .entry)) (noSingletons c v)) (outputsIn (now (names .exit)) r) ⌝ }
 {
-    let c = p.cursor;
-    let d = cursor::expect(s, c, token_kinds::VAR_INPUT);
-    let mut q = p;
-    q.cursor = d;
-    let mut r = declaration_text::input_declarations(s, q);
-    let e = r.cursor;
-    let f = cursor::expect(s, e, token_kinds::END_VAR);
-    let g = cursor::expect(s, f, token_kinds::VAR_OUTPUT);
-    r.cursor = g;
-    let mut u = declaration_text::output_declarations(s, r);
-    let h = u.cursor;
-    let i = cursor::expect(s, h, token_kinds::END_VAR);
-    u.cursor = i;
-    u
+    let t = Singleton {
+        start: 0,
+        end: 0,
+        at: Crisp(0),
+    };
+    let singletons = [t; bounds::OUTPUT_TERMS];
+    let rows = v.rows;
+    defuzzify_text::parts(
+        s,
+        names,
+        Outputs {
+            cursor: c,
+            count: v.count,
+            rows: rows,
+            singletons: singletons,
+        },
+    )
 }
 
-// From the first token up to the rule block.
+// From the first token up to the rule block. The tables are put together once, from what each section gave.
 pub fn front(s: &[u8]) -> ParseState
     ensures { λ r. ⌜ view (now (s .entry)) r ≡ frontText (start (now (s .entry))) ⌝ }
     ensures good { λ r. ⌜ Good (now (s .entry)) r ⌝ }
 {
-    let c = cursor::begin(s);
-    let d = cursor::expect(s, c, token_kinds::FUNCTION_BLOCK);
-    let t = empty_tables();
-    let a = declaration_text::block_name(
-        s,
-        ParseState {
-            cursor: d,
-            tables: t,
-        },
-    );
-    let b = variables(s, a);
-    let f = fuzzify_text::fuzzify_parts(s, b);
-    defuzzify_text::defuzzify_parts(s, f)
+    let a = cursor::begin(s);
+    let b = cursor::expect(s, a, token_kinds::FUNCTION_BLOCK);
+    let name = declaration_text::block_name(s, b);
+    let mut names = [0; lookup::ENDS + bounds::NAMES];
+    let c = name.cursor;
+    let i = inputs(s, &mut names, c);
+    let d = i.cursor;
+    let o = outputs(s, &mut names, d, i.count);
+    let e = o.cursor;
+    let p = input_terms(s, &mut names, e, i);
+    let f = p.cursor;
+    let q = output_terms(s, &mut names, f, o);
+    let inputs = p.rows;
+    let outputs = q.rows;
+    let terms = p.terms;
+    let singletons = q.singletons;
+    let t = Tables {
+        start: name.start,
+        end: name.end,
+        input_count: p.count,
+        output_count: q.count,
+        inputs: inputs,
+        outputs: outputs,
+        input_terms: terms,
+        output_terms: singletons,
+        names: names,
+    };
+    let g = q.cursor;
+    ParseState {
+        cursor: g,
+        tables: t,
+    }
 }
 
 // Whether each of n variables from v on has a term.

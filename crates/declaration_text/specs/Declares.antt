@@ -12,8 +12,11 @@ use Rattle.model.specs.Tokens.{sameName}
 use Rattle.model.specs.Parse.{Parse, Checks, text, aName}
 use Rattle.model.specs.Declarations.{inputOf, outputOf, isInput, isOutput}
 use Rattle.lookup.specs.Names.{nameOf}
+use Rattle.cursor.specs.declared.Cursor.{Cursor}
 use Rattle.block_tables.specs.declared.Tables.{Tables}
+use Rattle.block_tables.specs.Changes.{named}
 use Rattle.parse_state.specs.declared.ParseState.{ParseState}
+use Rattle.declaration_text.specs.declared.BlockName.{BlockName}
 use Rattle.declaration_text.specs.declared.DeclaredInputs.{DeclaredInputs}
 use Rattle.declaration_text.specs.declared.DeclaredOutputs.{DeclaredOutputs}
 
@@ -27,6 +30,14 @@ pub record Declares (s names : List ℕ) (m n : ℕ) (b : Block) : Type 0 where
 -- what a new variable is checked for, where there is room or not
 abbrev pub newChecks : Parse → Bool → Checks
 newChecks r room = aName r ((not (isInput (text r) (r .block) || isOutput (text r) (r .block)), 4) ∷ (room, 6) ∷ [])
+
+-- before the block's name
+abbrev pub unnamed : Cursor → BlockName
+unnamed c = record { cursor = c; start = 0; end = 0 }
+
+-- the block's name p, in the tables t
+abbrev pub withBlockName : BlockName → Tables → ParseState
+withBlockName p t = record { cursor = p .cursor; tables = named t (p .start) (p .end) }
 
 -- the inputs p with their names and m outputs, in the tables t
 abbrev pub withInputs : ℕ → List ℕ → DeclaredInputs → Tables → ParseState

@@ -1,4 +1,4 @@
-// VAR_INPUT and VAR_OUTPUT: names with commas, a colon, the type, a semicolon.
+// The block's name, and its variables in VAR_INPUT and VAR_OUTPUT: names with commas, a colon, the type, a semicolon.
 ghost use mathlib.Core.Path.{_≡_};
 ghost use mathlib.Core.Bool.{true};
 ghost use mathlib.Core.List.{List};
@@ -10,49 +10,53 @@ ghost use Rattle.model.specs.Bounds.{inputLimit, outputLimit};
 ghost use Rattle.model.specs.Declarations.{variable, addInput, addOutput, inputCount, outputCount, inputType, inputDeclaration, outputDeclaration};
 ghost use Rattle.lookup.specs.Names.{Placed};
 ghost use Rattle.cursor.specs.View.{seen, Fits, Moves, fault};
-ghost use Rattle.parse_state.specs.Reads.{Good, Reads};
 ghost use Rattle.parse_state.specs.Beside.{Ready, Collects};
-ghost use Rattle.declaration_text.specs.Declares.{Declares, newChecks, withInputs, withOutputs};
+ghost use Rattle.declaration_text.specs.Declares.{Declares, newChecks, unnamed, withBlockName, withInputs, withOutputs};
 use block_tables::Input;
 use block_tables::Output;
 use cursor::Cursor;
 use lookup::Names;
 use model::Crisp;
-use parse_state::ParseState;
 
 // A reading among inputs: how many there are, and their rows, beside the tables' names.
-struct DeclaredInputs {
-    cursor: Cursor,
-    count: usize,
-    rows: [Input; bounds::INPUTS],
+pub struct DeclaredInputs {
+    pub cursor: Cursor,
+    pub count: usize,
+    pub rows: [Input; bounds::INPUTS],
 }
 
 // A reading among outputs, likewise.
-struct DeclaredOutputs {
-    cursor: Cursor,
-    count: usize,
-    rows: [Output; bounds::OUTPUTS],
+pub struct DeclaredOutputs {
+    pub cursor: Cursor,
+    pub count: usize,
+    pub rows: [Output; bounds::OUTPUTS],
 }
 
-// The block's name.
-pub fn block_name(s: &[u8], p: ParseState) -> ParseState
-    requires { ⌜ Good (now s) p ⌝ }
-    ensures { λ r. ⌜ Reads (ownName withName) (now (s .entry)) p r ⌝ }
+// The cursor behind the block's name, and the place of the name; 0 where it is refused.
+pub struct BlockName {
+    pub cursor: Cursor,
+    pub start: usize,
+    pub end: usize,
+}
+
+pub fn block_name(s: &[u8], c: Cursor) -> BlockName
+    requires { ⌜ Fits (now s) c ⌝ }
+    ensures { λ r. ⌜ Collects (ownName withName) (now (s .entry)) (withBlockName (unnamed c)) (withBlockName r) ⌝ }
 {
-    let c = p.cursor;
     let w = cursor::name_fault(c);
-    let mut r = p;
     if w != 0 {
         let d = cursor::refuse(c, w);
-        r.cursor = d;
-        return r;
+        return BlockName {
+            cursor: d,
+            start: 0,
+            end: 0,
+        };
     }
-    let t = p.tables;
-    let u = block_tables::set_name(t, c.start, c.end);
     let d = cursor::advance(s, c);
-    ParseState {
+    BlockName {
         cursor: d,
-        tables: u,
+        start: c.start,
+        end: c.end,
     }
 }
 
@@ -232,7 +236,8 @@ fn output_declaration(s: &[u8], names: &mut Names, p: DeclaredOutputs, m: usize)
     q
 }
 
-fn all_inputs(s: &[u8], names: &mut Names, p: DeclaredInputs, m: usize) -> DeclaredInputs
+// Declarations of inputs, one or more, beside m outputs.
+pub fn all_inputs(s: &[u8], names: &mut Names, p: DeclaredInputs, m: usize) -> DeclaredInputs
     requires { ⌜ Ready (now s) (withInputs m (now names) p) ⌝ }
     ensures { λ r. ⌜ Collects (λ q. repeated NAME inputDeclaration (inputDeclaration q)) (now (s .entry))
         (withInputs m (now (names .entry)) p) (withInputs m (now (names .exit)) r) ⌝ }
@@ -244,7 +249,8 @@ fn all_inputs(s: &[u8], names: &mut Names, p: DeclaredInputs, m: usize) -> Decla
     q
 }
 
-fn all_outputs(s: &[u8], names: &mut Names, p: DeclaredOutputs, m: usize) -> DeclaredOutputs
+// Declarations of outputs, likewise.
+pub fn all_outputs(s: &[u8], names: &mut Names, p: DeclaredOutputs, m: usize) -> DeclaredOutputs
     requires { ⌜ Ready (now s) (withOutputs m (now names) p) ⌝ }
     ensures { λ r. ⌜ Collects (λ q. repeated NAME outputDeclaration (outputDeclaration q)) (now (s .entry))
         (withOutputs m (now (names .entry)) p) (withOutputs m (now (names .exit)) r) ⌝ }
@@ -254,62 +260,4 @@ fn all_outputs(s: &[u8], names: &mut Names, p: DeclaredOutputs, m: usize) -> Dec
         q = output_declaration(s, names, q, m);
     }
     q
-}
-
-pub fn input_declarations(s: &[u8], p: ParseState) -> ParseState
-    requires { ⌜ Good (now s) p ⌝ }
-    ensures { λ r. ⌜ Reads (λ q. repeated NAME inputDeclaration (inputDeclaration q)) (now (s .entry)) p r ⌝ }
-{
-    let c = p.cursor;
-    let mut t = p.tables;
-    let rows = t.inputs;
-    let n = t.input_count;
-    let m = t.output_count;
-    let q = all_inputs(
-        s,
-        &mut t.names,
-        DeclaredInputs {
-            cursor: c,
-            count: n,
-            rows: rows,
-        },
-        m,
-    );
-    let d = q.cursor;
-    let next = q.rows;
-    t.inputs = next;
-    t.input_count = q.count;
-    ParseState {
-        cursor: d,
-        tables: t,
-    }
-}
-
-pub fn output_declarations(s: &[u8], p: ParseState) -> ParseState
-    requires { ⌜ Good (now s) p ⌝ }
-    ensures { λ r. ⌜ Reads (λ q. repeated NAME outputDeclaration (outputDeclaration q)) (now (s .entry)) p r ⌝ }
-{
-    let c = p.cursor;
-    let mut t = p.tables;
-    let rows = t.outputs;
-    let n = t.output_count;
-    let m = t.input_count;
-    let q = all_outputs(
-        s,
-        &mut t.names,
-        DeclaredOutputs {
-            cursor: c,
-            count: n,
-            rows: rows,
-        },
-        m,
-    );
-    let d = q.cursor;
-    let next = q.rows;
-    t.outputs = next;
-    t.output_count = q.count;
-    ParseState {
-        cursor: d,
-        tables: t,
-    }
 }

@@ -13,7 +13,6 @@ ghost use Rattle.model.specs.Declarations.{upperEnd, rangeBody, rangePart, figu
 ghost use Rattle.cursor.specs.View.{seen, textOf, Fits, Step, Moves, fault};
 ghost use Rattle.lookup.specs.Names.{Placed};
 ghost use Rattle.block_tables.specs.View.{rangeView};
-ghost use Rattle.parse_state.specs.Reads.{Good, Reads};
 ghost use Rattle.parse_state.specs.Beside.{Ready, Collects};
 ghost use Rattle.defuzzify_text.specs.Output.{rowOf, withOutputs, HasSingletons, figureChecks, termChecks, methodText, partText};
 use block_tables::Output;
@@ -22,14 +21,13 @@ use cursor::Cursor;
 use lookup::Names;
 use model::Crisp;
 use number_tokens::CrispHere;
-use parse_state::ParseState;
 
 // A reading among outputs: what DEFUZZIFY changes of the tables, beside their names.
-struct Outputs {
-    cursor: Cursor,
-    count: usize,
-    rows: [Output; bounds::OUTPUTS],
-    singletons: [Singleton; bounds::OUTPUT_TERMS],
+pub struct Outputs {
+    pub cursor: Cursor,
+    pub count: usize,
+    pub rows: [Output; bounds::OUTPUTS],
+    pub singletons: [Singleton; bounds::OUTPUT_TERMS],
 }
 
 // The upper end of the RANGE of output o, above its lower end x.
@@ -412,7 +410,8 @@ fn defuzzify_part(s: &[u8], names: &mut Names, p: Outputs) -> Outputs
     defuzzify_named(s, names, q)
 }
 
-fn parts(s: &[u8], names: &mut Names, p: Outputs) -> Outputs
+// DEFUZZIFY parts, one or more.
+pub fn parts(s: &[u8], names: &mut Names, p: Outputs) -> Outputs
     requires { ⌜ Ready (now s) (withOutputs (now names) p) ⌝ }
     ensures { λ r. ⌜ Collects (λ q. repeated DEFUZZIFY defuzzify (defuzzify q))
         (now (s .entry)) (withOutputs (now (names .entry)) p)
@@ -424,35 +423,4 @@ fn parts(s: &[u8], names: &mut Names, p: Outputs) -> Outputs
         q = defuzzify_part(s, names, q);
     }
     q
-}
-
-// DEFUZZIFY parts, one or more.
-pub fn defuzzify_parts(s: &[u8], p: ParseState) -> ParseState
-    requires { ⌜ Good (now s) p ⌝ }
-    ensures { λ r. ⌜ Reads (λ q. repeated DEFUZZIFY defuzzify (defuzzify q)) (now (s .entry)) p r ⌝ }
-{
-    let c = p.cursor;
-    let mut t = p.tables;
-    let rows = t.outputs;
-    let singletons = t.output_terms;
-    let n = t.output_count;
-    let q = parts(
-        s,
-        &mut t.names,
-        Outputs {
-            cursor: c,
-            count: n,
-            rows: rows,
-            singletons: singletons,
-        },
-    );
-    let d = q.cursor;
-    let next = q.rows;
-    let terms = q.singletons;
-    t.outputs = next;
-    t.output_terms = terms;
-    ParseState {
-        cursor: d,
-        tables: t,
-    }
 }

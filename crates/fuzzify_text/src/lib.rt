@@ -11,7 +11,6 @@ ghost use Rattle.model.specs.Parse.{listed, repeated};
 ghost use Rattle.model.specs.Declarations.{pointDegree as aDegree, pointBody, point as aPoint, inputTerm, fuzzifyVariable, fuzzify as aFuzzify};
 ghost use Rattle.lookup.specs.Names.{Placed};
 ghost use Rattle.cursor.specs.View.{textOf, Fits, Step, Moves};
-ghost use Rattle.parse_state.specs.Reads.{Good, Reads};
 ghost use Rattle.parse_state.specs.Beside.{Ready, Collects};
 ghost use Rattle.fuzzify_text.specs.Terms.{mayStand, positionAfter, endAfter, ReadsPoint, noPoints, Reads as ReadsShape, termFrom, Terms, Names as Reached, Named, inputsIn};
 use block_tables::Input;
@@ -21,7 +20,6 @@ use lookup::Names;
 use model::Crisp;
 use model::Degree;
 use model::Point;
-use parse_state::ParseState;
 
 // The cursor behind a position, and its value where it is not refused.
 struct At {
@@ -50,11 +48,11 @@ struct Shape {
 }
 
 // A reading among inputs: what FUZZIFY changes of the tables, beside their names.
-struct Inputs {
-    cursor: Cursor,
-    count: usize,
-    rows: [Input; bounds::INPUTS],
-    terms: [Term; bounds::INPUT_TERMS],
+pub struct Inputs {
+    pub cursor: Cursor,
+    pub count: usize,
+    pub rows: [Input; bounds::INPUTS],
+    pub terms: [Term; bounds::INPUT_TERMS],
 }
 
 // The cursor behind the name of a term, and the place of the name.
@@ -417,7 +415,8 @@ fn fuzzify(s: &[u8], names: &mut Names, p: Inputs) -> Inputs
     fuzzify_named(s, names, q)
 }
 
-fn parts(s: &[u8], names: &mut Names, p: Inputs) -> Inputs
+// FUZZIFY parts, one or more.
+pub fn parts(s: &[u8], names: &mut Names, p: Inputs) -> Inputs
     requires { ⌜ Ready (now s) (inputsIn (now names) p) ⌝ }
     ensures { λ r. ⌜ Collects (λ q. repeated FUZZIFY aFuzzify (aFuzzify q))
         (now (s .entry)) (inputsIn (now (names .entry)) p)
@@ -429,35 +428,4 @@ fn parts(s: &[u8], names: &mut Names, p: Inputs) -> Inputs
         q = fuzzify(s, names, q);
     }
     q
-}
-
-// FUZZIFY parts, one or more.
-pub fn fuzzify_parts(s: &[u8], p: ParseState) -> ParseState
-    requires { ⌜ Good (now s) p ⌝ }
-    ensures { λ r. ⌜ Reads (λ q. repeated FUZZIFY aFuzzify (aFuzzify q)) (now (s .entry)) p r ⌝ }
-{
-    let c = p.cursor;
-    let mut t = p.tables;
-    let rows = t.inputs;
-    let terms = t.input_terms;
-    let n = t.input_count;
-    let q = parts(
-        s,
-        &mut t.names,
-        Inputs {
-            cursor: c,
-            count: n,
-            rows: rows,
-            terms: terms,
-        },
-    );
-    let d = q.cursor;
-    let next = q.rows;
-    let read = q.terms;
-    t.inputs = next;
-    t.input_terms = read;
-    ParseState {
-        cursor: d,
-        tables: t,
-    }
 }

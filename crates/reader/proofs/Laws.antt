@@ -27,7 +27,7 @@ use Rattle.block_tables.specs.View.{inputsView, outputsView, blockView, wholeVi
 use Rattle.parse_state.specs.Reads.{view}
 use Rattle.rule_heading.specs.Opening.{opening, headed, Bare}
 use Rattle.rule_text.specs.Progress.{Kept, holding}
-use Rattle.block_text.specs.Block.{variablesText, frontText, backText, Ends}
+use Rattle.block_text.specs.Block.{inputsText, outputsText, frontText, backText, Ends}
 use Rattle.refusals.proofs.Numbers.{reads-known}
 
 pub bare : (s : List ℕ) (t : Tables) → Bare (blockView s t)
@@ -77,7 +77,7 @@ module _ (s : List ℕ) (t : Tables) (h : Heading) where
       (head : seen s d (headed s h (blockView s t)) 0 ≡ opening (seen s c (blockView s t) 0))
       (rules : seen s e (holding rs (headed s h (blockView s t))) n ≡ repeated RULE rule (rule (seen s d (headed s h (blockView s t)) 0))) where
     parts : functionBlock (start s) ≡ backText (repeated RULE rule (rule (opening (frontText (start s)))))
-    unfolding functionBlock ruleBlock frontText variablesText opening backText
+    unfolding functionBlock ruleBlock frontText inputsText outputsText opening backText
     parts = refl
 
     read-so : backText (seen s e (holding rs (headed s h (blockView s t))) n) ≡ functionBlock (start s)
