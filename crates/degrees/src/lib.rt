@@ -113,11 +113,11 @@ pub fn accumulate(k: Accumulation, h: Degree, d: Degree) -> Degree
 }
 
 // A degree or a weight that a text can give: 0 to 1, in whole thousandths.
-pub fn is_unit(d: u32) -> bool
-    ensures { λ r. ⌜ r ≡ unitOk d ⌝ }
+pub fn is_unit(d: Degree) -> bool
+    ensures { λ r. ⌜ r ≡ unitOk (d .0) ⌝ }
 {
-    if ONE < d {
+    if ONE < d.0 {
         return false;
     }
-    d % 1000 == 0
+    d.0 % 1000 == 0
 }

@@ -15,6 +15,7 @@ use header::Header;
 use header::conclusion_row;
 use header::output_row;
 use header::rule_row;
+use model::Degree;
 use words::whole_word;
 
 // Remainders by which rule numbers are told apart.
@@ -43,8 +44,8 @@ fn weight_ok(img: &[u8], h: Header, i: usize) -> bool
     requires { ⌜ Heads (wordAt (now img)) h × Holds (now img) h × (i < h .rules) ⌝ }
     ensures { λ r. ⌜ r ≡ unitOk (ruleAt (wordAt (now (img .entry))) i .weight) ⌝ }
 {
-    let weight = whole_word(img, rule_row(h, i) + header::RULE_WEIGHT);
-    degrees::is_unit(weight as u32)
+    let weight = whole_word(img, rule_row(h, i) + header::RULE_WEIGHT) as u32;
+    degrees::is_unit(Degree(weight))
 }
 
 // Conclusion i of all.

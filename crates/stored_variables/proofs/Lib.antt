@@ -1,5 +1,5 @@
 pub mod Named
-pub mod Order
+pub mod Points
 pub mod Exact
 pub mod Spelt
 pub mod Wellformed

@@ -12,44 +12,37 @@ use Rattle.model.specs.Basic.{if_then_else_, between, every, all, distinct, sam
 use Rattle.model.specs.Bounds.{termLimit, pointLeast, pointLimit}
 use Rattle.model.specs.Block.{Range, inRange}
 use Rattle.model.specs.Tokens.{isName, inCrisp}
-use Rattle.model.specs.WellFormed.{unitOk, pointOk, inOrder, termOk, rangeOk, figureOk, defaultOk, singletonOk}
+use Rattle.model.specs.WellFormed.{pointOk, inOrder, termOk, rangeOk, figureOk, defaultOk, singletonOk}
 use Rattle.model.specs.Image.{crispOf, inputPlace, outputPlace, termPlace, nameAt, pointAt, termAt, singletonAt}
 use Rattle.crisp.specs.Crisp.{rangeGiven}
 use Rattle.laws.proofs.Places.{length-tab}
+use Rattle.laws.proofs.Tests.{and-assoc}
 use Rattle.stored_names.specs.Stored.{lettersAt, wordsIn, apart}
-use Rattle.stored_variables.specs.Stored.{termsApart, inputStored, rangeAt, defaultAt, outputStored, variablesApart}
+use Rattle.stored_variables.specs.Stored.{pointsAfter, termsApart, inputStored, rangeAt, defaultAt, outputStored, variablesApart}
 
 given : (t : Bool) (a b : ℤ) → rangeGiven (not t) a b ≡ (if t then none else some (record { least = a; most = b }))
 given true a b = refl
 given false a b = refl
 
 module _ (w : ℕ → ℕ) where
-  pub point-spelt : (i : ℕ) (x : ℤ) (d : ℕ) → x ≡ pointAt w i .at → d ≡ pointAt w i .degree → inCrisp x && unitOk d ≡ pointOk (pointAt w i)
-  unfolding pointOk
-  point-spelt i x d ex ed = rw (ex, ed)
-
   -- a row that starts at o, with k points or terms from s on
   abbrev pub termTests : ℕ → ℕ → ℕ → List Bool
   termTests o k s =
       isName (nameAt w o)
       ∷ between pointLeast pointLimit k
-      ∷ all pointOk (tab (pointAt w) k s)
-      ∷ inOrder [] (map (λ p. p .at) (tab (pointAt w) k s))
+      ∷ pointsAfter [] (tab (pointAt w) k s)
       ∷ []
 
   -- a count is the length of what is read by it
   term-same : (t : ℕ) → every (termTests (termPlace w t) (w (termPlace w t + 5)) (w (termPlace w t + 4))) ≡ termOk (termAt w t)
-  unfolding termOk termAt
+  unfolding termOk termAt pointsAfter every
   term-same t =
       let o = termPlace w t in
       let ps = tab (pointAt w) (w (o + 5)) (w (o + 4)) in
       let long = length-tab (pointAt w) (w (o + 5)) (w (o + 4)) in
-      λ j. every (
+      λ j.
       isName (nameAt w o)
-      ∷ between pointLeast pointLimit (sym long j)
-      ∷ all pointOk ps
-      ∷ inOrder [] (map (λ p. p .at) ps)
-      ∷ [])
+      && (between pointLeast pointLimit (sym long j) && and-assoc (all pointOk ps) (inOrder [] (map (λ p. p .at) ps)) true j)
 
   pub term-spelt : (t o k s : ℕ) → o ≡ termPlace w t → k ≡ w (o + 5) → s ≡ w (o + 4)
       → every (termTests o k s) ≡ termOk (termAt w t)

@@ -3,20 +3,20 @@
 use mathlib.Core.Bool.{Bool, _&&_}
 use mathlib.Core.List.{List, [], _∷_, map}
 use mathlib.Core.Option.{Option, none, some}
-use Prim.Native.Nat.{ℕ, _+_, _-_}
+use Prim.Native.Nat.{ℕ, _+_}
 use lib.Dec.{eqb}
 use lib.IntN.{ℤ}
 use Rattle.model.specs.Basic.{if_then_else_, between, every, all, distinct, same, tab}
 use Rattle.model.specs.Bounds.{termLimit}
-use Rattle.model.specs.Block.{Range}
+use Rattle.model.specs.Block.{Point, Range}
 use Rattle.model.specs.Tokens.{isName}
-use Rattle.model.specs.WellFormed.{termOk, rangeOk, defaultOk, singletonOk}
-use Rattle.model.specs.Image.{inputWidth, outputWidth, termWidth, INPUTS, OUTPUTS, INPUT-TABLE, OUTPUT-TABLE, inputPlace, outputPlace, termPlace, crispOf, nameAt, pointAt, termAt, singletonAt}
+use Rattle.model.specs.WellFormed.{pointOk, inOrder, termOk, rangeOk, defaultOk, singletonOk}
+use Rattle.model.specs.Image.{inputWidth, outputWidth, termWidth, INPUTS, OUTPUTS, INPUT-TABLE, OUTPUT-TABLE, inputPlace, outputPlace, termPlace, crispOf, nameAt, termAt, singletonAt}
 use Rattle.stored_names.specs.Stored.{lettersAt, wordsIn, apart}
 
--- the positions of the points from i on, those before e
-abbrev pub positionsFrom : (ℕ → ℕ) → ℕ → ℕ → List ℤ
-positionsFrom w e i = map (λ p. p .at) (tab (pointAt w) (e - i) i)
+-- these points after the positions before: each is right, and the positions are in order
+unfoldable pub pointsAfter : List ℤ → List Point → Bool
+pointsAfter before ps = all pointOk ps && inOrder before (map (λ p. p .at) ps)
 
 -- the names of k terms from s on are distinct
 unfoldable pub termsApart : (ℕ → ℕ) → ℕ → ℕ → Bool

@@ -1,82 +1,51 @@
 // Names, counts, terms and points of the inputs and outputs in a stored image.
 ghost use mathlib.Core.Path.{_≡_};
-ghost use mathlib.Core.Bool.{true, _&&_};
-ghost use mathlib.Core.List.{[], map};
+ghost use mathlib.Core.Bool.{true};
+ghost use mathlib.Core.List.{[]};
 ghost use Prim.Native.Nat.{_+_, _*_, _≤_, _<_};
 ghost use lib.ListN.{length};
 ghost use Rattle.model.specs.Basic.{all, tab};
-ghost use Rattle.model.specs.WellFormed.{pointOk, inOrder, termOk, rangeOk, figureOk, defaultOk, singletonOk};
+ghost use Rattle.model.specs.WellFormed.{termOk, rangeOk, figureOk, defaultOk, singletonOk};
 ghost use Rattle.model.specs.Image.{wordAt, pointAt, termAt, singletonAt};
 ghost use Rattle.header.specs.Header.{Heads, Holds};
 ghost use Rattle.layout.specs.Tables.{inputTermsIn};
 ghost use Rattle.layout.specs.Groups.{tablesOk, variablesOk};
-ghost use Rattle.stored_variables.specs.Stored.{positionsFrom, termsApart, inputStored, rangeAt, defaultAt, outputStored, variablesApart};
+ghost use Rattle.stored_variables.specs.Stored.{pointsAfter, termsApart, inputStored, rangeAt, defaultAt, outputStored, variablesApart};
 use bounds::within;
 use header::Header;
 use model::Crisp;
 use stored_names::distinct_ok;
 use stored_names::name_ok;
+use stored_points::degree_at;
 use stored_points::place_at;
+use term_rules::LastTwo;
 use words::whole_crisp;
 use words::whole_word;
 
-fn point_ok(img: &[u8], h: Header, i: usize) -> bool
-    requires { ⌜ Heads (wordAt (now img)) h × Holds (now img) h × (i < h .points) ⌝ }
-    ensures { λ r. ⌜ r ≡ pointOk (pointAt (wordAt (now (img .entry))) i) ⌝ }
-{
-    if !crisp::in_bounds(place_at(img, h, i)) {
-        return false;
-    }
-    let d = stored_points::degree_at(img, h, i);
-    degrees::is_unit(d.0)
-}
-
-// The k points from s on.
+// The k points from s on, and the order of their positions.
 fn points_ok(img: &[u8], h: Header, s: usize, k: usize) -> bool
     requires { ⌜ Heads (wordAt (now img)) h × Holds (now img) h × (s + k ≤ h .points) ⌝ }
-    ensures { λ r. ⌜ r ≡ all pointOk (tab (pointAt (wordAt (now (img .entry)))) k s) ⌝ }
+    ensures { λ r. ⌜ r ≡ pointsAfter [] (tab (pointAt (wordAt (now (img .entry)))) k s) ⌝ }
 {
-    let e = s + k;
-    let mut i = s;
-    while i < e {
-        if !point_ok(img, h, i) {
+    let none = Crisp(0);
+    let mut last = LastTwo {
+        earlier: none,
+        later: none,
+    };
+    let mut i: usize = 0;
+    while i < k {
+        let x = place_at(img, h, s + i);
+        if !term_rules::point_ok(x, degree_at(img, h, s + i)) {
             return false;
         }
-        i += 1;
-    }
-    true
-}
-
-// Point i of those before e does not stand above the next one, and stands below the one after that.
-fn edge_ok(img: &[u8], h: Header, i: usize, e: usize) -> bool
-    requires { ⌜ Heads (wordAt (now img)) h × Holds (now img) h × (i + 1 < e) × (e ≤ h .points) ⌝ }
-    ensures { λ r. ⌜ inOrder [] (positionsFrom (wordAt (now (img .entry))) e i)
-        ≡ r && inOrder [] (positionsFrom (wordAt (now (img .entry))) e (i + 1)) ⌝ }
-{
-    let x = place_at(img, h, i);
-    if !crisp::not_above(x, place_at(img, h, i + 1)) {
-        return false;
-    }
-    if e <= i + 2 {
-        return true;
-    }
-    crisp::less(x, place_at(img, h, i + 2))
-}
-
-// The positions of the k points from s on do not fall, and no three are the same. Most rise, so that is asked first.
-fn order_ok(img: &[u8], h: Header, s: usize, k: usize) -> bool
-    requires { ⌜ Heads (wordAt (now img)) h × Holds (now img) h × (s + k ≤ h .points) ⌝ }
-    ensures { λ r. ⌜ r ≡ inOrder [] (map (λ p. p .at) (tab (pointAt (wordAt (now (img .entry)))) k s)) ⌝ }
-{
-    let e = s + k;
-    let mut i = s;
-    while i + 1 < e {
-        let x = place_at(img, h, i);
-        if !crisp::less(x, place_at(img, h, i + 1)) {
-            if !edge_ok(img, h, i, e) {
-                return false;
-            }
+        if !term_rules::may_stand(i, last, x) {
+            return false;
         }
+        let earlier = last.later;
+        last = LastTwo {
+            earlier: earlier,
+            later: x,
+        };
         i += 1;
     }
     true
@@ -92,14 +61,11 @@ fn term_ok(img: &[u8], h: Header, t: usize) -> bool
         return false;
     }
     let k = whole_word(img, o + header::TERM_POINTS);
-    if !within(bounds::LEAST_POINTS, bounds::POINTS, k) {
+    if !term_rules::point_count_ok(k) {
         return false;
     }
     let s = whole_word(img, o + header::TERM_FIRST);
-    if !points_ok(img, h, s, k) {
-        return false;
-    }
-    order_ok(img, h, s, k)
+    points_ok(img, h, s, k)
 }
 
 // The k terms from s on.

@@ -19,8 +19,8 @@ whole-word-requires c κs =
     let hd = s .pre .0 in
     omega (arith, c .rule-row .ensures .0 (wordAt (s .args .img .now)) hd, hd .rule-table, s .pre .1 .rules)
 
-cast-is-unit : tie.Need-cast-is-unit
-cast-is-unit c = search needs
+cast-weight : tie.Need-cast-weight
+cast-weight c = search needs
 
 is-unit-requires : tie.Need-is-unit-requires
 is-unit-requires c κs = search needs
@@ -35,4 +35,4 @@ returns c =
 pub weight-ok-spec : {M : Type 1} → statement M
 weight-ok-spec =
     tie.close
-    (tie.spec rule-row-requires add-whole-word whole-word-requires cast-is-unit is-unit-requires returns)
+    (tie.spec rule-row-requires add-whole-word whole-word-requires cast-weight is-unit-requires returns)

@@ -45,8 +45,8 @@ whole-word-requires c κs =
     let pre = start .pre in
     omega (arith, input-term-row-held (pre .0) (pre .1) (pre .2) (pre .3) (row .term-row .ensures .0 _ (pre .0)))
 
-within-requires : tie.Need-within-requires
-within-requires c κs = search needs
+point-count-ok-requires : tie.Need-point-count-ok-requires
+point-count-ok-requires c κs = search needs
 
 returns-2 : tie.Need-returns-2
 returns-2 c =
@@ -55,7 +55,7 @@ returns-2 c =
     let w = wordAt (start .args .img .now) in
     let o = row .term-row .ensures .0 w (start .pre .0) in
     let s = term-spelt w (start .args .t) _ _ _ o (c .before .before .whole-word .ensures .0) refl in
-    sym (sym s ∙ one-fails _ 1 (sym (c .before .within .ensures) ∙ not-true _ (c .if2 .taken)))
+    sym (sym s ∙ one-fails _ 1 (sym (c .before .point-count-ok .ensures) ∙ not-true _ (c .if2 .taken)))
 
 add-whole-word-2 : tie.Need-add-whole-word-2
 add-whole-word-2 c = search needs
@@ -79,39 +79,18 @@ points-ok-requires c κs =
 
 returns-3 : tie.Need-returns-3
 returns-3 c =
-    let row = c .before .before .before .before .before .before .before .before in
-    let start = row .before .before in
-    let w = wordAt (start .args .img .now) in
-    let o = row .term-row .ensures .0 w (start .pre .0) in
-    let s = term-spelt w (start .args .t) _ _ _ o (c .before .before .before .before .before .whole-word .ensures .0) (c .before .before .whole-word2 .ensures .0) in
-    sym (sym s ∙ one-fails _ 2 (sym (c .before .points-ok .ensures) ∙ not-true _ (c .if3 .taken)))
-
-order-ok-requires : tie.Need-order-ok-requires
-order-ok-requires c κs =
-    let first = c .before .before in
-    let few = first .before .before .before in
-    let row = few .before .before .before in
-    let start = row .before .before in
-    let heads = start .pre .0 in
-    let w = wordAt (start .args .img .now) in
-    let l = points-named w (start .pre .2) (start .pre .3) (row .term-row .ensures .0 w heads) (few .whole-word .ensures .0) (first .whole-word2 .ensures .0) in
-    (heads, start .pre .1, omega (arith, heads .points, l))
-
-returns-4 : tie.Need-returns-4
-returns-4 c =
-    let third = c .before in
-    let second = third .before .before .before in
+    let place = c .before in
+    let second = place .before in
     let first = second .before .before .before in
-    let row = c .before .before .before .before .before .before .before .before .before in
+    let row = first .before .before in
     let start = row .before .before in
     let w = wordAt (start .args .img .now) in
     let o = row .term-row .ensures .0 w (start .pre .0) in
-    let tests = termTests w (row .term-row .result) (second .before .before .whole-word .result) (third .before .before .whole-word2 .result) in
-    let s = term-spelt w (start .args .t) _ _ _ o (second .before .before .whole-word .ensures .0) (third .before .before .whole-word2 .ensures .0) in
+    let tests = termTests w (row .term-row .result) (second .before .before .whole-word .result) (place .whole-word2 .result) in
+    let s = term-spelt w (start .args .t) _ _ _ o (second .before .before .whole-word .ensures .0) (place .whole-word2 .ensures .0) in
     let named = sym (first .before .name-ok .ensures) ∙ not-false _ (first .if1 .left) in
-    let few = sym (second .before .within .ensures) ∙ not-false _ (second .if2 .left) in
-    let points = sym (third .before .points-ok .ensures) ∙ not-false _ (third .if3 .left) in
-    c .order-ok .ensures ∙ sym (sym s ∙ last-decides (take 3 tests) (getD tests 3 true) (named, (few, (points, tt))))
+    let few = sym (second .before .point-count-ok .ensures) ∙ not-false _ (second .if2 .left) in
+    c .points-ok .ensures ∙ sym (sym s ∙ last-decides (take 2 tests) (getD tests 2 true) (named, (few, tt)))
 
 pub term-ok-spec : {M : Type 1} → statement M
 term-ok-spec =
@@ -122,11 +101,9 @@ term-ok-spec =
     returns
     add-whole-word
     whole-word-requires
-    within-requires
+    point-count-ok-requires
     returns-2
     add-whole-word-2
     whole-word-requires-2
     points-ok-requires
-    returns-3
-    order-ok-requires
-    returns-4)
+    returns-3)
