@@ -11,7 +11,7 @@ use Rattle.model.specs.Basic.{total}
 use Rattle.model.specs.Bounds.{crispLimit}
 use Rattle.model.specs.Degrees.{nearest, nearestℤ}
 use Rattle.model.specs.Evaluation.{moment, sumOf}
-use Rattle.nearest.proofs.Laws.{nearest-ge, nearest-le}
+use Rattle.nearest_laws.proofs.Laws.{nearest-ge, nearest-le}
 use Rattle.crisp.specs.Crisp.{InCrisp, above}
 use Rattle.crisp.proofs.Laws.{above-mono, crisp-is, diff-le}
 use Rattle.centre.specs.Centre.{lifted}

@@ -9,7 +9,7 @@ use Rattle.model.specs.Basic.{total}
 use Rattle.model.specs.Bounds.{crispLimit}
 use Rattle.model.specs.Degrees.{nearest, nearestℤ}
 use Rattle.model.specs.Evaluation.{moment, sumOf}
-use Rattle.nearest.proofs.Difference.{same, diff-add, diff-scale, diff-nearest}
+use Rattle.nearest_laws.proofs.Difference.{same, diff-add, diff-scale, diff-nearest}
 use Rattle.crisp.specs.Crisp.{InCrisp, above}
 use Rattle.crisp.proofs.Laws.{crisp-is}
 use Rattle.centre.specs.Centre.{lifted}

@@ -1,4 +1,1 @@
-pub mod Spans
-pub mod Names
 pub mod Texts
-pub mod Rules

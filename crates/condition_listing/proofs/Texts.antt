@@ -11,8 +11,9 @@ use Rattle.model.specs.Listing.{TermNames, operator, wrapped, conditionText}
 use Rattle.stored_conditions.specs.Machine.{TERM-WORD}
 use Rattle.listing_writer.specs.Prepends.{Prepends}
 use Rattle.listing_writer.proofs.Prepends.{joined}
-use Rattle.condition_listing.specs.Spans.{Spans, Forms, Writes}
-use Rattle.condition_listing.proofs.Spans.{operator-word, negated-low, none-ends}
+use Rattle.operator_listing.specs.Spans.{Spans, Forms}
+use Rattle.condition_listing.specs.Writes.{Writes}
+use Rattle.operator_listing.proofs.Spans.{operator-word, negated-low, none-ends}
 
 right-bare : (o : Op) → rank o - 1 ≡ bareRight o
 right-bare and = refl

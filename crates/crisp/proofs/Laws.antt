@@ -13,7 +13,7 @@ use mir.Val.{SFits}
 use Rattle.model.specs.Bounds.{crispLimit}
 use Rattle.model.specs.Tokens.{inCrisp}
 use Rattle.model.specs.Degrees.{distance}
-use Rattle.nearest.proofs.Difference.{sub-pos, by-sign, same, pos-is, negsuc-is, diff-neg, diff-add}
+use Rattle.nearest_laws.proofs.Difference.{sub-pos, by-sign, same, pos-is, negsuc-is, diff-neg, diff-add}
 use Rattle.crisp.specs.Crisp.{InCrisp, above}
 
 above-negsuc : (n : ℕ) → suc n ≤ crispLimit → above (negsuc n) ≡ crispLimit - suc n

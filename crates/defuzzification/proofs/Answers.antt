@@ -1,24 +1,19 @@
--- The answer of an output by what the code computes of it, and the answers of all.
-use mathlib.Core.Path.{_≡_, refl, sym, ap, _∙_, subst}
+-- The answers of all outputs by what the code computes of each.
+use mathlib.Core.Path.{_≡_, refl, sym, ap, _∙_}
 use mathlib.Core.List.{List, [], _∷_, _++_, map}
-use Prim.Native.Nat.{ℕ, zero, suc, _+_, _-_, _≤_, _<_}
+use Prim.Native.Nat.{ℕ, zero, suc, _+_, _-_, _≤_}
 use native.Mathlib.Omega.{arith}
 use lib.IntN.{ℤ, pos}
 use lib.ListN.{length, getD, drop, replicate}
 use lib.Seq.{drop-cons}
-use borrow.Author.Tests.{lt-ltb, le-ltb}
 use Rattle.model.specs.Basic.{tab}
 use Rattle.model.specs.Bounds.{outputLimit}
-use Rattle.model.specs.Block.{Output}
 use Rattle.model.specs.Image.{singletonAt, outputAt, decode}
-use Rattle.model.specs.Degrees.{nearestℤ}
-use Rattle.model.specs.Evaluation.{moment, sumOf, answerWith, unfired, outputAnswer, outputAnswers, noAnswer, padded, heldOf}
-use Rattle.model.specs.declared.Mark.the-variants.{Fired}
+use Rattle.model.specs.Evaluation.{outputAnswer, outputAnswers, noAnswer, padded, heldOf}
 use Rattle.model.specs.declared.Answer.{Answer}
 use Rattle.model.specs.declared.Crisp.{Crisp}
 use Rattle.laws.proofs.Lists.{map-tab, tab-append}
 use Rattle.laws.proofs.Places.{length-tab}
-use Rattle.centre.specs.Centre.{figureOf}
 use Rattle.held.proofs.Laws.{held-tab}
 use Rattle.layout.specs.Tables.{outputCount, outputFirstAt}
 use Rattle.layout.specs.Groups.{Sound}
@@ -29,21 +24,6 @@ pub tab-more : {A : Type 0} (f : ℕ → A) (k s : ℕ) (y : A) → y ≡ f (s +
 unfolding tab
 tab-more {A} f k s y e = ap (λ (x : A). tab f k s ++ (x ∷ [])) e ∙ sym (tab-append f k 1 s)
 
-pub fired-is : (v : Output) (ps : List ℤ) (hs : List ℕ) (held z : ℤ) (s : ℕ)
-    → ps ≡ map (λ t. t .at) (v .terms) → s ≡ sumOf hs → z ≡ figureOf ps hs → 0 < s → answerWith Fired z s ≡ outputAnswer v hs held
-unfolding outputAnswer
-fired-is v ps hs held z s ep es ez h =
-    let p : 0 < sumOf hs = subst (λ (n : ℕ). 0 < n) es h in
-    let y = simp (lt-ltb 0 (sumOf hs) p) at ez in
-    simp (lt-ltb 0 (sumOf hs) p) (λ j. answerWith Fired ((y ∙ ap (λ (l : List ℤ). nearestℤ (moment l hs) (sumOf hs)) ep) j) (es j))
-
-pub unfired-is : (v : Output) (hs : List ℕ) (held : ℤ) (s : ℕ) → s ≡ sumOf hs → s ≡ 0 → unfired (v .default) held ≡ outputAnswer v hs held
-unfolding outputAnswer
-unfired-is v hs held s es e =
-    let p : sumOf hs ≤ 0 = omega (arith, sym es ∙ e) in
-    simp (le-ltb 0 (sumOf hs) p)
-
--- ALL OUTPUTS
 -- the answer of output j
 unfoldable pub answerAt : (ℕ → ℕ) → (ℕ → ℕ) → List Crisp → ℕ → Answer
 answerAt w h held j = outputAnswer (outputAt w j) (tab h (outputCount w j) (outputFirstAt w j)) (getD held j (record { 0 = pos 0 }) .0)

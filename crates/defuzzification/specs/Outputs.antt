@@ -1,21 +1,14 @@
--- A helper: the positions of output terms, and their heights as the code holds them.
--- `answers-are` of evaluation's proofs/Laws ties the answers by them to model's `blockAnswers`.
+-- A helper: the heights of output terms as the code holds them.
+-- `answers-are` of block_evaluation's proofs/Laws ties the answers by them to model's `blockAnswers`.
 use mathlib.Core.List.{List}
 use Prim.Native.Nat.{ℕ, _-_, _≤_}
-use lib.IntN.{ℤ}
 use lib.ListN.{getD}
-use Rattle.model.specs.Basic.{tab}
 use Rattle.model.specs.Bounds.{M}
-use Rattle.model.specs.Image.{singletonAt, decode}
+use Rattle.model.specs.Image.{decode}
 use Rattle.model.specs.Evaluation.{outputAnswers, figuresOf}
 use Rattle.model.specs.declared.Answer.{Answer}
 use Rattle.model.specs.declared.Degree.{Degree}
 use Rattle.model.specs.declared.Held.{Held}
-use Rattle.layout.specs.Tables.{outputCount, outputFirstAt}
-
--- of the terms of output i
-abbrev pub positionsOf : (ℕ → ℕ) → ℕ → List ℤ
-positionsOf w i = tab (λ j. singletonAt w j .at) (outputCount w i) (outputFirstAt w i)
 
 -- of term t, where the first output term is m
 abbrev pub heightOf : List Degree → ℕ → ℕ → ℕ

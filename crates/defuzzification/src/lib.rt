@@ -1,23 +1,21 @@
 // From the heights of the output terms to the answer of each output, and the held record after it.
 ghost use mathlib.Core.Path.{_≡_};
-ghost use mathlib.Core.List.{List, map};
-ghost use Prim.Native.Nat.{ℕ, _*_, _≤_, _<_};
-ghost use Rattle.model.specs.Bounds.{M, termLimit};
-ghost use Rattle.model.specs.Image.{wordAt, singletonAt, outputAt, OUTPUTS};
-ghost use Rattle.model.specs.Evaluation.{unfired, outputAnswer, noAnswer, padded, heldOf};
+ghost use mathlib.Core.List.{map};
+ghost use Prim.Native.Nat.{_≤_, _<_};
+ghost use Rattle.model.specs.Image.{wordAt, singletonAt};
+ghost use Rattle.model.specs.Evaluation.{noAnswer, padded, heldOf};
 ghost use Rattle.layout.specs.Tables.{inputTermsIn};
 ghost use Rattle.layout.specs.Checked.{Checked};
-ghost use Rattle.centre.specs.Centre.{SumsOf};
-ghost use Rattle.defuzzification.specs.Outputs.{positionsOf, HeightsOk, answersBy};
+ghost use Rattle.defuzzification.specs.Outputs.{HeightsOk, answersBy};
 use centre::Sums;
 use header::Header;
 use model::Answer;
 use model::Crisp;
 use model::Degree;
 use model::Held;
-use model::Mark;
+use output_answer::answer;
+use output_answer::no_answer;
 use stored_points::place_at;
-use words::whole_crisp;
 use words::whole_word;
 
 // The position of output term t.
@@ -27,64 +25,6 @@ fn position(img: &[u8], h: Header, t: usize) -> Crisp
 {
     let first = whole_word(img, header::term_row(h, t) + header::TERM_FIRST);
     place_at(img, h, first)
-}
-
-// The answer of output i where no height is above 0.
-fn without_rule(img: &[u8], h: Header, i: usize, held: Crisp) -> Answer
-    requires { ⌜ Checked (now img) h × (i < h .outputs) ⌝ }
-    ensures { λ r. ⌜ r ≡ unfired (outputAt (wordAt (now (img .entry))) i .default) (held .0) ⌝ }
-{
-    let row = header::output_row(h, i);
-    if whole_word(img, row + header::OUTPUT_DEFAULT_KIND) == 0 {
-        let value = crisp::to_float(held);
-        return Answer {
-            mark: Mark::Held,
-            thousandths: held,
-            sum: 0,
-            value: value,
-        };
-    }
-    let declared = whole_crisp(img, row + header::OUTPUT_DEFAULT);
-    let value = crisp::to_float(declared);
-    Answer {
-        mark: Mark::Default,
-        thousandths: declared,
-        sum: 0,
-        value: value,
-    }
-}
-
-// The answer of output i by the sums over its terms.
-fn answer(img: &[u8], h: Header, i: usize, sums: Sums, held: Crisp) -> Answer
-    requires { ⌜ Checked (now img) h × (i < wordAt (now img) OUTPUTS) ⌝ }
-    requires { ⌜ (sums .heights ≤ termLimit * M) × (sums .moment ≤ 2000000000 * sums .heights) ⌝ }
-    ensures { λ r. ⌜ ((hs : List ℕ) → SumsOf sums (positionsOf (wordAt (now (img .entry))) i) hs
-        → r ≡ outputAnswer (outputAt (wordAt (now (img .entry))) i) hs (held .0)) ⌝ }
-{
-    let c = centre::centre_of(sums);
-    if c.sum == 0 {
-        return without_rule(img, h, i, held);
-    }
-    let x = c.figure;
-    let value = crisp::to_float(x);
-    Answer {
-        mark: Mark::Fired,
-        thousandths: x,
-        sum: c.sum,
-        value: value,
-    }
-}
-
-// The answer of a place past the last output.
-pub fn no_answer() -> Answer
-    ensures { λ r. ⌜ r ≡ noAnswer ⌝ }
-{
-    Answer {
-        mark: Mark::None,
-        thousandths: Crisp(0),
-        sum: 0,
-        value: 0.0,
-    }
 }
 
 // The answers of all outputs, and the held record that stores their figures.

@@ -11,7 +11,7 @@ use Rattle.model.specs.Degrees.{notOf, prodOf, pairs}
 use Rattle.model.specs.Evaluation.{accumulated}
 use Rattle.model.specs.declared.Accumulation.{Accumulation}
 use Rattle.model.specs.declared.Accumulation.the-variants.{Max, Bsum}
-use Rattle.nearest.proofs.Laws.{nearest-le}
+use Rattle.nearest_laws.proofs.Laws.{nearest-le}
 
 prod-le : (a b : ℕ) → a ≤ M → b ≤ M → prodOf a b ≤ a
 prod-le a b ha hb = nearest-le a (a * b) M (omega arith) (mul-le-mul-left a hb)

@@ -1,5 +1,5 @@
 -- A helper: tables of degrees as lists of numbers, which is how model's `conditionDegree` and `height` take them.
--- `answers-are` of evaluation/proofs/Laws ties those of a call to model's `blockAnswers`.
+-- `answers-are` of block_evaluation/proofs/Laws ties those of a call to model's `blockAnswers`.
 use mathlib.Core.List.{List, map}
 use Prim.Native.Nat.{ℕ, _≤_}
 use lib.ListN.{getD}

@@ -16,8 +16,8 @@ use Rattle.layout.specs.Tables.{sums, inputCount}
 use Rattle.layout.specs.Groups.{Sound}
 use Rattle.layout.proofs.Parts.{inputFirst}
 use Rattle.layout.proofs.Inputs.{first-is}
-use Rattle.fuzzification.specs.Filled.{filled}
-use Rattle.fuzzification.proofs.Fill.{tab-more}
+use Rattle.input_values.specs.Filled.{filled}
+use Rattle.input_values.proofs.Fill.{tab-more}
 use Rattle.laws.proofs.Lists.{sets-append}
 
 abbrev pub degreesAt : ℤ → List Term → List ℕ

@@ -9,19 +9,21 @@ ghost use Rattle.model.specs.Image.{loads};
 ghost use Rattle.model.specs.Buffers.{readsInto, listsInto};
 ghost use Rattle.model.specs.Evaluation.{evaluate, fresh};
 ghost use Rattle.model.specs.Chunks.{chunk as aChunk, finish as theEnd, answerIn, stateAfter};
-ghost use Rattle.crossing.specs.Crossing.{outcomeOf, bareOutcome, readingOf, freshIn, evaluationIn, leaving};
+ghost use Rattle.outcome_crossing.specs.Outcomes.{outcomeOf, bareOutcome};
+ghost use Rattle.call_crossing.specs.Values.{readingOf};
+ghost use Rattle.crossing.specs.Crossing.{freshIn, evaluationIn, leaving};
+use call_crossing::GrillenhelmReadings;
+use call_crossing::readings_of;
 use crossing::GrillenhelmEvaluation;
 use crossing::GrillenhelmFresh;
-use crossing::GrillenhelmOutcome;
-use crossing::GrillenhelmReadings;
 use crossing::GrillenhelmReply;
 use crossing::evaluation_of;
 use crossing::fresh_of;
-use crossing::readings_of;
 use crossing::reply_of;
-use crossing::verdict;
-use crossing::written;
 use model::Held;
+use outcome_crossing::GrillenhelmOutcome;
+use outcome_crossing::verdict;
+use outcome_crossing::written;
 
 // `reader::read`.
 #[no_mangle]

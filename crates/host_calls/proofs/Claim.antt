@@ -17,14 +17,15 @@ use Rattle.model.specs.declared.Held.{Held}
 use Rattle.demand_3.specs.Calls.{Trace, CallsHold}
 use Rattle.calls.proofs.Claim.{demand-3}
 use Rattle.calls.proofs.Traces.{call-told}
-use Rattle.crossing.specs.Crossing.{bareOutcome, freshIn}
-use Rattle.crossing.specs.Back.{verdictBack, answerBack, evaluationBack}
+use Rattle.outcome_crossing.specs.Outcomes.{bareOutcome}
+use Rattle.crossing.specs.Crossing.{freshIn}
+use Rattle.crossing_back.specs.Back.{verdictBack, answerBack, evaluationBack}
 use Rattle.crossing.specs.declared.GrillenhelmEvaluation.{GrillenhelmEvaluation}
 use Rattle.crossing.specs.declared.GrillenhelmFresh.{GrillenhelmFresh}
-use Rattle.crossing.specs.declared.GrillenhelmOutcome.{GrillenhelmOutcome}
-use Rattle.crossing.specs.declared.GrillenhelmReadings.{GrillenhelmReadings}
+use Rattle.outcome_crossing.specs.declared.GrillenhelmOutcome.{GrillenhelmOutcome}
+use Rattle.call_crossing.specs.declared.GrillenhelmReadings.{GrillenhelmReadings}
 use Rattle.crossing.proofs.Laws.{crossed-tells}
-use Rattle.crossing.proofs.Back.{told-back, answers-back}
+use Rattle.crossing_back.proofs.Back.{told-back, answers-back}
 use Rattle.host_calls.specs.HostCalls.{HostCall, returned, replied, readingsIn, seenIn, callBack, HostLink, HostTrace, madeBack, Whole, HostDemand3}
 
 module _ (img : List ℕ) where

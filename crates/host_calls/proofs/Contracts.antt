@@ -20,11 +20,12 @@ use Rattle.model.specs.Image.{loads}
 use Rattle.model.specs.Buffers.{readsInto}
 use Rattle.model.specs.Evaluation.{fresh}
 use Rattle.model.specs.declared.Held.{Held}
-use Rattle.crossing.specs.Crossing.{outcomeOf, bareOutcome, freshIn, leaving}
+use Rattle.outcome_crossing.specs.Outcomes.{outcomeOf, bareOutcome}
+use Rattle.crossing.specs.Crossing.{freshIn, leaving}
 use Rattle.crossing.specs.declared.GrillenhelmEvaluation.{GrillenhelmEvaluation}
 use Rattle.crossing.specs.declared.GrillenhelmFresh.{GrillenhelmFresh}
-use Rattle.crossing.specs.declared.GrillenhelmOutcome.{GrillenhelmOutcome}
-use Rattle.crossing.specs.declared.GrillenhelmReadings.{GrillenhelmReadings}
+use Rattle.outcome_crossing.specs.declared.GrillenhelmOutcome.{GrillenhelmOutcome}
+use Rattle.call_crossing.specs.declared.GrillenhelmReadings.{GrillenhelmReadings}
 use Rattle.crossing.specs.declared.GrillenhelmReply.{GrillenhelmReply}
 use Rattle.grillenhelm.proofs.grillenhelm_read as read
 use Rattle.grillenhelm.proofs.grillenhelm_check as check

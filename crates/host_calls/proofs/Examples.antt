@@ -13,10 +13,10 @@ use Rattle.model.specs.declared.Reading.the-variants.{Real, Int, Absent}
 use Rattle.model.specs.declared.Refusal.the-variants.{WrongReading}
 use Rattle.model.specs.declared.Verdict.the-variants.{Accepted, Refused}
 use Rattle.demand_3.specs.Calls.{evaluated, daily}
-use Rattle.crossing.specs.declared.GrillenhelmAnswer.{GrillenhelmAnswer}
-use Rattle.crossing.specs.declared.GrillenhelmOutcome.{GrillenhelmOutcome}
-use Rattle.crossing.specs.declared.GrillenhelmReading.{GrillenhelmReading}
-use Rattle.crossing.specs.declared.GrillenhelmReadings.{GrillenhelmReadings}
+use Rattle.call_crossing.specs.declared.GrillenhelmAnswer.{GrillenhelmAnswer}
+use Rattle.outcome_crossing.specs.declared.GrillenhelmOutcome.{GrillenhelmOutcome}
+use Rattle.call_crossing.specs.declared.GrillenhelmReading.{GrillenhelmReading}
+use Rattle.call_crossing.specs.declared.GrillenhelmReadings.{GrillenhelmReadings}
 use Rattle.host_calls.specs.HostCalls.{HostCall, returned, replied, HostLink, HostTrace, madeBack}
 
 abbrev real : Float → GrillenhelmReading

@@ -18,8 +18,8 @@ use Rattle.model.specs.Parse.{Parse}
 use Rattle.model.specs.Image.{image}
 use Rattle.model.specs.Buffers.{readsInto, readsTo}
 use Rattle.calls.proofs.Texts.{reads-to-iff}
-use Rattle.crossing.specs.Crossing.{outcomeOf}
-use Rattle.crossing.specs.declared.GrillenhelmOutcome.{GrillenhelmOutcome}
+use Rattle.outcome_crossing.specs.Outcomes.{outcomeOf}
+use Rattle.outcome_crossing.specs.declared.GrillenhelmOutcome.{GrillenhelmOutcome}
 
 -- no refusal of the reader has the number 0
 abbrev Numbered : {A : Type 0} → Outcome A → Type 0

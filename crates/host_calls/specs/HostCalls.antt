@@ -11,12 +11,14 @@ use Rattle.model.specs.Buffers.{readsTo}
 use Rattle.model.specs.Evaluation.{evaluate, starting, fresh}
 use Rattle.model.specs.declared.Held.{Held}
 use Rattle.demand_3.specs.Calls.{Call, Made, evaluated, daily, resultOf, CallsHold}
-use Rattle.crossing.specs.Crossing.{bareOutcome, readingOf, evaluationOf, freshIn, evaluationIn, leaving}
-use Rattle.crossing.specs.Back.{evaluationBack, replyBack}
+use Rattle.outcome_crossing.specs.Outcomes.{bareOutcome}
+use Rattle.call_crossing.specs.Values.{readingOf}
+use Rattle.crossing.specs.Crossing.{evaluationOf, freshIn, evaluationIn, leaving}
+use Rattle.crossing_back.specs.Back.{evaluationBack, replyBack}
 use Rattle.crossing.specs.declared.GrillenhelmEvaluation.{GrillenhelmEvaluation}
 use Rattle.crossing.specs.declared.GrillenhelmFresh.{GrillenhelmFresh}
-use Rattle.crossing.specs.declared.GrillenhelmOutcome.{GrillenhelmOutcome}
-use Rattle.crossing.specs.declared.GrillenhelmReadings.{GrillenhelmReadings}
+use Rattle.outcome_crossing.specs.declared.GrillenhelmOutcome.{GrillenhelmOutcome}
+use Rattle.call_crossing.specs.declared.GrillenhelmReadings.{GrillenhelmReadings}
 use Rattle.crossing.specs.declared.GrillenhelmReply.{GrillenhelmReply}
 
 -- A LIST OF CALLS

@@ -1,5 +1,1 @@
-pub mod Laws
-pub mod TenBits
-pub mod Shifts
-pub mod Difference
-pub mod Described
+pub mod Powers

@@ -5,7 +5,7 @@ use native.Mathlib.Nat.{mul-assoc, div-eq-of-lt, le-trans, mul-le-mul-left, mul-
 use native.Mathlib.Omega.{arith}
 use lib.Pow.{pow-pos, pow-add, pow-mono}
 use Rattle.model.specs.Bounds.{crispLimit}
-use Rattle.nearest.proofs.Laws.{nearest-ge}
+use Rattle.nearest_laws.proofs.Laws.{nearest-ge}
 use Rattle.readings.specs.Fields.{magnitudeOf}
 use Rattle.readings.proofs.Rounding.{scaled}
 

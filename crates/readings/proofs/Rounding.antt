@@ -13,7 +13,7 @@ use borrow.Author.Tests.{le-ltb, lt-ltb}
 use Rattle.model.specs.Bounds.{crispLimit}
 use Rattle.model.specs.Degrees.{nearestℤ}
 use Rattle.model.specs.Readings.{clamped}
-use Rattle.nearest.proofs.Difference.{same, pos-is, neg-is, by-sign, diff-add, diff-scale}
+use Rattle.nearest_laws.proofs.Difference.{same, pos-is, neg-is, by-sign, diff-add, diff-scale}
 use Rattle.readings.specs.Fields.{magnitudeOf}
 
 -- the same in one division

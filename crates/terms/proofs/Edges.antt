@@ -19,7 +19,7 @@ use Rattle.laws.proofs.Comparison.{below, lt-passes, lt-fails}
 use Rattle.laws.proofs.Lists.{all-append}
 use Rattle.laws.proofs.Positions.{positions, later, no-fall, no-third, places}
 use Rattle.laws.proofs.Tests.{both, passed}
-use Rattle.nearest.proofs.Laws.{nearest-le, nearest-ge}
+use Rattle.nearest_laws.proofs.Laws.{nearest-le, nearest-ge}
 use Rattle.crisp.specs.Crisp.{InCrisp, above}
 use Rattle.crisp.proofs.Laws.{above-lt}
 use Rattle.terms.proofs.Degree.{amid}

@@ -10,8 +10,8 @@ use Rattle.model.specs.Bounds.{M}
 use Rattle.model.specs.Block.{Point}
 use Rattle.model.specs.Degrees.{nearest, onLine}
 use Rattle.model.specs.Edges.{WithinHalf}
-use Rattle.nearest.proofs.Laws.{nearest-le, nearest-ge, nearest-upper, nearest-lower}
-use Rattle.nearest.proofs.Difference.{sub-pos}
+use Rattle.nearest_laws.proofs.Laws.{nearest-le, nearest-ge, nearest-upper, nearest-lower}
+use Rattle.nearest_laws.proofs.Difference.{sub-pos}
 use Rattle.crisp.specs.Crisp.{InCrisp, above}
 use Rattle.crisp.proofs.Laws.{above-mono, above-lt, minus-is, distance-is}
 

@@ -1,5 +1,5 @@
 -- A helper: the points of a term as the code holds them, and as a block has them. `stored_points::point_at` ties them to
--- model's `pointAt`, `fine` of fuzzification/proofs/Entries to its `pointOk`.
+-- model's `pointAt`, `fine` of membership/proofs/Entries to its `pointOk`.
 use mathlib.Core.List.{List, map}
 use Prim.Native.Nat.{ℕ, _≤_}
 use lib.IntN.{pos}

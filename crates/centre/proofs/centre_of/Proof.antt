@@ -8,7 +8,7 @@ use borrow.Author.Tests.{lt-ltb, le-ltb}
 use Rattle.model.specs.Bounds.{crispLimit}
 use Rattle.model.specs.Degrees.{nearest}
 use Rattle.model.specs.Evaluation.{moment, sumOf}
-use Rattle.nearest.proofs.Laws.{nearest-le}
+use Rattle.nearest_laws.proofs.Laws.{nearest-le}
 use Rattle.centre.proofs.Moment.{nearest-is}
 use Rattle.centre.proofs.centre_of.Statement.{statement}
 use Rattle.centre.proofs.centre_of.Tie as tie

@@ -7,7 +7,7 @@ use Rattle.model.specs.Parentheses.{rank}
 use Rattle.model.specs.Image.{wordAt, decode}
 use Rattle.model.specs.Listing.{inputTermName, conditionText}
 use Rattle.stored_conditions.specs.Machine.{operatorOf}
-use Rattle.condition_listing.proofs.Spans as spans
+use Rattle.operator_listing.proofs.Spans as spans
 use Rattle.condition_listing.proofs.Texts as texts
 use borrow.Fn.Kinds.{In}
 use borrow.Fn.PlainCycle.{Measures, is, falls, and}
@@ -20,10 +20,10 @@ use Rattle.condition_listing.proofs.+condition+negation+operand.Lts-neg
 use Rattle.condition_listing.proofs.operand.Reads as operand
 use Rattle.condition_listing.proofs.operand.Kinds as operand-kinds
 use Rattle.condition_listing.proofs.+condition+negation+operand.Lts-operand as operand-lts
-use Rattle.condition_listing.proofs.form.Reads as form-reads
-use Rattle.condition_listing.proofs.operator.Reads as operator-reads
-use Rattle.condition_listing.proofs.operator_form.Reads as operator-form-reads
-use Rattle.condition_listing.proofs.term.Reads as term-reads
+use Rattle.operator_listing.proofs.form.Reads as form-reads
+use Rattle.operator_listing.proofs.operator.Reads as operator-reads
+use Rattle.operator_listing.proofs.operator_form.Reads as operator-form-reads
+use Rattle.subcondition_listing.proofs.term.Reads as term-reads
 use Rattle.listing_writer.proofs.puts.Reads as puts-reads
 use Rattle.words.proofs.whole_word.Reads as whole-word-reads
 use Rattle.condition_listing.proofs.+condition+negation+operand.{statement}

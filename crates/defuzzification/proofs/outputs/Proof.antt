@@ -17,7 +17,8 @@ use Rattle.centre.specs.Centre.{lifted, SumsOf}
 use Rattle.layout.specs.Tables.{outputCount, outputFirstAt}
 use Rattle.layout.proofs.Sound.{outputs-few, output-numbers, positions-crisp}
 use Rattle.layout.proofs.Within.{output-terms-within}
-use Rattle.defuzzification.specs.Outputs.{positionsOf, heightOf, answersBy}
+use Rattle.defuzzification.specs.Outputs.{heightOf, answersBy}
+use Rattle.output_answer.specs.Positions.{positionsOf}
 use Rattle.defuzzification.proofs.Answers.{tab-more, answerAt, answers-are, padded-is, held-is}
 use Rattle.defuzzification.proofs.outputs.Statement.{statement}
 use Rattle.defuzzification.proofs.outputs.Tie as tie

@@ -1,7 +1,8 @@
 use borrow.Author.Needs.{needs}
 use mathlib.Core.Path.{subst}
 use Rattle.load.specs.Judged.{Judged}
-use Rattle.evaluation.proofs.Laws.{tells-as, evaluate-yes, evaluate-no}
+use Rattle.block_evaluation.proofs.Laws.{tells-as}
+use Rattle.evaluation.proofs.Laws.{evaluate-yes, evaluate-no}
 use Rattle.evaluation.proofs.evaluate.Statement.{statement}
 use Rattle.evaluation.proofs.evaluate.Tie as tie
 

@@ -22,8 +22,8 @@ use Rattle.layout.specs.Tables.{sums, inputCount, inputTermsIn}
 use Rattle.layout.proofs.Within.{input-terms-within}
 use Rattle.layout.proofs.Inputs.{input-limit, first-is, accepted-terms, sums-last}
 use Rattle.degrees.specs.Tables.{numbers, Low}
-use Rattle.fuzzification.specs.Filled.{filled, figures}
-use Rattle.fuzzification.proofs.Fill.{filled-sets, one-more}
+use Rattle.input_values.specs.Filled.{filled, figures}
+use Rattle.input_values.proofs.Fill.{filled-sets, one-more}
 use Rattle.fuzzification.proofs.Degrees.{degreesAt, length-at, term-more, length-degrees, input-more}
 use Rattle.fuzzification.proofs.term_degrees.Statement.{statement}
 use Rattle.fuzzification.proofs.term_degrees.Tie as tie

@@ -1,7 +1,7 @@
 use mathlib.Core.Path.{ap, _∙_}
 use Rattle.model.specs.Chunks.{chunk, answerIn}
-use Rattle.crossing.specs.Crossing.{bareOutcome}
-use Rattle.crossing.proofs.Laws.{told-then}
+use Rattle.outcome_crossing.specs.Outcomes.{bareOutcome}
+use Rattle.outcome_crossing.proofs.Outcomes.{told-then}
 use borrow.Author.Needs.{needs}
 use Rattle.grillenhelm.proofs.grillenhelm_append.Statement.{statement}
 use Rattle.grillenhelm.proofs.grillenhelm_append.Tie as tie

@@ -50,19 +50,20 @@ use Rattle.model.proofs.Reading as R
 use Rattle.model.proofs.Reading.Laws as R′
 use Rattle.model.proofs.Reply as Y
 use Rattle.model.proofs.Reply.Laws as Y′
-use Rattle.crossing.specs.Crossing.{readingOf, replyOf, evaluationIn}
+use Rattle.call_crossing.specs.Values.{readingOf}
+use Rattle.crossing.specs.Crossing.{replyOf, evaluationIn}
 use Rattle.crossing.specs.Crossing.{leaving as crossedLeaving}
-use Rattle.crossing.specs.declared.GrillenhelmReadings.{GrillenhelmReadings}
+use Rattle.call_crossing.specs.declared.GrillenhelmReadings.{GrillenhelmReadings}
 use Rattle.crossing.specs.declared.GrillenhelmReply.{GrillenhelmReply}
 use Rattle.crossing.proofs.Laws.{crossed-reply}
-use Rattle.crossing.proofs.GrillenhelmReadings as G
-use Rattle.crossing.proofs.GrillenhelmReadings.Laws as G′
+use Rattle.call_crossing.proofs.GrillenhelmReadings as G
+use Rattle.call_crossing.proofs.GrillenhelmReadings.Laws as G′
 use Rattle.crossing.proofs.GrillenhelmReply as P
 use Rattle.crossing.proofs.GrillenhelmReply.Laws as P′
-use Rattle.crossing.proofs.readings_of as cross
-use Rattle.crossing.proofs.readings_of.Symbol as cross-def
-use Rattle.crossing.proofs.readings_of.Symbol.{name as #crossing·readings-of}
-use Rattle.crossing.proofs.readings_of.Met as cross-thm
+use Rattle.call_crossing.proofs.readings_of as cross
+use Rattle.call_crossing.proofs.readings_of.Symbol as cross-def
+use Rattle.call_crossing.proofs.readings_of.Symbol.{name as #call-crossing·readings-of}
+use Rattle.call_crossing.proofs.readings_of.Met as cross-thm
 use Rattle.crossing.proofs.reply_of as back
 use Rattle.crossing.proofs.reply_of.Symbol as back-def
 use Rattle.crossing.proofs.reply_of.Symbol.{name as #crossing·reply-of}
@@ -197,7 +198,7 @@ module _ {M : Type 1} (𝓤 : URA M) (H : Heap 𝓤) (A : Atoms 𝓤) (W : Given
       nothing ! $ move ! (2 ∷ 0 ∷ []) $ fjoin ! $ owned ! G.the-row (Is G.the-row) readings-own g _ is-g $ fjoin ! $
       move ! (2 ∷ 0 ∷ []) $ fjoin ! $ frame ! $ done !
 
-  module _ (C : Calls 𝓤 H) (Λ : Loops 𝓤 H) (fm : FmC 𝓤 H (W .laws) C) (known-cross : Triple 𝓤 (C #crossing·readings-of) (Cross 𝓤 H A at-mem run))
+  module _ (C : Calls 𝓤 H) (Λ : Loops 𝓤 H) (fm : FmC 𝓤 H (W .laws) C) (known-cross : Triple 𝓤 (C #call-crossing·readings-of) (Cross 𝓤 H A at-mem run))
       (known-day : Triple 𝓤 (C #daily·evaluate-held) (Day 𝓤 H A at-mem run)) (known-back : Triple 𝓤 (C #crossing·reply-of) (Back 𝓤 H A at-mem run)) where
     walk : Is (ShrSlice (named 0) κ u8) s (v ∷ []) → Is G.the-row g (gv ∷ [])
         → ent 𝓤 (onEntry 𝓤 H A f.signature (κ, (κ′, tt)) (q, (q′, tt)) x at) (WpFn 𝓤 H C Λ code.function (v ∷ gv ∷ vptr b o ∷ []) Post)
@@ -254,7 +255,7 @@ module _ {M : Type 1} (𝓤 : URA M) (H : Heap 𝓤) (A : Atoms 𝓤) (W : Given
         ∙ ap (λ (l : List Reading). evaluationIn h (evaluate (now s) l n h)) e₁))))))))))))))))))))))
 
 module _ {M : Type 1} (𝓤 : URA M) (H : Heap 𝓤) (A : Atoms 𝓤) (W : Given 𝓤 H A) (at-mem : Memory → SProp 𝓤) (run : Routine → Fun 𝓤) where
-  held-walks : (C : Calls 𝓤 H) (Λ : Loops 𝓤 H) → FmC 𝓤 H (W .laws) C → Triple 𝓤 (C #crossing·readings-of) (Cross 𝓤 H A at-mem run)
+  held-walks : (C : Calls 𝓤 H) (Λ : Loops 𝓤 H) → FmC 𝓤 H (W .laws) C → Triple 𝓤 (C #call-crossing·readings-of) (Cross 𝓤 H A at-mem run)
       → Triple 𝓤 (C #daily·evaluate-held) (Day 𝓤 H A at-mem run) → Triple 𝓤 (C #crossing·reply-of) (Back 𝓤 H A at-mem run)
       → Walks 𝓤 H A f.ended stayed (WpFn 𝓤 H C Λ code.function) (f.clauses 𝓤 H A at-mem run)
   held-walks C Λ fm known-cross known-day known-back =
@@ -273,7 +274,7 @@ module _ {M : Type 1} (𝓤 : URA M) (H : Heap 𝓤) (A : Atoms 𝓤) (W : Given
   )
 
 held-meets : {M : Type 1} (𝓤 : URA M) (H : Heap 𝓤) (A : Atoms 𝓤) (W : Given 𝓤 H A) (at-mem : Memory → SProp 𝓤) (run : Routine → Fun 𝓤) (𝓣 : Tables 𝓤 H)
-    → Triple 𝓤 (𝓣 .C #crossing·readings-of) (Cross 𝓤 H A at-mem run) → Triple 𝓤 (𝓣 .C #daily·evaluate-held) (Day 𝓤 H A at-mem run)
+    → Triple 𝓤 (𝓣 .C #call-crossing·readings-of) (Cross 𝓤 H A at-mem run) → Triple 𝓤 (𝓣 .C #daily·evaluate-held) (Day 𝓤 H A at-mem run)
     → Triple 𝓤 (𝓣 .C #crossing·reply-of) (Back 𝓤 H A at-mem run)
     → Meets 𝓤 H A f.signature (WpFn 𝓤 H (𝓣 .C) (𝓣 .Λ) code.function) (f.spec 𝓤 H A at-mem run)
 held-meets 𝓤 H A W at-mem run 𝓣 known-cross known-day known-back =
@@ -287,7 +288,7 @@ grillenhelm-evaluate-held-spec 𝓤 H 𝓜 𝓖 𝓡 =
     entered 𝓤 H (tripleOf 𝓤 H (𝓖 .A) f.signature (f.spec 𝓤 H (𝓖 .A) (𝓜 .mem) (𝓡 .run)))
     (tables 𝓤 H 𝓜 𝓡 code.env .C) (tables 𝓤 H 𝓜 𝓡 code.env .Λ) #grillenhelm·grillenhelm-evaluate-held code.function (code.unfolded 𝓤 H 𝓜 𝓡)
     (held-meets 𝓤 H (𝓖 .A) (givenOf 𝓤 H 𝓜 𝓖) (𝓜 .mem) (𝓡 .run) (tablesOf 𝓤 H 𝓜 (tables 𝓤 H 𝓜 𝓡 code.env))
-    (cited 𝓤 H (Cross 𝓤 H (𝓖 .A) (𝓜 .mem) (𝓡 .run)) 𝓜 𝓡 code.env #crossing·readings-of cross-def.routine code.calls-crossing·readings-of
+    (cited 𝓤 H (Cross 𝓤 H (𝓖 .A) (𝓜 .mem) (𝓡 .run)) 𝓜 𝓡 code.env #call-crossing·readings-of cross-def.routine code.calls-call-crossing·readings-of
     (cross-thm.met 𝓤 H 𝓜 𝓖 𝓡))
     (cited 𝓤 H (Day 𝓤 H (𝓖 .A) (𝓜 .mem) (𝓡 .run)) 𝓜 𝓡 code.env #daily·evaluate-held day-def.routine code.calls-daily·evaluate-held
     (day-thm.met 𝓤 H 𝓜 𝓖 𝓡))

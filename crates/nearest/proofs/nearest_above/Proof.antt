@@ -5,7 +5,7 @@ use native.Mathlib.Nat.{mul-le-mul-left}
 use native.Mathlib.Omega.{arith}
 use mir.Facts.{fits-below}
 use Rattle.model.specs.Degrees.{nearest}
-use Rattle.nearest.proofs.Laws.{nearest-le, nearest-from}
+use Rattle.nearest_laws.proofs.Laws.{nearest-le, nearest-from}
 use Rattle.nearest.proofs.nearest_above.Statement.{statement}
 use Rattle.nearest.proofs.nearest_above.Tie as tie
 

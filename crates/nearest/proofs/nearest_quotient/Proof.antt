@@ -1,6 +1,6 @@
 use borrow.Author.Needs.{needs}
 use native.Mathlib.Omega.{arith}
-use Rattle.nearest.proofs.Shifts.{rounded-down}
+use Rattle.nearest_laws.proofs.Laws.{rounded-down}
 use Rattle.nearest.proofs.nearest_quotient.Statement.{statement}
 use Rattle.nearest.proofs.nearest_quotient.Tie as tie
 

@@ -4,7 +4,7 @@ use lib.ListN.{length}
 use Rattle.model.specs.Image.{wordAt}
 use Rattle.layout.proofs.Rules.{rules-few}
 use Rattle.listing_writer.proofs.Prepends.{joined}
-use Rattle.rule_listing.proofs.Names.{rule-line}
+use Rattle.rule_listing.proofs.Texts.{rule-line}
 use borrow.Author.Needs.{needs}
 use Rattle.rule_listing.proofs.rule.Statement.{statement}
 use Rattle.rule_listing.proofs.rule.Tie as tie

@@ -1,7 +1,7 @@
 use native.Mathlib.Omega.{arith}
 use Rattle.model.specs.Image.{wordAt}
 use Rattle.listing_writer.proofs.Prepends.{joined}
-use Rattle.rule_listing.proofs.Names.{block-text}
+use Rattle.rule_listing.proofs.Texts.{block-text}
 use borrow.Author.Needs.{needs}
 use Rattle.rule_listing.proofs.rule_block.Statement.{statement}
 use Rattle.rule_listing.proofs.rule_block.Tie as tie

@@ -1,0 +1,3 @@
+pub mod Laws
+pub mod Difference
+pub mod Described

@@ -1,0 +1,13 @@
+use borrow.Author.Tests.{eq-eqb, ne-eqb}
+use borrow.Author.Needs.{needs}
+use Rattle.operator_listing.proofs.operator_form.Statement.{statement}
+use Rattle.operator_listing.proofs.operator_form.Tie as tie
+
+returns : tie.Need-returns
+returns c = (simp (eq-eqb _ _ (c .if1 .taken)), search needs)
+
+returns-2 : tie.Need-returns-2
+returns-2 c = (simp (ne-eqb _ _ (c .if1 .left)), search needs)
+
+pub operator-form-spec : {M : Type 1} → statement M
+operator-form-spec = tie.close (tie.spec returns returns-2)
