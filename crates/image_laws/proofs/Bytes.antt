@@ -37,97 +37,97 @@ use Rattle.image_laws.proofs.Tables.{FineOutput}
 use Rattle.image_laws.proofs.Loads.{fine}
 
 -- 32 bits
-abbrev Fits : ℕ → Type 0
-Fits x = x ≤ 4294967295
+abbrev InWord : ℕ → Type 0
+InWord x = x ≤ 4294967295
 
-bytes-small : (ws : List ℕ) → Each Fits ws → Each (λ c. c < 256) (bytesOf ws)
+bytes-small : (ws : List ℕ) → Each InWord ws → Each (λ c. c < 256) (bytesOf ws)
 unfolding bytesOf
 bytes-small ws h = each-gather (λ c. c < 256) wordBytes ws (each-so (λ x l. (omega arith, (omega arith, (omega arith, (omega arith, tt))))) ws h)
 
 -- FIELDS
-name-fits : (n : List ℕ) → Spelt n → Each Fits (nameWords n)
+name-fits : (n : List ℕ) → Spelt n → Each InWord (nameWords n)
 unfolding nameWords
 name-fits n s = let f = word-fits n (below s) in (f 0, (f 1, (f 2, (f 3, tt))))
 
-crisp-fits : (z : ℤ) → inCrisp z ≡ true → Fits (crispWord z)
+crisp-fits : (z : ℤ) → inCrisp z ≡ true → InWord (crispWord z)
 crisp-fits (pos n) h = let l : n ≤ crispLimit = leb-true _ _ h in omega arith
 crisp-fits (negsuc n) h = omega arith
 
-type-fits : (t : InputType) → Fits (typeWord t)
+type-fits : (t : InputType) → InWord (typeWord t)
 type-fits Real = omega arith
 type-fits Int = omega arith
 
-pair-fits : (p : Pair) → Fits (pairWord p)
+pair-fits : (p : Pair) → InWord (pairWord p)
 pair-fits MinMax = omega arith
 pair-fits ProdAsum = omega arith
 pair-fits BdifBsum = omega arith
 
-accu-fits : (a : Accumulation) → Fits (accuWord a)
+accu-fits : (a : Accumulation) → InWord (accuWord a)
 accu-fits Max = omega arith
 accu-fits Bsum = omega arith
 
-act-fits : (a : Activation) → Fits (actWord a)
+act-fits : (a : Activation) → InWord (actWord a)
 act-fits Min = omega arith
 act-fits Prod = omega arith
 
-op-fits : (o : Op) → Fits (opWord o)
+op-fits : (o : Op) → InWord (opWord o)
 op-fits and = omega arith
 op-fits or = omega arith
 
-range-fits : (g : Option Range) → ((x : Range) → g ≡ some x → (inCrisp (x .least) ≡ true) × (inCrisp (x .most) ≡ true)) → Each Fits (rangeWords g)
+range-fits : (g : Option Range) → ((x : Range) → g ≡ some x → (inCrisp (x .least) ≡ true) × (inCrisp (x .most) ≡ true)) → Each InWord (rangeWords g)
 range-fits none h = (omega arith, (omega arith, (omega arith, tt)))
 range-fits (some x) h = let q = h x refl in (omega arith, (crisp-fits (x .least) (q .0), (crisp-fits (x .most) (q .1), tt)))
 
-default-fits : (d : Option ℤ) → ((x : ℤ) → d ≡ some x → inCrisp x ≡ true) → Each Fits (defaultWords d)
+default-fits : (d : Option ℤ) → ((x : ℤ) → d ≡ some x → inCrisp x ≡ true) → Each InWord (defaultWords d)
 default-fits none h = (omega arith, (omega arith, tt))
 default-fits (some x) h = (omega arith, (crisp-fits x (h x refl), tt))
 
 -- ROWS, X being what is known of the rows that are left
 module _ {R S : Type 0} (enc : S → R → List ℕ) (next : S → R → S) (X : S → List R → Type 0)
-    (row : (σ : S) (r : R) (rs : List R) → X σ (r ∷ rs) → Each Fits (enc σ r) × X (next σ r) rs) where
-  laid-fits : (σ : S) (rs : List R) → X σ rs → Each Fits (laid enc next σ rs)
+    (row : (σ : S) (r : R) (rs : List R) → X σ (r ∷ rs) → Each InWord (enc σ r) × X (next σ r) rs) where
+  laid-fits : (σ : S) (rs : List R) → X σ rs → Each InWord (laid enc next σ rs)
   unfolding laid
   laid-fits σ [] x = tt
-  laid-fits σ (r ∷ rs) x = let q = row σ r rs x in each-append Fits (enc σ r) (laid enc next (next σ r) rs) (q .0) (laid-fits (next σ r) rs (q .1))
+  laid-fits σ (r ∷ rs) x = let q = row σ r rs x in each-append InWord (enc σ r) (laid enc next (next σ r) rs) (q .0) (laid-fits (next σ r) rs (q .1))
 
 -- firsts and counts stay below what is held in all
-held : {R A : Type 0} (items : R → List A) (n : ℕ) (r : R) (rs : List R) → Fits (n + length (gather items (r ∷ rs)))
-    → Fits n × Fits (length (items r)) × Fits (n + length (items r) + length (gather items rs))
+held : {R A : Type 0} (items : R → List A) (n : ℕ) (r : R) (rs : List R) → InWord (n + length (gather items (r ∷ rs)))
+    → InWord n × InWord (length (items r)) × InWord (n + length (items r) + length (gather items rs))
 unfolding gather
 held items n r rs h = let e = length-append (items r) (gather items rs) in (omega arith, omega arith, omega arith)
 
 -- rows of a name and more, that hold items of another table: how many, and the first of them
 module _ {R A : Type 0} (name : R → List ℕ) (items : R → List A) (more : ℕ → R → List ℕ) (Good : R → Type 0)
-    (spelt : (r : R) → Good r → Spelt (name r)) (fits : (n : ℕ) (r : R) → Good r → Fits n → Fits (length (items r)) → Each Fits (more n r)) where
-  named-fit : (n : ℕ) (rs : List R) → Each Good rs → Fits (n + length (gather items rs))
-      → Each Fits (laid (λ m r. nameWords (name r) ++ more m r) (λ m r. m + length (items r)) n rs)
+    (spelt : (r : R) → Good r → Spelt (name r)) (fits : (n : ℕ) (r : R) → Good r → InWord n → InWord (length (items r)) → Each InWord (more n r)) where
+  named-fit : (n : ℕ) (rs : List R) → Each Good rs → InWord (n + length (gather items rs))
+      → Each InWord (laid (λ m r. nameWords (name r) ++ more m r) (λ m r. m + length (items r)) n rs)
   named-fit n rs s l = laid-fits _ _ X row n rs (s, l)
     where
       X : ℕ → List R → Type 0
-      X m us = Each Good us × Fits (m + length (gather items us))
+      X m us = Each Good us × InWord (m + length (gather items us))
 
-      row : (m : ℕ) (r : R) (us : List R) → X m (r ∷ us) → Each Fits (nameWords (name r) ++ more m r) × X (m + length (items r)) us
+      row : (m : ℕ) (r : R) (us : List R) → X m (r ∷ us) → Each InWord (nameWords (name r) ++ more m r) × X (m + length (items r)) us
       row m r us x =
           let q = held items m r us (x .1) in
-          (each-append Fits (nameWords (name r)) (more m r) (name-fits (name r) (spelt r (x .0 .0))) (fits m r (x .0 .0) (q .0) (q .1)), (x .0 .1, q .2))
+          (each-append InWord (nameWords (name r)) (more m r) (name-fits (name r) (spelt r (x .0 .0))) (fits m r (x .0 .0) (q .0) (q .1)), (x .0 .1, q .2))
 
-inputs-fit : (n : ℕ) (vs : List Input) → Each (λ v. Spelt (v .name)) vs → Fits (n + length (gather (λ v. v .terms) vs)) → Each Fits (inputTable n vs)
+inputs-fit : (n : ℕ) (vs : List Input) → Each (λ v. Spelt (v .name)) vs → InWord (n + length (gather (λ v. v .terms) vs)) → Each InWord (inputTable n vs)
 inputs-fit n vs s l =
-    subst (Each Fits) (sym (input-table n vs))
+    subst (Each InWord) (sym (input-table n vs))
     (named-fit (λ v. v .name) (λ v. v .terms) (λ m v. typeWord (v .type) ∷ m ∷ length (v .terms) ∷ []) (λ v. Spelt (v .name)) (λ v g. g)
     (λ m v g f c. (type-fits (v .type), (f, (c, tt)))) n vs s l)
 
-outputs-fit : (b : Block) → Each FineOutput (b .outputs) → Fits (length (inputTerms b) + length (outputTerms b)) → Each Fits (outputTable b 0 (b .outputs))
+outputs-fit : (b : Block) → Each FineOutput (b .outputs) → InWord (length (inputTerms b) + length (outputTerms b)) → Each InWord (outputTable b 0 (b .outputs))
 outputs-fit b s l =
-    subst (Each Fits) (sym (output-table b))
+    subst (Each InWord) (sym (output-table b))
     (named-fit (λ v. v .name) (λ v. v .terms) (λ m v. m ∷ length (v .terms) ∷ (rangeWords (v .range) ++ defaultWords (v .default))) FineOutput (λ v g. g .name)
     (λ m v g f c.
     let d = default-fits (v .default) (g .default) in
-    (f, (c, each-append Fits (rangeWords (v .range)) (defaultWords (v .default)) (range-fits (v .range) (g .range)) d))) _ (b .outputs) s l)
+    (f, (c, each-append InWord (rangeWords (v .range)) (defaultWords (v .default)) (range-fits (v .range) (g .range)) d))) _ (b .outputs) s l)
 
-terms-fit : (n : ℕ) (ts : List Term) → Each (λ t. Spelt (t .name)) ts → Fits (n + length (gather (λ t. t .points) ts)) → Each Fits (termTable n ts)
+terms-fit : (n : ℕ) (ts : List Term) → Each (λ t. Spelt (t .name)) ts → InWord (n + length (gather (λ t. t .points) ts)) → Each InWord (termTable n ts)
 terms-fit n ts s l =
-    subst (Each Fits) (sym (term-table n ts))
+    subst (Each InWord) (sym (term-table n ts))
     (named-fit (λ t. t .name) (λ t. t .points) (λ m t. m ∷ length (t .points) ∷ []) (λ t. Spelt (t .name)) (λ t g. g) (λ m t g f c. (f, (c, tt))) n ts s l)
 
 abbrev Small : Rule → Type 0
@@ -136,29 +136,29 @@ Small r = (r .number ≤ 65535) × (r .weight ≤ M)
 abbrev sizes : List Rule → ℕ
 sizes rs = total (λ r. size (r .condition)) rs
 
-rules-fit : (n m : ℕ) (rs : List Rule) → Each Small rs → Fits (n + sizes rs) → Fits (m + length (gather (λ r. r .conclusions) rs))
-    → Each Fits (ruleTable n m rs)
+rules-fit : (n m : ℕ) (rs : List Rule) → Each Small rs → InWord (n + sizes rs) → InWord (m + length (gather (λ r. r .conclusions) rs))
+    → Each InWord (ruleTable n m rs)
 unfolding total
-rules-fit n m rs s l k = subst (Each Fits) (sym (rule-table n m rs)) (laid-fits ruleRow ruleNext X row (n, m) rs (s, (l, k)))
+rules-fit n m rs s l k = subst (Each InWord) (sym (rule-table n m rs)) (laid-fits ruleRow ruleNext X row (n, m) rs (s, (l, k)))
   where
     X : ℕ × ℕ → List Rule → Type 0
-    X σ qs = Each Small qs × (Fits (σ .0 + sizes qs) × Fits (σ .1 + length (gather (λ r. r .conclusions) qs)))
+    X σ qs = Each Small qs × (InWord (σ .0 + sizes qs) × InWord (σ .1 + length (gather (λ r. r .conclusions) qs)))
 
-    row : (σ : ℕ × ℕ) (r : Rule) (qs : List Rule) → X σ (r ∷ qs) → Each Fits (ruleRow σ r) × X (ruleNext σ r) qs
+    row : (σ : ℕ × ℕ) (r : Rule) (qs : List Rule) → X σ (r ∷ qs) → Each InWord (ruleRow σ r) × X (ruleNext σ r) qs
     row σ r qs x =
         let q = held (λ r. r .conclusions) (σ .1) r qs (x .1 .1) in
-        let u : Fits (σ .0 + (size (r .condition) + sizes qs)) = x .1 .0 in
+        let u : InWord (σ .0 + (size (r .condition) + sizes qs)) = x .1 .0 in
         let v : Small r = x .0 .0 in
         ((omega arith, (omega arith, (omega arith, (q .0, (q .1, (omega arith, tt)))))), (x .0 .1, (omega arith, q .2)))
 
-postfix-fits : (m : ℕ) (c : Condition) → m ≤ 1000 → termsBelow m c ≡ true → Each Fits (postfix c)
+postfix-fits : (m : ℕ) (c : Condition) → m ≤ 1000 → termsBelow m c ≡ true → Each InWord (postfix c)
 unfolding postfix termsBelow
 postfix-fits m (term t) l h = let q : t < m = ltb-true t m h in (omega arith, tt)
-postfix-fits m (neg c) l h = each-append Fits (postfix c) (0 ∷ []) (postfix-fits m c l h) (omega arith, tt)
+postfix-fits m (neg c) l h = each-append InWord (postfix c) (0 ∷ []) (postfix-fits m c l h) (omega arith, tt)
 postfix-fits m (two o a b) l h =
     let r = both (termsBelow m a) (termsBelow m b) h in
-    each-append Fits (postfix a) (postfix b ++ (opWord o ∷ [])) (postfix-fits m a l (r .0))
-    (each-append Fits (postfix b) (opWord o ∷ []) (postfix-fits m b l (r .1)) (op-fits o, tt))
+    each-append InWord (postfix a) (postfix b ++ (opWord o ∷ [])) (postfix-fits m a l (r .0))
+    (each-append InWord (postfix b) (opWord o ∷ []) (postfix-fits m b l (r .1)) (op-fits o, tt))
 
 -- COUNTS
 at-most : (a n m : ℕ) → between a m n ≡ true → n ≤ m
@@ -240,7 +240,7 @@ module _ (b : Block) (h : wellFormed b ≡ true) where
       always [] = tt
       always (s ∷ ss) = (omega arith, always ss)
 
-  header-fits : Each Fits (header b)
+  header-fits : Each InWord (header b)
   unfolding header offsets endOf wellFormed
   header-fits =
       let c = counted in
@@ -252,7 +252,7 @@ module _ (b : Block) (h : wellFormed b ≡ true) where
       let r = c .rules in
       let w = c .words′ in
       let k = c .conclusions′ in
-      let names = each-append Fits (nameWords (b .name)) (nameWords (b .ruleBlock))
+      let names = each-append InWord (nameWords (b .name)) (nameWords (b .ruleBlock))
       (name-fits (b .name) (f .name)) (name-fits (b .ruleBlock) (f .ruleBlock)) in (
         omega arith,
         (
@@ -304,8 +304,8 @@ module _ (b : Block) (h : wellFormed b ≡ true) where
       )
 
   -- POINTS, RULES AND CONCLUSIONS
-  points-fit : Each Fits (gather pointWords (points b))
-  points-fit = each-gather Fits pointWords (points b) (each-so (λ p k. (crisp-fits (p .at) (k .0), (omega arith, tt))) (points b) (fine b h .points′))
+  points-fit : Each InWord (gather pointWords (points b))
+  points-fit = each-gather InWord pointWords (points b) (each-so (λ p k. (crisp-fits (p .at) (k .0), (omega arith, tt))) (points b) (fine b h .points′))
 
   rules-ok : Each (λ r. ruleOk b r ≡ true) (b .rules)
   unfolding wellFormed
@@ -317,7 +317,7 @@ module _ (b : Block) (h : wellFormed b ≡ true) where
       let q = passed _ k in
       (at-most ruleNumberLeast _ _ (q .0), leb-true _ _ (both (leb (r .weight) M) (eqb (r .weight % 1000) 0) (q .1 .1 .1 .1 .0) .0))
 
-  condition-fits : (r : Rule) → ruleOk b r ≡ true → Each Fits (postfix (r .condition))
+  condition-fits : (r : Rule) → ruleOk b r ≡ true → Each InWord (postfix (r .condition))
   unfolding ruleOk conditionOk
   condition-fits r k =
       let n = length (inputTerms b) in
@@ -325,7 +325,7 @@ module _ (b : Block) (h : wellFormed b ≡ true) where
       let q = both (termsBelow n (r .condition)) (leb (depth (r .condition)) depthLimit) (passed _ k .1 .0) in
       postfix-fits n (r .condition) (omega arith) (q .0)
 
-  conclusion-fits : (k : Conclusion) → conclusionOk b k ≡ true → Each Fits (conclusionWords k)
+  conclusion-fits : (k : Conclusion) → conclusionOk b k ≡ true → Each InWord (conclusionWords k)
   unfolding conclusionOk outputFirst singletonsOf
   conclusion-fits k e =
       let q = passed _ e in
@@ -340,29 +340,29 @@ module _ (b : Block) (h : wellFormed b ≡ true) where
   unfolding ruleOk
   conclusions-ok r k = each-passes (conclusionOk b) (r .conclusions) (passed _ k .1 .1 .1 .0)
 
-  conclusions-fit : Each Fits (gather conclusionWords (conclusions b))
+  conclusions-fit : Each InWord (gather conclusionWords (conclusions b))
   conclusions-fit =
-      each-gather Fits conclusionWords (conclusions b)
+      each-gather InWord conclusionWords (conclusions b)
       (each-so conclusion-fits (conclusions b) (each-gather _ (λ r. r .conclusions) (b .rules) (each-so conclusions-ok (b .rules) rules-ok)))
 
-  words-fit : Each Fits (words b)
+  words-fit : Each InWord (words b)
   unfolding words
   words-fit =
       let f = fine b h in
       let c = counted in
-      let i : Fits (0 + length (inputTerms b)) = omega (arith, c .inputTerms′) in
-      let o : Fits (length (inputTerms b) + length (outputTerms b)) = omega (arith, c .inputTerms′, c .outputTerms′) in
-      let p : Fits (0 + length (points b)) = omega (arith, c .points′) in
-      let n : Fits (0 + sizes (b .rules)) = omega (arith, c .words′) in
-      let k : Fits (0 + length (conclusions b)) = omega (arith, c .conclusions′) in
-      each-append Fits (header b) _ header-fits
-      (each-append Fits (inputTable 0 (b .inputs)) _ (inputs-fit 0 (b .inputs) (f .inputs) i)
-      (each-append Fits (outputTable b 0 (b .outputs)) _ (outputs-fit b (f .outputs) o)
-      (each-append Fits (termTable 0 (terms b)) _ (terms-fit 0 (terms b) (f .terms′) p)
-      (each-append Fits (gather pointWords (points b)) _ points-fit
-      (each-append Fits (ruleTable 0 0 (b .rules)) _ (rules-fit 0 0 (b .rules) (each-so rule-small (b .rules) rules-ok) n k)
-      (each-append Fits (gather (λ r. postfix (r .condition)) (b .rules)) _
-      (each-gather Fits (λ r. postfix (r .condition)) (b .rules) (each-so condition-fits (b .rules) rules-ok))
+      let i : InWord (0 + length (inputTerms b)) = omega (arith, c .inputTerms′) in
+      let o : InWord (length (inputTerms b) + length (outputTerms b)) = omega (arith, c .inputTerms′, c .outputTerms′) in
+      let p : InWord (0 + length (points b)) = omega (arith, c .points′) in
+      let n : InWord (0 + sizes (b .rules)) = omega (arith, c .words′) in
+      let k : InWord (0 + length (conclusions b)) = omega (arith, c .conclusions′) in
+      each-append InWord (header b) _ header-fits
+      (each-append InWord (inputTable 0 (b .inputs)) _ (inputs-fit 0 (b .inputs) (f .inputs) i)
+      (each-append InWord (outputTable b 0 (b .outputs)) _ (outputs-fit b (f .outputs) o)
+      (each-append InWord (termTable 0 (terms b)) _ (terms-fit 0 (terms b) (f .terms′) p)
+      (each-append InWord (gather pointWords (points b)) _ points-fit
+      (each-append InWord (ruleTable 0 0 (b .rules)) _ (rules-fit 0 0 (b .rules) (each-so rule-small (b .rules) rules-ok) n k)
+      (each-append InWord (gather (λ r. postfix (r .condition)) (b .rules)) _
+      (each-gather InWord (λ r. postfix (r .condition)) (b .rules) (each-so condition-fits (b .rules) rules-ok))
       conclusions-fit))))))
 
   pub image-bytes : Each (λ c. c < 256) (image b)

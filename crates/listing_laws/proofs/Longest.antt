@@ -24,14 +24,14 @@ use Rattle.laws.proofs.Finding.{not-empty}
 use Rattle.listing_laws.proofs.Facts.{rule-facts, block-facts}
 use Rattle.listing_laws.proofs.Names.{input-named, output-named, conclusion-named}
 use Rattle.listing_laws.proofs.LongConditions.{condition-short}
-use Rattle.listing_laws.proofs.Room.{isByte, Fits, name-room, digits-room, unit-room, gather-room, lines-room, commaed-room, input-room, output-room, fuzzify-room, defuzzify-room, names-room, bare-room}
+use Rattle.listing_laws.proofs.Room.{isByte, AtMost, name-room, digits-room, unit-room, gather-room, lines-room, commaed-room, input-room, output-room, fuzzify-room, defuzzify-room, names-room, bare-room}
 
 -- RULES
-weight-room : (w : ℕ) → unitOk w ≡ true → Fits 11 (weightText w)
+weight-room : (w : ℕ) → unitOk w ≡ true → AtMost 11 (weightText w)
 unfolding all
 weight-room w h = go (eqb w M) refl
   where
-    go : (q : Bool) → eqb w M ≡ q → Fits 11 (weightText w)
+    go : (q : Bool) → eqb w M ≡ q → AtMost 11 (weightText w)
     go true q = rw q (record { small = refl; short = omega arith })
     go false q = let u = unit-room w h in rw q (record { small = u .small; short = omega (arith, u .short) })
 
@@ -45,24 +45,24 @@ unfolding total gather
 rules-size [] = omega arith
 rules-size (r ∷ rs) = omega (arith, rules-size rs, length-append (r .conclusions) (gather (λ r. r .conclusions) rs))
 
-and-room : (p : Pair) → Fits 4 (andText p)
+and-room : (p : Pair) → AtMost 4 (andText p)
 unfolding all
 and-room min-max = record { small = refl; short = omega arith }
 and-room prod-asum = record { small = refl; short = omega arith }
 and-room bdif-bsum = record { small = refl; short = omega arith }
 
-or-room : (p : Pair) → Fits 4 (orText p)
+or-room : (p : Pair) → AtMost 4 (orText p)
 unfolding all
 or-room min-max = record { small = refl; short = omega arith }
 or-room prod-asum = record { small = refl; short = omega arith }
 or-room bdif-bsum = record { small = refl; short = omega arith }
 
-act-room : (a : Activation) → Fits 4 (actText a)
+act-room : (a : Activation) → AtMost 4 (actText a)
 unfolding all
 act-room by-min = record { small = refl; short = omega arith }
 act-room by-prod = record { small = refl; short = omega arith }
 
-accu-room : (a : Accumulation) → Fits 4 (accuText a)
+accu-room : (a : Accumulation) → AtMost 4 (accuText a)
 unfolding all
 accu-room by-max = record { small = refl; short = omega arith }
 accu-room by-bsum = record { small = refl; short = omega arith }
@@ -72,12 +72,12 @@ abbrev ruleBlockRoom : ℕ
 ruleBlockRoom = (893 * ruleLimit + 385 * wordLimit + 684 * conclusionLimit) / 18 + 97
 
 module _ (b : Block) (h : wellFormed b ≡ true) where
-  conclusion-room : (k : Conclusion) → conclusionOk b k ≡ true → Fits 36 (conclusionText b k)
+  conclusion-room : (k : Conclusion) → conclusionOk b k ≡ true → AtMost 36 (conclusionText b k)
   unfolding all conclusionText
   conclusion-room k o =
       names-room _ _ " IS " 4 (output-named b h k o) (conclusion-named b h k o) (record { small = refl; short = omega arith })
 
-  rule-room : (r : Rule) → ruleOk b r ≡ true → Fits (ruleSize r) (ruleLine b r)
+  rule-room : (r : Rule) → ruleOk b r ≡ true → AtMost (ruleSize r) (ruleLine b r)
   unfolding all ruleLine
   rule-room r o =
       let f = rule-facts b r o in
@@ -92,7 +92,7 @@ module _ (b : Block) (h : wellFormed b ≡ true) where
         short = simp length-append (omega (arith, n .short, t, k .short, w .short, not-empty (r .conclusions) (f .some)));
       }
 
-  rule-block-room : Fits ruleBlockRoom (ruleBlockText b)
+  rule-block-room : AtMost ruleBlockRoom (ruleBlockText b)
   unfolding all wellFormed ruleBlockText
   rule-block-room =
       let f = block-facts b h in
@@ -109,7 +109,7 @@ module _ (b : Block) (h : wellFormed b ≡ true) where
             (omega (arith, n .short, p .short, q .short, a .short, c .short, r .short, rules-size (b .rules), f .rules .1, f .words, f .conclusions));
       }
 
-  listing-room : Fits listingLimit (listing b)
+  listing-room : AtMost listingLimit (listing b)
   unfolding all wellFormed listing
   listing-room =
       let f = block-facts b h in

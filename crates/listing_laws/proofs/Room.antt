@@ -33,14 +33,14 @@ abbrev pub isByte : ℕ → Bool
 isByte c = ltb c 256
 
 -- w is bytes, at most n of them
-pub record Fits (n : ℕ) (w : List ℕ) : Type 0 where
+pub record AtMost (n : ℕ) (w : List ℕ) : Type 0 where
   pub small : all isByte w ≡ true
   pub short : length w ≤ n
 
-pub weaken : {w : List ℕ} (m n : ℕ) → m ≤ n → Fits m w → Fits n w
+pub weaken : {w : List ℕ} (m n : ℕ) → m ≤ n → AtMost m w → AtMost n w
 weaken m n h p = record { small = p .small; short = omega (arith, p .short) }
 
-pub join : {v w : List ℕ} (m n : ℕ) → Fits m v → Fits n w → Fits (m + n) (v ++ w)
+pub join : {v w : List ℕ} (m n : ℕ) → AtMost m v → AtMost n w → AtMost (m + n) (v ++ w)
 join {v} {w} m n p q = record {
   small = rw (all-append isByte v w, p .small, q .small);
   short = omega (arith, length-append v w, p .short, q .short);
@@ -59,41 +59,41 @@ name-byte c h = go (ltb c 256) refl
 digit-byte : (c : ℕ) → isDigit c ≡ true → isByte c ≡ true
 digit-byte c h = let l = leb-true c 57 (both (leb 48 c) (leb c 57) h .1) in lt-ltb c 256 (omega arith)
 
-pub name-room : (w : List ℕ) → isName w ≡ true → Fits 16 w
+pub name-room : (w : List ℕ) → isName w ≡ true → AtMost 16 w
 name-room w h = let f = name-facts w h in record { small = all-imp isNameByte isByte name-byte w (f .bytes); short = f .short }
 
-pub digits-room : (m n : ℕ) → n < tens (suc m) → Fits (suc m) (digits n)
+pub digits-room : (m n : ℕ) → n < tens (suc m) → AtMost (suc m) (digits n)
 digits-room m n h = record { small = all-imp isDigit isByte digit-byte (digits n) (digits-all n); short = digits-length m n h }
 
-point-room : (f : List ℕ) → all isDigit f ≡ true → length f ≤ 3 → Fits 4 (afterPoint f)
+point-room : (f : List ℕ) → all isDigit f ≡ true → length f ≤ 3 → AtMost 4 (afterPoint f)
 unfolding all
 point-room [] a h = record { small = refl; short = omega arith }
 point-room (c ∷ f) a h = record { small = all-imp isDigit isByte digit-byte (c ∷ f) a; short = omega arith }
 
-thousandths-room : (m n : ℕ) → n / 1000 < tens (suc m) → Fits (suc m + 4) (thousandthsText n)
+thousandths-room : (m n : ℕ) → n / 1000 < tens (suc m) → AtMost (suc m + 4) (thousandthsText n)
 unfolding thousandthsText
 thousandths-room m n h =
     join (suc m) 4 (digits-room m (n / 1000) h) (point-room (behind n) (behind-all n) (behind-length n))
 
-crisp-unsigned : (n : ℕ) → n ≤ crispLimit → Fits 10 (thousandthsText n)
+crisp-unsigned : (n : ℕ) → n ≤ crispLimit → AtMost 10 (thousandthsText n)
 unfolding thousandthsText digits digitsOn trimmed all
 crisp-unsigned n h = go (eqb n crispLimit) refl
   where
-    go : (b : Bool) → eqb n crispLimit ≡ b → Fits 10 (thousandthsText n)
+    go : (b : Bool) → eqb n crispLimit ≡ b → AtMost 10 (thousandthsText n)
     go true e = rw (eqb-true n crispLimit e) (record { small = refl; short = omega arith })
     go false e = let l = eqb-false n crispLimit e in thousandths-room 5 n (omega arith)
 
-crisp-room : (z : ℤ) → inCrisp z ≡ true → Fits 11 (crispText z)
+crisp-room : (z : ℤ) → inCrisp z ≡ true → AtMost 11 (crispText z)
 unfolding crispText all
 crisp-room (pos n) h = weaken 10 11 (omega arith) (crisp-unsigned n (leb-true n crispLimit h))
 crisp-room (negsuc n) h = let f = crisp-unsigned (suc n) (leb-true (suc n) crispLimit h) in record { small = f .small; short = omega (arith, f .short) }
 
-pub unit-room : (d : ℕ) → unitOk d ≡ true → Fits 5 (unitText d)
+pub unit-room : (d : ℕ) → unitOk d ≡ true → AtMost 5 (unitText d)
 unit-room d h = let f = unit-facts d h in thousandths-room 0 (d / 1000) (omega arith)
 
 -- LISTS of parts
-module _ {A : Type 0} (f : A → List ℕ) (ok : A → Bool) (m : A → ℕ) (k : (x : A) → ok x ≡ true → Fits (m x) (f x)) where
-  pub gather-room : (xs : List A) → all ok xs ≡ true → Fits (total m xs) (gather f xs)
+module _ {A : Type 0} (f : A → List ℕ) (ok : A → Bool) (m : A → ℕ) (k : (x : A) → ok x ≡ true → AtMost (m x) (f x)) where
+  pub gather-room : (xs : List A) → all ok xs ≡ true → AtMost (total m xs) (gather f xs)
   unfolding all gather total
   gather-room [] h = record { small = refl; short = omega arith }
   gather-room (x ∷ xs) h =
@@ -105,11 +105,11 @@ unfolding total
 total-same n [] = omega arith
 total-same n (x ∷ xs) = omega (arith, mul-suc n (length xs), total-same n xs)
 
-module _ {A : Type 0} (f : A → List ℕ) (ok : A → Bool) (n : ℕ) (k : (x : A) → ok x ≡ true → Fits n (f x)) where
-  pub lines-room : (xs : List A) → all ok xs ≡ true → Fits (n * length xs) (gather f xs)
+module _ {A : Type 0} (f : A → List ℕ) (ok : A → Bool) (n : ℕ) (k : (x : A) → ok x ≡ true → AtMost n (f x)) where
+  pub lines-room : (xs : List A) → all ok xs ≡ true → AtMost (n * length xs) (gather f xs)
   lines-room xs h = rw (total-same n xs) at (gather-room f ok (λ x. n) k xs h)
 
-  pub commaed-room : (xs : List A) → all ok xs ≡ true → Fits ((n + 2) * length xs - 2) (commaed (map f xs))
+  pub commaed-room : (xs : List A) → all ok xs ≡ true → AtMost ((n + 2) * length xs - 2) (commaed (map f xs))
   unfolding all commaed
   commaed-room [] h = record { small = refl; short = omega arith }
   commaed-room (x ∷ []) h =
@@ -133,26 +133,26 @@ module _ {A : Type 0} (f : A → List ℕ) (ok : A → Bool) (n : ℕ) (k : (x :
       }
 
 -- DECLARATIONS
-type-room : (t : InputType) → Fits 4 (typeText t)
+type-room : (t : InputType) → AtMost 4 (typeText t)
 unfolding all
 type-room real = record { small = refl; short = omega arith }
 type-room int = record { small = refl; short = omega arith }
 
-pub input-room : (v : Input) → inputOk v ≡ true → Fits 27 (inputLine v)
+pub input-room : (v : Input) → inputOk v ≡ true → AtMost 27 (inputLine v)
 unfolding all inputOk
 input-room v h =
     let n = name-room (v .name) (passed _ h .0) in
     let t = type-room (v .type) in
     record { small = simp (all-append, n .small, t .small); short = simp length-append (omega (arith, n .short, t .short)) }
 
-pub output-room : (v : Output) → outputOk v ≡ true → Fits 27 (outputLine v)
+pub output-room : (v : Output) → outputOk v ≡ true → AtMost 27 (outputLine v)
 unfolding all outputOk
 output-room v h =
     let n = name-room (v .name) (passed _ h .0) in
     record { small = simp (all-append, n .small); short = simp length-append (omega (arith, n .short)) }
 
 -- TERMS
-point-text-room : (p : Point) → pointOk p ≡ true → Fits 20 (pointText p)
+point-text-room : (p : Point) → pointOk p ≡ true → AtMost 20 (pointText p)
 unfolding all pointOk
 point-text-room p h =
     let b = both (inCrisp (p .at)) (unitOk (p .degree)) h in
@@ -160,7 +160,7 @@ point-text-room p h =
     let u = unit-room (p .degree) (b .1) in
     record { small = simp (all-append, c .small, u .small); short = simp length-append (omega (arith, c .short, u .short)) }
 
-term-room : (t : Term) → termOk t ≡ true → Fits 115 (termLine t)
+term-room : (t : Term) → termOk t ≡ true → AtMost 115 (termLine t)
 unfolding all termOk termLine
 term-room t h =
     let f = term-facts t h in
@@ -168,7 +168,7 @@ term-room t h =
     let p = commaed-room pointText pointOk 20 point-text-room (t .points) (f .points) in
     record { small = simp (all-append, n .small, p .small); short = simp length-append (omega (arith, n .short, p .short, f .count .1)) }
 
-pub fuzzify-room : (v : Input) → inputOk v ≡ true → Fits 842 (fuzzifyText v)
+pub fuzzify-room : (v : Input) → inputOk v ≡ true → AtMost 842 (fuzzifyText v)
 unfolding all inputOk fuzzifyText
 fuzzify-room v h =
     let f = input-facts v h in
@@ -177,7 +177,7 @@ fuzzify-room v h =
     record { small = simp (all-append, n .small, t .small); short = simp length-append (omega (arith, n .short, t .short, f .count .1)) }
 
 -- SINGLETONS
-range-room : (g : Option Range) → rangeOk g ≡ true → Fits 35 (rangeLine g)
+range-room : (g : Option Range) → rangeOk g ≡ true → AtMost 35 (rangeLine g)
 unfolding all
 range-room none h = record { small = refl; short = omega arith }
 range-room (some g) h =
@@ -186,10 +186,10 @@ range-room (some g) h =
     let m = crisp-room (g .most) (both (inCrisp (g .most)) (ltZ (g .least) (g .most)) (b .1) .0) in
     record { small = simp (all-append, l .small, m .small); short = simp length-append (omega (arith, l .short, m .short)) }
 
-figure-room : (g : Option Range) (x : ℤ) → figureOk g x ≡ true → Fits 11 (crispText x)
+figure-room : (g : Option Range) (x : ℤ) → figureOk g x ≡ true → AtMost 11 (crispText x)
 figure-room g x h = crisp-room x (both (inCrisp x) (inRange g x) h .0)
 
-singleton-room : (g : Option Range) (t : Singleton) → singletonOk g t ≡ true → Fits 40 (singletonLine t)
+singleton-room : (g : Option Range) (t : Singleton) → singletonOk g t ≡ true → AtMost 40 (singletonLine t)
 unfolding all singletonOk singletonLine
 singleton-room g t h =
     let b = both (isName (t .name)) (figureOk g (t .at)) h in
@@ -197,12 +197,12 @@ singleton-room g t h =
     let x = figure-room g (t .at) (b .1) in
     record { small = simp (all-append, n .small, x .small); short = simp length-append (omega (arith, n .short, x .short)) }
 
-default-room : (g : Option Range) (d : Option ℤ) → defaultOk g d ≡ true → Fits 11 (defaultText d)
+default-room : (g : Option Range) (d : Option ℤ) → defaultOk g d ≡ true → AtMost 11 (defaultText d)
 unfolding all
 default-room g none h = record { small = refl; short = omega arith }
 default-room g (some x) h = figure-room g x h
 
-pub defuzzify-room : (v : Output) → outputOk v ≡ true → Fits 399 (defuzzifyText v)
+pub defuzzify-room : (v : Output) → outputOk v ≡ true → AtMost 399 (defuzzifyText v)
 unfolding all outputOk defuzzifyText
 defuzzify-room v h =
     let f = output-facts v h in
@@ -217,18 +217,18 @@ defuzzify-room v h =
 
 -- CONDITIONS
 -- two names and a text between
-pub names-room : (w v : List ℕ) (u : String) (k : ℕ) → isName w ≡ true → isName v ≡ true → Fits k (bytes u) → Fits (16 + (k + 16)) (w ++ (bytes u ++ v))
+pub names-room : (w v : List ℕ) (u : String) (k : ℕ) → isName w ≡ true → isName v ≡ true → AtMost k (bytes u) → AtMost (16 + (k + 16)) (w ++ (bytes u ++ v))
 names-room w v u k p q r = join 16 (k + 16) (name-room w p) (join k 16 r (name-room v q))
 
-wrapped-room : (l k m : ℕ) (w : List ℕ) → Fits m w → Fits (m + 2) (wrapped l k w)
+wrapped-room : (l k m : ℕ) (w : List ℕ) → AtMost m w → AtMost (m + 2) (wrapped l k w)
 unfolding all
 wrapped-room l k m w p = go (ltb l k) refl
   where
-    go : (b : Bool) → ltb l k ≡ b → Fits (m + 2) (wrapped l k w)
+    go : (b : Bool) → ltb l k ≡ b → AtMost (m + 2) (wrapped l k w)
     go true e = rw e (record { small = simp (all-append, p .small); short = simp length-append (omega (arith, p .short)) })
     go false e = rw e (weaken m (m + 2) (omega arith) p)
 
-operator-room : (o : Op) → Fits 5 (operator o)
+operator-room : (o : Op) → AtMost 5 (operator o)
 unfolding all
 operator-room and = record { small = refl; short = omega arith }
 operator-room or = record { small = refl; short = omega arith }
@@ -238,14 +238,14 @@ abbrev pub conditionSize : Condition → ℕ
 conditionSize c = (43 * size c + 29) / 2
 
 module _ (f : ℕ → TermNames) (n : ℕ) (ok : Named f n) where
-  negated-room : (l : ℕ) (c : Condition) (k : ℕ) → Fits (conditionSize c) (wrapped bareBehindNot (form c) (conditionText f c))
-      → Fits (conditionSize (neg c)) (wrapped l k (bytes "NOT " ++ wrapped bareBehindNot (form c) (conditionText f c)))
+  negated-room : (l : ℕ) (c : Condition) (k : ℕ) → AtMost (conditionSize c) (wrapped bareBehindNot (form c) (conditionText f c))
+      → AtMost (conditionSize (neg c)) (wrapped l k (bytes "NOT " ++ wrapped bareBehindNot (form c) (conditionText f c)))
   unfolding all size
   negated-room l c k p =
-      let q : Fits 4 (bytes "NOT ") = record { small = refl; short = omega arith } in
+      let q : AtMost 4 (bytes "NOT ") = record { small = refl; short = omega arith } in
       weaken (4 + conditionSize c + 2) (conditionSize (neg c)) (omega arith) (wrapped-room l k (4 + conditionSize c) _ (join 4 (conditionSize c) q p))
 
-  pub condition-room : (l : ℕ) (c : Condition) → termsBelow n c ≡ true → Fits (conditionSize c) (wrapped l (form c) (conditionText f c))
+  pub condition-room : (l : ℕ) (c : Condition) → termsBelow n c ≡ true → AtMost (conditionSize c) (wrapped l (form c) (conditionText f c))
   unfolding all conditionText termsBelow size form
   condition-room l (term t) h =
       let o = ok t (ltb-true t n h) in
@@ -264,5 +264,5 @@ module _ (f : ℕ → TermNames) (n : ℕ) (ok : Named f n) where
       weaken (m + 2) (conditionSize (two o a b)) (omega arith)
       (wrapped-room l (rank o) m _ (join (conditionSize a) (5 + conditionSize b) p (join 5 (conditionSize b) (operator-room o) q)))
 
-  pub bare-room : (c : Condition) → termsBelow n c ≡ true → Fits (conditionSize c) (conditionText f c)
+  pub bare-room : (c : Condition) → termsBelow n c ≡ true → AtMost (conditionSize c) (conditionText f c)
   bare-room c h = rw (le-ltb (form c) (form c) (omega arith)) at (condition-room (form c) c h)

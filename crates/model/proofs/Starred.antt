@@ -30,9 +30,9 @@ pub record Row : Type 1 where
 abbrev number : ℕ → ℕ → Row
 number n d = record { Value = ℕ; printed = n; defined = d }
 
-abbrev pub Holds : List Row → Type 0
-Holds [] = Unit {0}
-Holds (r ∷ rs) = (r .defined ≡ r .printed) × Holds rs
+abbrev pub AsPrinted : List Row → Type 0
+AsPrinted [] = Unit {0}
+AsPrinted (r ∷ rs) = (r .defined ≡ r .printed) × AsPrinted rs
 
 abbrev at : ℤ → ℕ → Point
 at x d = record { at = x; degree = d }
@@ -92,6 +92,6 @@ table =
     ∷ number 200000 (firstDegree (200000 ∷ 900000 ∷ 100000 ∷ []) (reads precedence))
     ∷ []
 
-starred : Holds table
+starred : AsPrinted table
 unfolding opened precedence firstDegree table
 starred = (refl, (refl, (refl, (refl, (refl, (refl, (refl, (refl, (refl, (refl, (refl, (refl, (refl, (refl, tt))))))))))))))

@@ -23,12 +23,12 @@ use Rattle.reading_laws.proofs.Names.{Named, spelt-name}
 abbrev pub Fact : Type 1
 Fact = ℕ → Block → Type 0
 
-pub record Holds (Q : Fact) (r : Parse) : Type 0 where
+pub record HoldsIn (Q : Fact) (r : Parse) : Type 0 where
   pub named : Each Named (r .rest)
   pub fact : Q (r .words) (r .block)
 
 pub record Good (Q : Fact) (r : Parse) : Type 0 where
-  pub good : r .why ≡ 0 → Holds Q r
+  pub good : r .why ≡ 0 → HoldsIn Q r
 
 -- a part leads from P to Q
 abbrev pub Leads : Fact → Fact → Part → Type 0
@@ -38,7 +38,7 @@ infixl 10 _▹_
 pub _▹_ : {P Q : Fact} {part : Part} {r : Parse} → Good P r → Leads P Q part → Good Q (part r)
 _▹_ {P} {Q} {part} {r} k f = f r k
 
-pub good-so : {P Q : Fact} {r : Parse} → (Holds P r → Q (r .words) (r .block)) → Good P r → Good Q r
+pub good-so : {P Q : Fact} {r : Parse} → (HoldsIn P r → Q (r .words) (r .block)) → Good P r → Good Q r
 good-so f k = record { good = λ h. let g = k .good h in record { named = g .named; fact = f g } }
 
 pub either : {Q : Fact} {p q : Parse} (b : Bool) → (b ≡ true → Good Q p) → Good Q q → Good Q (if b then p else q)
@@ -65,7 +65,7 @@ pub good-advance : {Q : Fact} → Leads Q Q advance
 unfolding advance
 good-advance r k = record { good = λ h. let g = k .good h in record { named = rest-named (r .rest) (g .named); fact = g .fact } }
 
-pub good-change : {P Q : Fact} (f : Block → Block) (r : Parse) → (Holds P r → Q (r .words) (f (r .block))) → Good P r → Good Q (change f r)
+pub good-change : {P Q : Fact} (f : Block → Block) (r : Parse) → (HoldsIn P r → Q (r .words) (f (r .block))) → Good P r → Good Q (change f r)
 unfolding change
 good-change {P} {Q} f r m k = go (eqb (r .why) 0) refl
   where
@@ -86,7 +86,7 @@ good-judged {Q} ((ok, n) ∷ cs) r e f =
     either ok (λ o. good-judged cs r (p .1) (λ c. f (o, c))) (good-refuse n r (p .0))
 
 -- a name here that is not too long
-pub name-here : {Q : Fact} {r : Parse} → Holds Q r → is NAME r ≡ true → leb (length (text r)) nameLimit ≡ true → isName (text r) ≡ true
+pub name-here : {Q : Fact} {r : Parse} → HoldsIn Q r → is NAME r ≡ true → leb (length (text r)) nameLimit ≡ true → isName (text r) ≡ true
 unfolding kind text
 name-here {Q} {r} g i l = spelt-name _ (head-named (r .rest) (g .named) (eqb-true _ NAME i)) l
 
