@@ -1,4 +1,5 @@
 -- A helper: a reading that keeps some of the tables to itself, so that there is a `ParseState` for each tables beside it.
+-- `whole` of block_text/proofs/Laws puts such readings together to one of all that stands before the rules.
 use mathlib.Core.List.{List}
 use Prim.Native.Nat.{ℕ}
 use Rattle.model.specs.Parse.{Part}

@@ -1,5 +1,6 @@
 -- A helper: words laid over a buffer. Their bytes, by `bytesOf` of the model, stand in it from the place `at` on,
--- counted in words, and what is before and after them stays.
+-- counted in words, and what is before and after them stays. `from-start` of proofs/Over says what that is from the
+-- start on.
 use mathlib.Core.Path.{_≡_}
 use mathlib.Core.List.{List, _++_}
 use Prim.Native.Nat.{ℕ, _+_, _*_}
