@@ -10,10 +10,10 @@ use lib.ListN.{length, set, length-set}
 use Rattle.model.specs.Basic.{all, distinct, tab}
 use Rattle.model.specs.Image.{wordAt}
 use Rattle.laws.proofs.Places.{distinct-more, distinct-stop, distinct-end}
-use Rattle.stored_rules.specs.Walk.{ruleNumber}
-use Rattle.stored_rules.proofs.Numbers.{Met, unmet, met-more, distinct-less}
-use Rattle.stored_rules.proofs.numbers_distinct.Statement.{statement}
-use Rattle.stored_rules.proofs.numbers_distinct.Tie as tie
+use Rattle.rule_numbers.specs.Numbers.{ruleNumber}
+use Rattle.rule_numbers.proofs.Numbers.{Met, unmet, met-more, distinct-less}
+use Rattle.rule_numbers.proofs.numbers_distinct.Statement.{statement}
+use Rattle.rule_numbers.proofs.numbers_distinct.Tie as tie
 
 abbrev Inv-loop : tie.InvT-loop
 Inv-loop img h met₀ i₀ met i =

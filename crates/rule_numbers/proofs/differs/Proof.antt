@@ -8,9 +8,9 @@ use lib.Dec.{eqb}
 use Rattle.model.specs.Basic.{all, tab}
 use Rattle.model.specs.Image.{wordAt}
 use Rattle.laws.proofs.Places.{all-more, all-stop, all-end}
-use Rattle.stored_rules.specs.Walk.{ruleNumber}
-use Rattle.stored_rules.proofs.differs.Statement.{statement}
-use Rattle.stored_rules.proofs.differs.Tie as tie
+use Rattle.rule_numbers.specs.Numbers.{ruleNumber}
+use Rattle.rule_numbers.proofs.differs.Statement.{statement}
+use Rattle.rule_numbers.proofs.differs.Tie as tie
 
 abbrev Inv-loop : tie.InvT-loop
 Inv-loop img h i number met e j₀ j =

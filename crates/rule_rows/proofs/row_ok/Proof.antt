@@ -5,10 +5,10 @@ use borrow.Author.Tests.{eq-eqb, ne-eqb, le-leb, lt-leb}
 use Rattle.model.specs.Basic.{every}
 use Rattle.model.specs.Image.{wordAt}
 use Rattle.laws.proofs.Tests.{one-fails, last-decides}
-use Rattle.stored_rules.specs.Walk.{rowStored}
-use Rattle.stored_rules.proofs.Rules.{row-tests, row-words}
-use Rattle.stored_rules.proofs.row_ok.Statement.{statement}
-use Rattle.stored_rules.proofs.row_ok.Tie as tie
+use Rattle.rule_rows.specs.Rows.{rowStored}
+use Rattle.rule_rows.proofs.Rules.{row-tests, row-words}
+use Rattle.rule_rows.proofs.row_ok.Statement.{statement}
+use Rattle.rule_rows.proofs.row_ok.Tie as tie
 
 -- the row by the header and the rule's parts
 read : (s : tie.Start) →

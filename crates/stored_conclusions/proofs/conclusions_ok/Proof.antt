@@ -9,8 +9,8 @@ use Rattle.model.specs.Basic.{all, tab}
 use Rattle.model.specs.WellFormed.{conclusionOk}
 use Rattle.model.specs.Image.{wordAt, conclusionAt, decode}
 use Rattle.laws.proofs.Places.{all-more, all-stop, all-end, all-start}
-use Rattle.stored_rules.proofs.conclusions_ok.Statement.{statement}
-use Rattle.stored_rules.proofs.conclusions_ok.Tie as tie
+use Rattle.stored_conclusions.proofs.conclusions_ok.Statement.{statement}
+use Rattle.stored_conclusions.proofs.conclusions_ok.Tie as tie
 
 abbrev Inv-loop : tie.InvT-loop
 Inv-loop img h s k e j₀ j =

@@ -7,11 +7,11 @@ use Rattle.model.specs.Basic.{every}
 use Rattle.model.specs.Image.{wordAt}
 use Rattle.layout.proofs.Parts.{wordFirst}
 use Rattle.laws.proofs.Tests.{one-fails, last-decides}
-use Rattle.stored_rules.specs.Walk.{ruleStored}
-use Rattle.stored_rules.proofs.Rules.{conclusions-right, conclusions-words, condition-stored, rule-tests, rule-words}
+use Rattle.rule_rows.specs.Rows.{ruleStored}
+use Rattle.rule_rows.proofs.Rules.{conclusions-right, conclusions-words, condition-stored, rule-tests, rule-words}
 use borrow.Author.Needs.{needs}
-use Rattle.stored_rules.proofs.rule_ok.Statement.{statement}
-use Rattle.stored_rules.proofs.rule_ok.Tie as tie
+use Rattle.rule_rows.proofs.rule_ok.Statement.{statement}
+use Rattle.rule_rows.proofs.rule_ok.Tie as tie
 
 read : (s : tie.Start) →
     let a = s .args in

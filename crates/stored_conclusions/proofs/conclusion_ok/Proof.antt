@@ -7,10 +7,10 @@ use lib.ListN.{length}
 use Rattle.model.specs.Image.{wordAt}
 use Rattle.laws.proofs.Tests.{one-fails, last-decides}
 use Rattle.laws.proofs.Places.{field}
-use Rattle.stored_rules.proofs.Outputs.{conclusion-words}
+use Rattle.stored_conclusions.proofs.Outputs.{conclusion-words}
 use borrow.Author.Needs.{needs}
-use Rattle.stored_rules.proofs.conclusion_ok.Statement.{statement}
-use Rattle.stored_rules.proofs.conclusion_ok.Tie as tie
+use Rattle.stored_conclusions.proofs.conclusion_ok.Statement.{statement}
+use Rattle.stored_conclusions.proofs.conclusion_ok.Tie as tie
 
 conclusion-row-requires : tie.Need-conclusion-row-requires
 conclusion-row-requires c κs = let hd = c .before .pre .1 in omega (arith, hd .conclusion-table, hd .fits 15, hd .conclusions, hd .fits 8)

@@ -4,8 +4,8 @@ use lib.ListN.{length}
 use borrow.Author.Needs.{needs}
 use Rattle.model.specs.Image.{wordAt}
 use Rattle.laws.proofs.Places.{field}
-use Rattle.stored_rules.proofs.parts_of.Statement.{statement}
-use Rattle.stored_rules.proofs.parts_of.Tie as tie
+use Rattle.rule_rows.proofs.parts_of.Statement.{statement}
+use Rattle.rule_rows.proofs.parts_of.Tie as tie
 
 rule-row-requires : tie.Need-rule-row-requires
 rule-row-requires c κs = let hd = c .before .pre .0 in omega (arith, hd .rule-table, hd .fits 13, hd .rules, hd .fits 6)
