@@ -1,5 +1,1 @@
-pub mod Fours
-pub mod Alike
-pub mod Names
-pub mod Spelling
-pub mod Tables
+pub mod Fields

@@ -1,88 +1,20 @@
-// Names in a stored image: whether one stands at a place, whether two are the same, whether those of tables differ.
+// Whether a name stands at a place of a stored image.
 ghost use mathlib.Core.Path.{_≡_};
-ghost use mathlib.Core.Bool.{false, _||_};
-ghost use Prim.Native.Nat.{_+_, _*_, _-_, _≤_, _<_};
-ghost use lib.Dec.{eqb};
+ghost use Prim.Native.Nat.{_+_, _*_, _≤_};
 ghost use lib.ListN.{length};
-ghost use Rattle.model.specs.Basic.{between, distinct, same, tab};
 ghost use Rattle.model.specs.Tokens.{isName};
 ghost use Rattle.model.specs.Image.{wordAt, nameAt};
 ghost use Rattle.layout.specs.Tables.{front};
-ghost use Rattle.stored_names.specs.Stored.{endsName, tidyAt, tidyEnd, caseless, lettersOf, lettersAt, wordsIn, absent, apart};
-use bounds::within;
-use words::whole_word;
-
-fn is_letter(c: u8) -> bool
-    ensures { λ r. ⌜ r ≡ between 65 90 c || between 97 122 c ⌝ }
-{
-    let x = c as usize;
-    within(65, 90, x) || within(97, 122, x)
-}
-
-// No byte of a name that is tidy so far; under says that an underscore stands before it.
-fn ends_name(under: bool, c: u8) -> bool
-    ensures { λ r. ⌜ r ≡ endsName under c ⌝ }
-{
-    if is_letter(c) {
-        return false;
-    }
-    if c == 95 {
-        return under;
-    }
-    !characters::is_digit(c)
-}
-
-// The end of a name, which is no underscore.
-fn tidy_at(under: bool, i: usize) -> usize
-    ensures { λ r. ⌜ r ≡ tidyAt under i ⌝ }
-{
-    if under {
-        return 0;
-    }
-    i
-}
-
-// Where the name bytes end that s starts with; 0 where they are not tidy. Most are letters.
-fn tidy_end(s: &[u8]) -> usize
-    ensures { λ r. ⌜ r ≡ tidyEnd false 0 (now (s .entry)) ⌝ }
-    ensures within { λ r. ⌜ r ≤ length (now (s .entry)) ⌝ }
-{
-    let mut under = false;
-    let mut i: usize = 0;
-    while i < s.len() {
-        let c = s[i];
-        if is_letter(c) {
-            under = false;
-        } else {
-            if ends_name(under, c) {
-                return tidy_at(under, i);
-            }
-            under = c == 95;
-        }
-        i += 1;
-    }
-    tidy_at(under, i)
-}
 
 // The bytes before the first zero are a name.
-fn is_name(s: &[u8]) -> bool
-    requires { ⌜ length (now s) ≤ 16 ⌝ }
+fn field_ok(s: &[u8]) -> bool
     ensures { λ r. ⌜ r ≡ isName (front (now (s .entry))) ⌝ }
 {
-    let n = tidy_end(s);
+    let n = name_bytes::name_length(s);
     if n == 0 {
         return false;
     }
-    if words::byte(s, n) != 0 {
-        return false;
-    }
-    if characters::is_digit(s[0]) {
-        return false;
-    }
-    if !keywords::may_be(n, s[0]) {
-        return true;
-    }
-    keywords::keyword_at(&s[..n]) == keywords::COUNT
+    words::byte(s, n) == 0
 }
 
 // The four words from place o on hold a name.
@@ -92,97 +24,5 @@ pub fn name_ok(img: &[u8], o: usize) -> bool
 {
     let k = o * 4;
     let e = k + bounds::NAME;
-    is_name(&img[k..e])
-}
-
-// A byte without the bit that tells a small letter from its capital.
-fn without_case(c: usize) -> usize
-    requires { ⌜ c < 256 ⌝ }
-    ensures { λ r. ⌜ (r ≡ caseless c) × (r < 256) ⌝ }
-{
-    c % 32 + c / 64 * 64
-}
-
-// Each byte of a word so: to the compiler one mask.
-fn letters(x: usize) -> usize
-    ensures { λ r. ⌜ r ≡ lettersOf x ⌝ }
-{
-    without_case(x % 256)
-        + without_case(x / 256 % 256) * 256
-        + without_case(x / 65536 % 256) * 65536
-        + without_case(x / 16777216 % 256) * 16777216
-}
-
-// The words at o and q are the same but for case.
-fn same_letters(img: &[u8], o: usize, q: usize) -> bool
-    requires { ⌜ ((o + 1) * 4 ≤ length (now img)) × ((q + 1) * 4 ≤ length (now img)) ⌝ }
-    ensures { λ r. ⌜ r ≡ eqb (lettersAt (wordAt (now (img .entry))) o) (lettersAt (wordAt (now (img .entry))) q) ⌝ }
-{
-    letters(whole_word(img, o)) == letters(whole_word(img, q))
-}
-
-// Names, if they are names, are the same but for case.
-fn same_name(img: &[u8], o: usize, q: usize) -> bool
-    requires { ⌜ ((o + 4) * 4 ≤ length (now img)) × ((q + 4) * 4 ≤ length (now img)) ⌝ }
-    ensures { λ r. ⌜ r ≡ same (tab (lettersAt (wordAt (now (img .entry)))) 4 o)
-        (tab (lettersAt (wordAt (now (img .entry)))) 4 q) ⌝ }
-{
-    if !same_letters(img, o, q) {
-        return false;
-    }
-    if !same_letters(img, o + 1, q + 1) {
-        return false;
-    }
-    if !same_letters(img, o + 2, q + 2) {
-        return false;
-    }
-    same_letters(img, o + 3, q + 3)
-}
-
-// The name at o is none of those of the entries from i on, below n, of the table at q.
-fn absent_ok(img: &[u8], o: usize, q: usize, s: usize, i: usize, n: usize) -> bool
-    requires { ⌜ ((o + 4) * 4 ≤ length (now img)) × (4 ≤ s) × ((q + n * s) * 4 ≤ length (now img)) ⌝ }
-    ensures { λ r. ⌜ r ≡ absent same (tab (lettersAt (wordAt (now (img .entry)))) 4 o)
-        (tab (wordsIn (lettersAt (wordAt (now (img .entry)))) q s) (n - i) i) ⌝ }
-{
-    let mut j = i;
-    while j < n {
-        if same_name(img, o, q + j * s) {
-            return false;
-        }
-        j += 1;
-    }
-    true
-}
-
-// The names of a table of n entries of s words are distinct.
-pub fn distinct_ok(img: &[u8], o: usize, s: usize, n: usize) -> bool
-    requires { ⌜ (4 ≤ s) × ((o + n * s) * 4 ≤ length (now img)) ⌝ }
-    ensures { λ r. ⌜ r ≡ distinct same (tab (wordsIn (lettersAt (wordAt (now (img .entry)))) o s) n 0) ⌝ }
-{
-    let mut i: usize = 0;
-    while i < n {
-        if !absent_ok(img, o + i * s, o, s, i + 1, n) {
-            return false;
-        }
-        i += 1;
-    }
-    true
-}
-
-// No name of the first table stands in the second.
-pub fn apart_ok(img: &[u8], o: usize, s: usize, n: usize, q: usize, t: usize, m: usize) -> bool
-    requires { ⌜ (4 ≤ s) × ((o + n * s) * 4 ≤ length (now img))
-        × (4 ≤ t) × ((q + m * t) * 4 ≤ length (now img)) ⌝ }
-    ensures { λ r. ⌜ r ≡ apart same (tab (wordsIn (lettersAt (wordAt (now (img .entry)))) o s) n 0)
-        (tab (wordsIn (lettersAt (wordAt (now (img .entry)))) q t) m 0) ⌝ }
-{
-    let mut i: usize = 0;
-    while i < n {
-        if !absent_ok(img, o + i * s, q, t, 0, m) {
-            return false;
-        }
-        i += 1;
-    }
-    true
+    field_ok(&img[k..e])
 }

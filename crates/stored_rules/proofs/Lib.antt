@@ -1,4 +1,2 @@
-pub mod Outputs
 pub mod Rules
-pub mod Numbers
 pub mod Loops

@@ -6,7 +6,8 @@ use native.Mathlib.Omega.{arith}
 use native.Mathlib.Numerals.{add-one}
 use lib.Dec.{eqb}
 use Rattle.layout.specs.Tables.{wordCount, conclusionCount}
-use Rattle.stored_rules.specs.Walk.{rowStored, rulesWalk}
+use Rattle.rule_rows.specs.Rows.{rowStored}
+use Rattle.stored_rules.specs.Walk.{rulesWalk}
 
 module _ (w : ℕ → ℕ) (e i n k : ℕ) where
   pub walk-more : (a b : ℕ) → a ≡ wordCount w i → b ≡ conclusionCount w i → i < e → rowStored w i n k ≡ true

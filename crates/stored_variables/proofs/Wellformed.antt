@@ -14,11 +14,14 @@ use Rattle.model.specs.Block.{Range}
 use Rattle.laws.proofs.Lists.{map-tab, all-at}
 use Rattle.laws.proofs.Places.{length-tab, tab-ext}
 use Rattle.laws.proofs.Tests.{both}
-use Rattle.stored_names.proofs.Tables.{Named, Exact, nameIn, distinct-names, joined-names}
+use Rattle.name_letters.proofs.Tables.{Named, Exact, nameIn, distinct-names, joined-names}
 use Rattle.layout.specs.Tables.{inputCount, outputCount, outputFirstAt}
 use Rattle.layout.specs.Groups.{tablesOk, variablesOk}
 use Rattle.layout.proofs.Parts.{inputFirst}
-use Rattle.stored_variables.specs.Stored.{termsApart, inputStored, rangeAt, defaultAt, outputStored, variablesApart}
+use Rattle.stored_terms.specs.Stored.{termsApart}
+use Rattle.stored_ranges.specs.Stored.{rangeAt, defaultAt}
+use Rattle.stored_outputs.specs.Stored.{outputStored}
+use Rattle.stored_variables.specs.Stored.{inputStored, variablesApart}
 use Rattle.stored_variables.proofs.Exact.{Span, Laid, exact-names}
 
 -- all tests, of n inputs and m outputs

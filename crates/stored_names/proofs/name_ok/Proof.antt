@@ -14,17 +14,17 @@ mul-k c = search needs
 add-e : tie.Need-add-e
 add-e c = search needs
 
-sub-is-name : tie.Need-sub-is-name
-sub-is-name c = search needs
+sub-field-ok : tie.Need-sub-field-ok
+sub-field-ok c = search needs
 
-part-is-name-start : tie.Need-part-is-name-start
-part-is-name-start c = search needs
+part-field-ok-start : tie.Need-part-field-ok-start
+part-field-ok-start c = search needs
 
-part-is-name-end : tie.Need-part-is-name-end
-part-is-name-end c = search needs
+part-field-ok-end : tie.Need-part-field-ok-end
+part-field-ok-end c = search needs
 
-is-name-requires : tie.Need-is-name-requires
-is-name-requires c κs = search needs
+field-ok-requires : tie.Need-field-ok-requires
+field-ok-requires c κs = search needs
 
 returns : tie.Need-returns
 returns c =
@@ -33,9 +33,9 @@ returns c =
     let a = start .args in
     let n : a .o * 4 + 16 - a .o * 4 ≡ 16 = omega arith in
     let e = part-bytes (a .img .now) (a .o) (λ k. omega (arith, known .shared-slice-known .given k)) _ n (omega (arith, n, start .pre)) in
-    c .is-name .ensures ∙ ap isName (name-front (wordAt (a .img .now)) (a .o) _ _ e refl)
+    c .field-ok .ensures ∙ ap isName (name-front (wordAt (a .img .now)) (a .o) _ _ e refl)
 
 pub name-ok-spec : {M : Type 1} → statement M
 name-ok-spec =
     tie.close
-    (tie.spec mul-k add-e sub-is-name part-is-name-start part-is-name-end is-name-requires returns)
+    (tie.spec mul-k add-e sub-field-ok part-field-ok-start part-field-ok-end field-ok-requires returns)

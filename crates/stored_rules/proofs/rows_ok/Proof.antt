@@ -6,7 +6,7 @@ use Prim.Native.Nat.{_-_, _≤_}
 use borrow.Author.Tests.{eq-eqb, ne-eqb, not-true, not-false}
 use Rattle.model.specs.Image.{wordAt}
 use Rattle.stored_rules.specs.Walk.{rulesWalk}
-use Rattle.stored_rules.proofs.Rules.{row-within}
+use Rattle.rule_rows.proofs.Rules.{row-within}
 use Rattle.stored_rules.proofs.Loops.{walk-more, walk-stop, walk-end}
 use Rattle.stored_rules.proofs.rows_ok.Statement.{statement}
 use Rattle.stored_rules.proofs.rows_ok.Tie as tie

@@ -1,0 +1,3 @@
+pub mod Named
+pub mod Points
+pub mod Spelt
