@@ -21,10 +21,11 @@ use Rattle.block_tables.specs.View.{outputsView, inputView, outputView, wholeVi
 use Rattle.block_tables.specs.Stored.{Stored}
 use Rattle.laws.proofs.Places.{length-tab}
 use Rattle.image.specs.declared.Counts.{Counts}
-use Rattle.variable_rows.specs.declared.Slots.{Slots}
-use Rattle.variable_rows.specs.Rows.{heldIn, variableRows}
-use Rattle.image.specs.Rows.{ruleRows, countList, headWords}
-use Rattle.variable_rows.proofs.Views.{Ordered, inputs-laid, outputs-laid, terms-laid, points-laid, first-output, terms-count, points-count}
+use Rattle.variable_rows.specs.Rows.{Slots}
+use Rattle.term_rows.specs.Rows.{heldIn}
+use Rattle.image.specs.Rows.{variableRows, ruleRows, countList, headWords}
+use Rattle.variable_rows.proofs.Views.{inputs-laid, outputs-laid}
+use Rattle.term_rows.proofs.Views.{Ordered, terms-laid, points-laid, first-output, terms-count, points-count}
 use Rattle.layout.proofs.Lengths.{header-long, inputs-long, outputs-long, terms-long, points-long, rules-long}
 use Rattle.layout.proofs.Whole.{length-conditions}
 use Rattle.layout.proofs.Codes.{pair-code, accu-code, act-code}

@@ -4,7 +4,7 @@ ghost use mathlib.Core.List.{List, _++_};
 ghost use Prim.Native.Nat.{ℕ, _+_, _*_, _≤_};
 ghost use lib.ListN.{length};
 ghost use lib.Seq.{slice};
-ghost use Rattle.model.specs.Bounds.{inputLimit, outputLimit, pointLimit, ruleLimit, wordLimit, conclusionLimit, allTermLimit};
+ghost use Rattle.model.specs.Bounds.{inputLimit, outputLimit, pointLimit, ruleLimit, wordLimit, conclusionLimit, inputTermLimit, outputTermLimit, allTermLimit};
 ghost use Rattle.model.specs.Block.{Rule};
 ghost use Rattle.model.specs.Image.{nameWords, headerSize, ruleWidth, image};
 ghost use Rattle.model.specs.Outcome.{into, lengthIn, bufferAfter};
@@ -12,7 +12,9 @@ ghost use Rattle.model.specs.Refusals.{writtenOf};
 ghost use Rattle.block_tables.specs.View.{wholeView, Holds, Headed};
 ghost use Rattle.block_tables.specs.Stored.{keptWidth, Stored};
 ghost use Rattle.word_writer.specs.Over.{Wrote};
-ghost use Rattle.image.specs.Rows.{ruleRows, entriesOf, Bounded, headWords};
+ghost use Rattle.variable_rows.specs.Rows.{Listed, slots};
+ghost use Rattle.term_rows.specs.Rows.{heldIn};
+ghost use Rattle.image.specs.Rows.{variableRows, variableWords, ruleRows, entriesOf, Bounded, headWords};
 use block_tables::CONCLUSION_WIDTH;
 use block_tables::Conclusions;
 use block_tables::Heading;
@@ -54,6 +56,39 @@ fn wide(w: u32) -> usize
     ensures { λ r. ⌜ (r ≡ w) × (r ≤ 4294967295) ⌝ }
 {
     w as usize
+}
+
+// The tables of variables, terms and points. own, others: the places of the terms of inputs and of outputs, m and k of
+// them; points: how many points the former have.
+fn variables(
+    s: &[u8],
+    t: Tables,
+    own: &[usize; bounds::INPUT_TERMS],
+    m: usize,
+    others: &[usize; bounds::INPUT_TERMS],
+    k: usize,
+    points: usize,
+    out: &mut [u8],
+    at: usize,
+) -> usize
+    requires { ⌜ Holds (now s) t × Listed inputTermLimit (now own) × Listed outputTermLimit (now others)
+        × (m ≤ inputTermLimit) × (k ≤ outputTermLimit) × (points ≡ heldIn (t .«input_terms») (now own) m)
+        × (points ≤ inputTermLimit * pointLimit)
+        × ((at + variableWords t (slots (now own) m) (slots (now others) k)) * 4 ≤ length (now out)) ⌝ }
+    ensures { λ r. ⌜ Wrote at r (variableRows (now (s .entry)) t (slots (now (own .entry)) m) (slots (now (others .entry)) k))
+        (now (out .entry)) (now (out .exit)) ⌝ }
+    ensures next { λ r. ⌜ r ≡ at + variableWords t (slots (now (own .entry)) m) (slots (now (others .entry)) k) ⌝ }
+{
+    let inputs = t.inputs;
+    let outputs = t.outputs;
+    let terms = t.input_terms;
+    let singletons = t.output_terms;
+    let p = variable_rows::input_table(s, inputs, t.input_count, out, at);
+    let q = variable_rows::output_table(s, outputs, t.output_count, m, out, p);
+    let r = term_rows::term_table(s, terms, own, m, out, q);
+    let e = term_rows::singleton_table(s, singletons, others, k, points, out, r);
+    let f = term_rows::point_table(terms, own, m, out, e);
+    term_rows::singleton_points(singletons, others, k, out, f)
 }
 
 // Firsts wrap, so that the table is safe to write from any words.
@@ -188,24 +223,19 @@ pub fn store(
     let inputs = t.inputs;
     let outputs = t.outputs;
     let terms = t.input_terms;
-    let own = variable_rows::input_slots(inputs, t.input_count);
-    let others = variable_rows::output_slots(outputs, t.output_count);
-    let slots = own.at;
-    let points = variable_rows::point_count(terms, &slots, own.count);
-    let c = entries(
-        t.input_count,
-        t.output_count,
-        own.count + others.count,
-        points + others.count,
-        n,
-    );
+    let mut own = [0; bounds::INPUT_TERMS];
+    let mut others = [0; bounds::INPUT_TERMS];
+    let a = variable_rows::input_slots(inputs, t.input_count, &mut own);
+    let b = variable_rows::output_slots(outputs, t.output_count, &mut others);
+    let points = term_rows::point_count(terms, &own, a);
+    let c = entries(t.input_count, t.output_count, a + b, points + b, n);
     let head = head_words(c, h);
     let size = wide(head[header::TOTAL]) * 4;
     if out.len() < size {
         return Written::Refused(Refusal::BufferTooShort(size));
     }
     let p = header(s, head, t.start, t.end, h, out);
-    let q = variable_rows::variables(s, t, own, others, points, out, p);
+    let q = variables(s, t, &own, a, &others, b, points, out, p);
     let r = rule_table(rows, n.rules, out, q);
     let k = n.words;
     let m = n.conclusions * CONCLUSION_WIDTH;

@@ -1,8 +1,7 @@
--- Lists of places, one more a turn, and sums over them.
+-- Lists of places, one more a turn.
 use mathlib.Core.Path.{_≡_, refl, sym, ap, _∙_}
 use mathlib.Core.List.{List, [], _∷_, _++_, append-assoc, append-nil}
 use Prim.Native.Nat.{ℕ, suc, _+_, _*_, _-_, _≤_, _<_}
-use native.Mathlib.Numerals.{add-one}
 use native.Mathlib.Omega.{arith}
 use lib.Dec.{eqb}
 use lib.ListN.{length, getD, set, length-set, replicate}
@@ -11,15 +10,13 @@ use borrow.Author.Tests.{eqb-true, eqb-false}
 use mathlib.Core.Bool.{Bool, true, false}
 use Rattle.model.specs.Basic.{tab}
 use Rattle.model.specs.Bounds.{termLimit, inputTermLimit}
-use Rattle.laws.proofs.Places.{step, gone, tab-last}
+use Rattle.laws.proofs.Places.{tab-last}
 use Rattle.laws.proofs.Arrays.{replicate-at}
-use Rattle.layout.specs.Tables.{sums}
-use Rattle.variable_rows.specs.declared.Slots.{Slots}
-use Rattle.variable_rows.specs.Rows.{Listed, listOf, rows, onward, slotRow}
+use Rattle.variable_rows.specs.Rows.{Slots, Listed, listOf, rows, onward, slotRow}
 use Rattle.variable_rows.proofs.Turns.{rows-more, rows-end}
 
 -- no places
-pub listed-none : (m : ℕ) → 0 < m → Listed m (record { at = replicate inputTermLimit 0; count = 0 })
+pub listed-none : (m : ℕ) → 0 < m → Listed m (replicate inputTermLimit 0)
 listed-none m h = record { size = refl; below = λ k. omega (arith, replicate-at {A = ℕ} inputTermLimit k 0) }
 
 -- one place more
@@ -27,7 +24,7 @@ abbrev pub longer : Slots → ℕ → Slots
 longer l x = record { at = set (l .at) (l .count) x; count = l .count + 1 }
 
 module _ (l : Slots) (x : ℕ) where
-  pub listed-more : (m : ℕ) → Listed m l → l .count < inputTermLimit → x < m → Listed m (longer l x)
+  pub listed-more : (m : ℕ) → Listed m (l .at) → l .count < inputTermLimit → x < m → Listed m (longer l x .at)
   listed-more m h k b = record { size = length-set (l .at) (l .count) x ∙ h .size; below = λ i. go i (eqb i (l .count)) refl }
     where
       go : (i : ℕ) (t : Bool) → eqb i (l .count) ≡ t → getD (set (l .at) (l .count) x) i 0 < m
@@ -51,13 +48,3 @@ module _ (c : ℕ → ℕ) (n i : ℕ) (xs T : List ℕ) where
 
   pub slots-end : n ≤ i → xs ++ rows (slotRow c) onward (n - i) i tt ≡ T → xs ≡ T
   slots-end h p = sym (append-nil xs) ∙ rw (rows-end (slotRow c) onward n i tt h) at p
-
--- SUMS: what is left from i up to n
-module _ (c : ℕ → ℕ) (n i : ℕ) where
-  pub sums-more : i < n → sums c (n - i) i ≡ c i + sums c (n - (i + 1)) (i + 1)
-  unfolding sums
-  sums-more h = rw (step n i h, add-one)
-
-  pub sums-end : n ≤ i → sums c (n - i) i ≡ 0
-  unfolding sums
-  sums-end h = rw (gone n i h)

@@ -6,16 +6,16 @@ use native.Mathlib.Omega.{arith}
 use lib.ListN.{length, getD}
 use lib.Seq.{slice}
 use Rattle.model.specs.Block.{Rule}
-use Rattle.model.specs.Bounds.{ruleLimit, wordLimit, conclusionLimit}
+use Rattle.model.specs.Bounds.{inputTermLimit, outputTermLimit, ruleLimit, wordLimit, conclusionLimit}
 use Rattle.model.specs.Image.{nameWords, words, image, endOf, headerSize, ruleWidth, conclusionWidth}
-use Rattle.block_tables.specs.declared.Tables.{Tables}
 use Rattle.block_tables.specs.View.{wholeView}
 use Rattle.block_tables.specs.Stored.{Stored}
-use Rattle.variable_rows.specs.declared.Slots.{Slots}
-use Rattle.variable_rows.specs.Rows.{heldIn, variableWords}
-use Rattle.variable_rows.proofs.Views.{Ordered}
+use Rattle.variable_rows.specs.Rows.{Slots, slots}
+use Rattle.variable_rows.proofs.Lists.{listed-none}
+use Rattle.term_rows.specs.Rows.{heldIn}
+use Rattle.term_rows.proofs.Views.{Ordered}
 use Rattle.image.specs.declared.Counts.{Counts}
-use Rattle.image.specs.Rows.{headWords, entriesOf}
+use Rattle.image.specs.Rows.{variableWords, headWords, entriesOf}
 use Rattle.word_writer.proofs.Over.{joined, retold, from-start}
 use Rattle.laws.proofs.Buffers.{too-short, stored}
 use Rattle.image.proofs.Whole.{words-are, size-is}
@@ -25,31 +25,31 @@ use Rattle.image.proofs.store.Tie as tie
 -- what is known once the counts are
 module _ (c : tie.After-wide) where
   abbrev start : tie.Start
-  start = let b = c .before .before .before .before .before .before .before .before .before in b .before .before .before .before .before .before .before .before .before .before
+  start = let b = c .before .before .before .before .before .before .before .before in b .before .before .before .before .before .before .before .before .before
 
   abbrev own : Slots
-  own = c .before .before .before .before .before .before .before .before .before .before .input-slots .result
+  own = let a = c .before .before .before .before .before .before .before .input-slots in slots (a .last .1 .1 .0) (a .result)
 
   abbrev others : Slots
-  others = c .before .before .before .before .before .before .before .before .before .output-slots .result
+  others = let b = c .before .before .before .before .before .output-slots in slots (b .last .1 .1 .0) (b .result)
 
   abbrev points : ℕ
-  points = c .before .before .before .before .before .before .point-count .result
+  points = c .before .before .before .point-count .result
 
   long-rules : length (start .args .rules .now) ≡ ruleLimit * 4
-  long-rules = let b = c .before .before .before .before .before .before .before .before in omega (arith, b .before .before .before .before .before .before .before .before .rows .given)
+  long-rules = omega (arith, c .before .before .before .before .before .before .before .before .before .before .before .before .before .before .rows .given)
 
   long-words : length (start .args .words .now) ≡ wordLimit
-  long-words = let b = c .before .before .before .before .before .before .before .before in omega (arith, b .before .before .before .before .before .before .before .ws .given)
+  long-words = omega (arith, c .before .before .before .before .before .before .before .before .before .before .before .before .before .ws .given)
 
   long-conclusions : length (start .args .conclusions .now) ≡ conclusionLimit * 2
-  long-conclusions = omega (arith, c .before .before .before .before .before .before .before .before .before .before .before .before .before .before .ks .given)
+  long-conclusions = omega (arith, c .before .before .before .before .before .before .before .before .before .before .before .before .ks .given)
 
   ordered : Ordered (start .args .t) own others
   ordered =
       let g = start .pre .0 in
-      let a = c .before .before .before .before .before .before .before .before .before .before .input-slots .ensures in
-      let b = c .before .before .before .before .before .before .before .before .before .output-slots .ensures in
+      let a = c .before .before .before .before .before .before .before .input-slots .ensures in
+      let b = c .before .before .before .before .before .output-slots .ensures in
       record {
         own-few = omega (arith, a .1, g .inputCount);
         others-few = omega (arith, b .1, g .outputCount);
@@ -60,7 +60,7 @@ module _ (c : tie.After-wide) where
       }
 
   points-are : points ≡ heldIn (start .args .t .«input_terms») (own .at) (own .count)
-  points-are = c .before .before .before .before .before .before .point-count .ensures .0
+  points-are = c .before .before .before .point-count .ensures .0
 
   abbrev entered : ℕ → Counts
   entered x = entriesOf (start .args .t .«input_count») (start .args .t .«output_count») (own .count + others .count) (x + others .count) (start .args .n)
@@ -88,10 +88,14 @@ module _ (c : tie.After-wide) where
       ∙ omega (arith, extent)
 
 input-slots-requires : tie.Need-input-slots-requires
-input-slots-requires c κs = search needs
+input-slots-requires c κs =
+    let g = c .before .before .before .before .before .before .before .before .before .pre .0 in
+    (g .inputCount, g .inputTerms, listed-none inputTermLimit (omega arith))
 
 output-slots-requires : tie.Need-output-slots-requires
-output-slots-requires c κs = search needs
+output-slots-requires c κs =
+    let g = c .before .before .before .before .before .before .before .before .before .before .before .pre .0 in
+    (g .outputCount, g .outputTerms, listed-none outputTermLimit (omega arith))
 
 point-count-requires : tie.Need-point-count-requires
 point-count-requires c κs = search needs
@@ -132,30 +136,32 @@ header-requires c κs =
 
 variables-requires : tie.Need-variables-requires
 variables-requires c κs =
-    let b = c .before .before .before .before .before .before in
-    let s = start b in
-    let o = ordered b in
-    let p = c .before .before .before .header in (
+    let c5 = c .before .before .before .before .before in
+    let c7 = c5 .before .before in
+    let c8 = c7 .before in
+    let c11 = c8 .before .before .before in
+    let s = start c8 in
+    let o = ordered c8 in
+    let p = c5 .header in (
       s .pre .0,
       o .own-listed,
       o .others-listed,
       o .own-few,
       o .others-few,
-      points-are b,
-      omega (arith, c .before .before .before .before .before .before .before .before .before .before .before .before .point-count .ensures .1, o .own-few),
-      omega (arith, extent b, c .before .before .before .before .before .if1 .left, p .ensures .1, p .kept),
+      points-are c8,
+      omega (arith, c11 .point-count .ensures .1, o .own-few),
+      omega (arith, extent c8, c7 .if1 .left, p .ensures .1, p .kept),
     )
 
 rule-table-requires : tie.Need-rule-table-requires
 rule-table-requires c κs =
     let c3 = c .before .before .before in
-    let c7 = c3 .before .before .before .before in
-    let c9 = c7 .before .before in
-    let c10 = c9 .before in
-    let b = c10 in
-    let p = c7 .header in
+    let c9 = c3 .before .before .before .before .before .before in
+    let c11 = c9 .before .before in
+    let c12 = c11 .before in
+    let p = c9 .header in
     let q = c3 .variables in
-    (omega (arith, start b .pre .2 .1 .few-rules, long-rules b), omega (arith, extent b, c9 .if1 .left, p .ensures .1, p .kept, q .ensures .1, q .kept))
+    (omega (arith, start c12 .pre .2 .1 .few-rules, long-rules c12), omega (arith, extent c12, c11 .if1 .left, p .ensures .1, p .kept, q .ensures .1, q .kept))
 
 mul-m : tie.Need-mul-m
 mul-m c =
@@ -167,15 +173,14 @@ copy-front-requires : tie.Need-copy-front-requires
 copy-front-requires c κs =
     let c4 = c .before .before .before .before in
     let c8 = c4 .before .before .before .before in
-    let c12 = c8 .before .before .before .before in
-    let c14 = c12 .before .before in
-    let c15 = c14 .before in
-    let b = c15 in
-    let p = c12 .header in
+    let c14 = c8 .before .before .before .before .before .before in
+    let c16 = c14 .before .before in
+    let c17 = c16 .before in
+    let p = c14 .header in
     let q = c8 .variables in
     let r = c4 .rule-table in (
-      omega (arith, start b .pre .2 .1 .few-words, long-words b),
-      omega (arith, extent b, c14 .if1 .left, p .ensures .1, p .kept, q .ensures .1, q .kept, r .ensures .1, r .kept),
+      omega (arith, start c17 .pre .2 .1 .few-words, long-words c17),
+      omega (arith, extent c17, c16 .if1 .left, p .ensures .1, p .kept, q .ensures .1, q .kept, r .ensures .1, r .kept),
     )
 
 copy-front-requires-2 : tie.Need-copy-front-requires-2
@@ -183,16 +188,15 @@ copy-front-requires-2 c κs =
     let c3 = c .before .before .before in
     let c8 = c3 .before .before .before .before .before in
     let c12 = c8 .before .before .before .before in
-    let c16 = c12 .before .before .before .before in
-    let c18 = c16 .before .before in
-    let c19 = c18 .before in
-    let b = c19 in
-    let p = c16 .header in
+    let c18 = c12 .before .before .before .before .before .before in
+    let c20 = c18 .before .before in
+    let c21 = c20 .before in
+    let p = c18 .header in
     let q = c12 .variables in
     let r = c8 .rule-table in
     let e = c3 .copy-front in (
-      omega (arith, start b .pre .2 .1 .few-conclusions, long-conclusions b),
-      omega (arith, extent b, c18 .if1 .left, p .ensures .1, p .kept, q .ensures .1, q .kept, r .ensures .1, r .kept, e .ensures .1, e .kept),
+      omega (arith, start c21 .pre .2 .1 .few-conclusions, long-conclusions c21),
+      omega (arith, extent c21, c20 .if1 .left, p .ensures .1, p .kept, q .ensures .1, q .kept, r .ensures .1, r .kept, e .ensures .1, e .kept),
     )
 
 same-length : tie.Need-same-length
@@ -204,19 +208,19 @@ returns-2 c =
     let c6 = c .before .before .before .before .before .before in
     let c11 = c6 .before .before .before .before .before in
     let c15 = c11 .before .before .before .before in
-    let c19 = c15 .before .before .before .before in
-    let c21 = c19 .before .before in
-    let c22 = c21 .before in
+    let c21 = c15 .before .before .before .before .before .before in
+    let c23 = c21 .before .before in
+    let c24 = c23 .before in
     λ rs st.
-    let b = c22 in
+    let b = c24 in
     let s = start b in
     let a = s .args in
-    let p = c19 .header in
+    let p = c21 .header in
     let q = c15 .variables in
     let r = c11 .rule-table in
     let e = c6 .copy-front in
     let f = c .before .before .copy-front2 in
-    let room = c21 .if1 .left in
+    let room = c23 .if1 .left in
     let x = extent b in
     let v = wholeView (a .s .now) (a .t) (a .h) rs in
     let named = nameWords (slice (a .t .start) (a .t .end) (a .s .now)) ++ nameWords (slice (a .h .start) (a .h .end) (a .s .now)) in

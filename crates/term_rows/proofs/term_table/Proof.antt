@@ -7,11 +7,11 @@ use lib.ListN.{length, getD}
 use Rattle.model.specs.Bounds.{pointLimit}
 use Rattle.model.specs.Image.{nameWords, termWidth}
 use Rattle.block_tables.specs.View.{no-term}
-use Rattle.variable_rows.specs.Rows.{termSize, termWords, termRows}
+use Rattle.term_rows.specs.Rows.{termSize, termWords, termRows}
 use Rattle.word_writer.proofs.Over.{retold}
 use Rattle.variable_rows.proofs.Turns.{Going, begins, goes, ends}
-use Rattle.variable_rows.proofs.term_table.Statement.{statement}
-use Rattle.variable_rows.proofs.term_table.Tie as tie
+use Rattle.term_rows.proofs.term_table.Statement.{statement}
+use Rattle.term_rows.proofs.term_table.Tie as tie
 
 abbrev Inv-loop : tie.InvT-loop
 Inv-loop s slots n out₀ at terms first₀ p₀ i₀ out first p i =

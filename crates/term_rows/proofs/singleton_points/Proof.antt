@@ -7,11 +7,12 @@ use lib.ListN.{length, getD}
 use Rattle.model.specs.Bounds.{M}
 use Rattle.model.specs.Image.{crispWord, pointWidth}
 use Rattle.block_tables.specs.View.{no-singleton}
-use Rattle.variable_rows.specs.Rows.{singletonPoints, onward}
+use Rattle.variable_rows.specs.Rows.{onward}
+use Rattle.term_rows.specs.Rows.{singletonPoints}
 use Rattle.word_writer.proofs.Over.{retold}
 use Rattle.variable_rows.proofs.Turns.{Going, begins, goes, ends}
-use Rattle.variable_rows.proofs.singleton_points.Statement.{statement}
-use Rattle.variable_rows.proofs.singleton_points.Tie as tie
+use Rattle.term_rows.proofs.singleton_points.Statement.{statement}
+use Rattle.term_rows.proofs.singleton_points.Tie as tie
 
 abbrev Inv-loop : tie.InvT-loop
 Inv-loop slots n out₀ at terms p₀ i₀ out p i =

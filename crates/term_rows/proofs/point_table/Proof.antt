@@ -6,11 +6,12 @@ use lib.ListN.{length, getD}
 use Rattle.model.specs.Image.{pointWidth}
 use Rattle.layout.specs.Tables.{sums}
 use Rattle.block_tables.specs.View.{no-term}
-use Rattle.variable_rows.specs.Rows.{termSize, heldIn, pointsOf, pointRows, onward}
-use Rattle.variable_rows.proofs.Lists.{sums-more, sums-end}
+use Rattle.variable_rows.specs.Rows.{onward}
+use Rattle.term_rows.specs.Rows.{termSize, heldIn, pointsOf, pointRows}
+use Rattle.term_rows.proofs.Sums.{sums-more, sums-end}
 use Rattle.variable_rows.proofs.Turns.{Going, begins, goes, ends}
-use Rattle.variable_rows.proofs.point_table.Statement.{statement}
-use Rattle.variable_rows.proofs.point_table.Tie as tie
+use Rattle.term_rows.proofs.point_table.Statement.{statement}
+use Rattle.term_rows.proofs.point_table.Tie as tie
 
 abbrev Inv-loop : tie.InvT-loop
 Inv-loop slots n out₀ at terms p₀ i₀ out p i =

@@ -5,10 +5,10 @@ use native.Mathlib.Omega.{arith}
 use lib.ListN.{getD}
 use Rattle.model.specs.Bounds.{pointLimit}
 use Rattle.layout.specs.Tables.{sums}
-use Rattle.variable_rows.specs.Rows.{termSize, heldIn}
-use Rattle.variable_rows.proofs.Lists.{sums-more, sums-end}
-use Rattle.variable_rows.proofs.point_count.Statement.{statement}
-use Rattle.variable_rows.proofs.point_count.Tie as tie
+use Rattle.term_rows.specs.Rows.{termSize, heldIn}
+use Rattle.term_rows.proofs.Sums.{sums-more, sums-end}
+use Rattle.term_rows.proofs.point_count.Statement.{statement}
+use Rattle.term_rows.proofs.point_count.Tie as tie
 
 abbrev Inv-loop : tie.InvT-loop
 Inv-loop slots n terms r₀ i₀ r i =

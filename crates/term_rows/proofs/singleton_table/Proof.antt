@@ -6,11 +6,11 @@ use native.Mathlib.Omega.{arith}
 use lib.ListN.{length, getD}
 use Rattle.model.specs.Image.{nameWords, termWidth}
 use Rattle.block_tables.specs.View.{no-singleton}
-use Rattle.variable_rows.specs.Rows.{singletonWords, singletonRows}
+use Rattle.term_rows.specs.Rows.{singletonWords, singletonRows}
 use Rattle.word_writer.proofs.Over.{retold}
 use Rattle.variable_rows.proofs.Turns.{Going, begins, goes, ends}
-use Rattle.variable_rows.proofs.singleton_table.Statement.{statement}
-use Rattle.variable_rows.proofs.singleton_table.Tie as tie
+use Rattle.term_rows.proofs.singleton_table.Statement.{statement}
+use Rattle.term_rows.proofs.singleton_table.Tie as tie
 
 abbrev Inv-loop : tie.InvT-loop
 Inv-loop s slots n first out₀ at terms f₀ p₀ i₀ out f p i =

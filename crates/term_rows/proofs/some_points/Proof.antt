@@ -6,11 +6,12 @@ use native.Mathlib.Omega.{arith}
 use lib.ListN.{length, getD}
 use Rattle.model.specs.Image.{pointWidth}
 use Rattle.block_tables.specs.View.{no-point}
-use Rattle.variable_rows.specs.Rows.{pointRow, rows, onward}
+use Rattle.variable_rows.specs.Rows.{rows, onward}
+use Rattle.term_rows.specs.Rows.{pointRow}
 use Rattle.word_writer.proofs.Over.{retold}
 use Rattle.variable_rows.proofs.Turns.{Going, begins, goes, ends}
-use Rattle.variable_rows.proofs.some_points.Statement.{statement}
-use Rattle.variable_rows.proofs.some_points.Tie as tie
+use Rattle.term_rows.proofs.some_points.Statement.{statement}
+use Rattle.term_rows.proofs.some_points.Tie as tie
 
 abbrev Inv-loop : tie.InvT-loop
 Inv-loop n out₀ at points p₀ j₀ out p j =
