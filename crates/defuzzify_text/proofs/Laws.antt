@@ -29,7 +29,7 @@ use Rattle.block_tables.proofs.Lookups as lookups
 use Rattle.parse_state.specs.declared.ParseState.{ParseState}
 use Rattle.parse_state.specs.Reads.{view, Good, Reads}
 use Rattle.parse_state.proofs.Laws as reading
-use Rattle.defuzzify_text.specs.Output.{HasSingletons, figureChecks, termChecks, methodText, partText}
+use Rattle.defuzzify_text.specs.Output.{HasSingletons, Knows, figureChecks, termChecks, methodText, partText}
 
 outputs-are : (s : List ℕ) (t : Tables) → blockView s t .outputs ≡ outputsView s t
 unfolding blockView
@@ -38,12 +38,20 @@ outputs-are s t = refl
 singletons-count : (s : List ℕ) (t : Tables) (o : ℕ) → o < t .«output_count» → length (singletonsOf o (blockView s t)) ≡ outputRow t o .terms
 singletons-count s t o b = lookups.singletons-count s t (blockView s t) (outputs-are s t) o b
 
-pub singletons : (s : List ℕ) (t : Tables) (o : ℕ) → Holds s t → o < t .«output_count»
-    → HasSingletons s (t .names) o (outputRow t o .terms) (blockView s t)
-singletons s t o g b = record {
-  count = singletons-count s t o b;
-  singleton = λ w. lookups.singleton-of s t (blockView s t) (outputs-are s t) g w o b;
+pub terms-are : {names : List ℕ} {o : ℕ} {v : Row} {t : Tables} → Knows names o v t → outputRow t o .terms ≡ v .terms
+terms-are k = ap (λ (x : Row). x .terms) (k .row-is)
+
+pub singletons : (s names : List ℕ) (t : Tables) (o : ℕ) (v : Row) → Holds s t → Knows names o v t → HasSingletons s names o (v .terms) (blockView s t)
+singletons s names t o v g k = record {
+  count = singletons-count s t o (k .known) ∙ terms-are k;
+  singleton = λ w. lookups.singleton-of s t (blockView s t) (outputs-are s t) g w o (k .known)
+      ∙ (λ j. indexOf (sameName w) (tab (nameOf s (k .names-are j)) (k .row-is j .terms) (variableLimit + (inputLimit + o) * termLimit)));
 }
+
+-- the checks of a number by the row
+pub by-row : (s names : List ℕ) (c : Cursor) (t : Tables) (o w : ℕ) (v : Row) → Knows names o v t
+    → w ≡ fault (figureChecks (rangeView v) (seen s c (blockView s t) 0)) → w ≡ fault (figureChecks (rangeView (outputRow t o)) (seen s c (blockView s t) 0))
+by-row s names c t o w v k e = e ∙ ap (λ (x : Row). fault (figureChecks (rangeView x) (seen s c (blockView s t) 0))) (sym (k .row-is))
 
 -- a number, and one check more
 module _ (r : Parse) (t : Bool) where

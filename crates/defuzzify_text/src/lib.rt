@@ -1,10 +1,10 @@
 // DEFUZZIFY parts: an optional RANGE, the terms with one number each, the method and the default.
 ghost use mathlib.Core.Path.{_≡_};
 ghost use mathlib.Core.List.{List};
-ghost use Prim.Native.Nat.{ℕ, _≤_, _<_};
+ghost use Prim.Native.Nat.{ℕ, _+_, _*_, _≤_, _<_};
 ghost use lib.ListN.{length};
 ghost use lib.Seq.{slice};
-ghost use Rattle.model.specs.Bounds.{outputLimit, termLimit};
+ghost use Rattle.model.specs.Bounds.{outputLimit, termLimit, outputTermLimit};
 ghost use Rattle.model.specs.Block.{Block, inRange, withSingleton, withDefault};
 ghost use Rattle.model.specs.Keywords.{TERM, DEFUZZIFY};
 ghost use Rattle.model.specs.Parse.{repeated};
@@ -14,7 +14,7 @@ ghost use Rattle.cursor.specs.View.{seen, textOf, Fits, Step, Moves, fault};
 ghost use Rattle.lookup.specs.Names.{Placed};
 ghost use Rattle.block_tables.specs.View.{rangeView};
 ghost use Rattle.parse_state.specs.Beside.{Ready, Collects};
-ghost use Rattle.defuzzify_text.specs.Output.{rowOf, withOutputs, HasSingletons, figureChecks, termChecks, methodText, partText};
+ghost use Rattle.defuzzify_text.specs.Output.{withOutputs, HasSingletons, Adds, figureChecks, termChecks, methodText, partText};
 use block_tables::Output;
 use block_tables::Singleton;
 use cursor::Cursor;
@@ -28,6 +28,13 @@ pub struct Outputs {
     pub count: usize,
     pub rows: [Output; bounds::OUTPUTS],
     pub singletons: [Singleton; bounds::OUTPUT_TERMS],
+}
+
+// The cursor behind a term, and the term where it is read as far as its number.
+struct SingletonRead {
+    cursor: Cursor,
+    read: bool,
+    term: Singleton,
 }
 
 // The upper end of the RANGE of output o, above its lower end x.
@@ -142,49 +149,34 @@ fn figure_here(s: &[u8], c: Cursor, v: Output) -> CrispHere
     CrispHere { fault: 7, value: x }
 }
 
-// A number as the singleton of output o with the name from start to end.
-fn singleton_at(
-    s: &[u8],
-    names: &mut Names,
-    p: Outputs,
-    o: usize,
-    start: usize,
-    end: usize,
-) -> Outputs
-    requires { ⌜ Ready (now s) (withOutputs (now names) p) × (o < p .count) × (rowOf p o .terms < termLimit)
-        × (start ≤ end) × (end ≤ length (now s)) ⌝ }
-    ensures { λ r. ⌜ Collects
-        (figure (λ x. withSingleton (record { name = slice start end (now (s .entry)); at = x })) o)
-        (now (s .entry)) (withOutputs (now (names .entry)) p)
-        (withOutputs (now (names .exit)) r) ⌝ }
-    ensures count { λ r. ⌜ r .count ≡ p .count ⌝ }
+// A number as the singleton of an output with the row v, by the name from start to end.
+fn singleton_at(s: &[u8], c: Cursor, v: Output, start: usize, end: usize) -> SingletonRead
+    requires { ⌜ Fits (now s) c × (v .terms < termLimit) × (start ≤ end) × (end ≤ length (now s)) ⌝ }
+    ensures { λ r. ⌜ ((names : List ℕ) (o : ℕ)
+        → Adds (figure (λ x. withSingleton (record { name = slice start end (now (s .entry)); at = x })) o)
+        (now (s .entry)) names o v c r) ⌝ }
 {
-    let c = p.cursor;
-    let mut v = p.rows[o];
     let y = figure_here(s, c, v);
-    let w = y.fault;
-    let mut r = p;
-    if w != 0 {
-        let d = cursor::refuse(c, w);
-        r.cursor = d;
-        return r;
-    }
     let x = y.value;
-    let j = v.terms;
-    let k = o * bounds::TERMS + j;
-    v.terms = j + 1;
-    names[lookup::FIRST_OUTPUT_TERM + k] = start;
-    names[lookup::ENDS + (lookup::FIRST_OUTPUT_TERM + k)] = end;
     let u = Singleton {
         start: start,
         end: end,
         at: x,
     };
-    r.singletons[k] = u;
-    r.rows[o] = v;
+    if y.fault != 0 {
+        let d = cursor::refuse(c, y.fault);
+        return SingletonRead {
+            cursor: d,
+            read: false,
+            term: u,
+        };
+    }
     let d = cursor::advance(s, c);
-    r.cursor = d;
-    r
+    SingletonRead {
+        cursor: d,
+        read: true,
+        term: u,
+    }
 }
 
 // A number as the DEFAULT of output o.
@@ -249,57 +241,67 @@ fn term_fault(s: &[u8], names: &Names, o: usize, terms: usize, c: Cursor) -> u8
     0
 }
 
-// name := number ; as a term of output o
-fn singleton_named(s: &[u8], names: &mut Names, p: Outputs, o: usize) -> Outputs
-    requires { ⌜ Ready (now s) (withOutputs (now names) p) × (o < p .count) × (rowOf p o .terms < termLimit) ⌝ }
-    ensures { λ r. ⌜ Collects (singletonBody o) (now (s .entry)) (withOutputs (now (names .entry)) p)
-        (withOutputs (now (names .exit)) r) ⌝ }
-    ensures count { λ r. ⌜ r .count ≡ p .count ⌝ }
+// name := number ; as one term more for output o with the row v.
+fn singleton_named(s: &[u8], names: &Names, c: Cursor, o: usize, v: Output) -> SingletonRead
+    requires { ⌜ Fits (now s) c × Placed (now s) (now names) × (o < outputLimit) × (v .terms < termLimit) ⌝ }
+    ensures { λ r. ⌜ Adds (singletonBody o) (now (s .entry)) (now (names .entry)) o v c r ⌝ }
 {
-    let c = p.cursor;
-    let v = p.rows[o];
     let w = term_fault(s, names, o, v.terms, c);
-    let mut q = p;
     if w != 0 {
         let d = cursor::refuse(c, w);
-        q.cursor = d;
-        return q;
+        let u = Singleton {
+            start: 0,
+            end: 0,
+            at: Crisp(0),
+        };
+        return SingletonRead {
+            cursor: d,
+            read: false,
+            term: u,
+        };
     }
     let d = cursor::advance(s, c);
     let e = cursor::expect(s, d, token_kinds::ASSIGN);
-    q.cursor = e;
-    let mut r = singleton_at(s, names, q, o, c.start, c.end);
+    let mut r = singleton_at(s, e, v, c.start, c.end);
     let f = r.cursor;
     let g = cursor::expect(s, f, token_kinds::SEMICOLON);
     r.cursor = g;
     r
 }
 
-fn output_term(s: &[u8], names: &mut Names, p: Outputs, o: usize) -> Outputs
-    requires { ⌜ Ready (now s) (withOutputs (now names) p) × (o < p .count) ⌝ }
-    ensures { λ r. ⌜ Collects (outputTerm o) (now (s .entry)) (withOutputs (now (names .entry)) p)
-        (withOutputs (now (names .exit)) r) ⌝ }
-    ensures count { λ r. ⌜ r .count ≡ p .count ⌝ }
-    ensures moves { λ r. ⌜ Moves (now (s .entry)) (p .cursor) (r .cursor) ⌝ }
+// TERM and one term more for output o with the row v.
+fn output_term(s: &[u8], names: &Names, c: Cursor, o: usize, v: Output) -> SingletonRead
+    requires { ⌜ Fits (now s) c × (c .kind ≡ TERM) × Placed (now s) (now names) × (o < outputLimit)
+        × (v .terms ≤ termLimit) ⌝ }
+    ensures { λ r. ⌜ Adds (outputTerm o) (now (s .entry)) (now (names .entry)) o v c r ⌝ }
+    ensures moves { λ r. ⌜ Moves (now (s .entry)) c (r .cursor) ⌝ }
 {
-    let c = p.cursor;
-    let mut q = p;
-    if c.kind != token_kinds::TERM {
-        let d = cursor::refuse(c, 2);
-        q.cursor = d;
-        return q;
-    }
-    let v = p.rows[o];
     if bounds::TERMS <= v.terms {
         let d = cursor::refuse(c, 6);
-        q.cursor = d;
-        return q;
+        let u = Singleton {
+            start: 0,
+            end: 0,
+            at: Crisp(0),
+        };
+        return SingletonRead {
+            cursor: d,
+            read: false,
+            term: u,
+        };
     }
     let d = cursor::advance(s, c);
-    q.cursor = d;
-    singleton_named(s, names, q, o)
+    singleton_named(s, names, d, o, v)
 }
 
+// The place of term n of output o among the terms of all outputs.
+fn singleton_place(o: usize, n: usize) -> usize
+    requires { ⌜ (o < outputLimit) × (n < termLimit) ⌝ }
+    ensures { λ r. ⌜ (r ≡ o * termLimit + n) × (r < outputTermLimit) ⌝ }
+{
+    o * bounds::TERMS + n
+}
+
+// Terms, one or more, each as a record into those of the outputs.
 fn output_terms(s: &[u8], names: &mut Names, p: Outputs, o: usize) -> Outputs
     requires { ⌜ Ready (now s) (withOutputs (now names) p) × (o < p .count) ⌝ }
     ensures { λ r. ⌜ Collects (λ q. repeated TERM (outputTerm o) (outputTerm o q))
@@ -307,11 +309,32 @@ fn output_terms(s: &[u8], names: &mut Names, p: Outputs, o: usize) -> Outputs
         (withOutputs (now (names .exit)) r) ⌝ }
     ensures count { λ r. ⌜ r .count ≡ p .count ⌝ }
 {
-    let mut q = output_term(s, names, p, o);
-    while q.cursor.kind == token_kinds::TERM {
-        q = output_term(s, names, q, o);
+    let mut c = p.cursor;
+    let mut r = p;
+    if c.kind != token_kinds::TERM {
+        let d = cursor::refuse(c, 2);
+        r.cursor = d;
+        return r;
     }
-    q
+    while c.kind == token_kinds::TERM {
+        let mut v = r.rows[o];
+        let a = output_term(s, names, c, o, v);
+        let u = a.term;
+        c = a.cursor;
+        if !a.read {
+            r.cursor = c;
+            return r;
+        }
+        let n = v.terms;
+        let k = singleton_place(o, n);
+        names[lookup::FIRST_OUTPUT_TERM + k] = u.start;
+        names[lookup::ENDS + (lookup::FIRST_OUTPUT_TERM + k)] = u.end;
+        v.terms = n + 1;
+        r.rows[o] = v;
+        r.singletons[k] = u;
+    }
+    r.cursor = c;
+    r
 }
 
 // METHOD : CoGS ; DEFAULT :=

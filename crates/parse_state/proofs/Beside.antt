@@ -50,3 +50,11 @@ module _ {part : Part} {s : List ℕ} {f₀ f : Tables → ParseState} (g : Gath
 
   pub list-leaves : {h : Tables → ParseState} → Collects part s h f₀ → ((t : Tables) → f t .cursor .kind ≡ COMMA → ⊥) → Collects (listed part) s h f
   list-leaves {h} x e = λ t y. let w = x t y in reading.list-leaves part s (h t) (f₀ t) (f t) w (g .going t (w .good)) (e t)
+
+-- one or more, the first still ahead
+pub record Turns (k : ℕ) (part : Part) (s : List ℕ) (f₀ f : Tables → ParseState) : Type 0 where
+  pub from : Ready s f₀
+  pub turning : (t : Tables) → Good s (f₀ t) → reading.Turning k part s (f₀ t) (f t)
+
+pub turned : {k : ℕ} {part : Part} {s : List ℕ} {f₀ f : Tables → ParseState} → Turns k part s f₀ f → Ready s f
+turned g = record { tables = g .from .tables; good = g .turning (g .from .tables) (g .from .good) .0 }

@@ -124,3 +124,45 @@ module _ (part : Part) (s : List ℕ) where
   pub list-leaves : (p q₀ q : ParseState) → Reads part s p q₀ → Going COMMA again s q₀ q → (q .cursor .kind ≡ COMMA → ⊥) → Reads (listed part) s p q
   unfolding listed
   list-leaves p q₀ q x g k = also (next x (leaves COMMA again s q₀ q g k)) refl
+
+-- ONE OR MORE, THE FIRST STILL AHEAD: what the next one comes to leads on
+module _ (k : ℕ) (part : Part) (s : List ℕ) where
+  abbrev all : Part
+  all r = repeated k part (part r)
+
+  abbrev pub Turning : ParseState → ParseState → Type 0
+  Turning p₀ p = Good s p × (left s (p .cursor) ≤ left s (p₀ .cursor))
+      × ((r : ParseState) → p .cursor .kind ≡ k → Reads part s p r → left s (r .cursor) < left s (p .cursor)
+      → Again (repeats k part) (left s (r .cursor)) (view s r) (all (view s p₀)))
+      × ((p .cursor .kind ≡ k → ⊥) → view s p ≡ all (view s p₀))
+
+  pub turns-first : (p : ParseState) → Good s p → p .cursor .kind ≡ k → Turning p p
+  unfolding repeated view
+  turns-first p g h = (
+    g,
+    omega arith,
+    λ r e q m. (suc (length (view s r .rest)), cursor.enough s (r .cursor) (blockView s (r .tables)) 0, ap (repeated k part) (q .reads)),
+    λ z. absurd (z h),
+  )
+
+  pub turns-more : (p₀ p r : ParseState) → Turning p₀ p → p .cursor .kind ≡ k → Reads part s p r → left s (r .cursor) < left s (p .cursor) → Turning p₀ r
+  turns-more p₀ p r g h q m =
+      let w = g .2 r h q m in (
+        q .good,
+        omega (arith, g .1),
+        λ v e y n.
+            again-more (repeats k part)
+            (λ f. turn k part f (view s r) (eq-eqb _ _ (kind-view s r ∙ e)) ∙ ap (repeatOn f k part) (sym (y .reads))) n w,
+        λ z. again-end (repeats k part) (λ f. no-turn k part f (view s r) (ne-eqb _ _ (λ y. z (sym (kind-view s r) ∙ y)))) w,
+      )
+
+  pub turns-end : (p₀ p : ParseState) → Turning p₀ p → (p .cursor .kind ≡ k → ⊥) → Reads all s p₀ p
+  turns-end p₀ p g h = record { reads = g .3 h; fewer = g .1; good = g .0 }
+
+  -- after a refusal none follows
+  pub turns-none : (p : ParseState) (d : Cursor) (t : Tables) → (k ≡ 0 → ⊥) → (d .why ≡ 0 → ⊥) → Reads part s p (at d t) → Reads all s p (at d t)
+  unfolding view
+  turns-none p d t h w y =
+      let z : Reads (repeated k part) s (at d t) (at d t) =
+      also (none s (at d t) (y .good)) (sym (cursor.lost-repeated s d (y .good .fits) w (blockView s t) 0 k part h)) in
+      next y z
