@@ -19,10 +19,10 @@ use Rattle.model.specs.Parentheses.{depth}
 use Rattle.model.specs.WellFormed.{termsBelow, conditionOk}
 use Rattle.laws.proofs.Tests.{both, passed}
 use Rattle.laws.proofs.Places.{tab-from}
-use Rattle.stored_conditions.specs.Machine.{Meaning, stackOf}
-use Rattle.stored_conditions.proofs.Room.{fits}
-use Rattle.stored_conditions.proofs.Passes.{fold, pass, Allowed, pass-on}
-use Rattle.stored_conditions.proofs.Stacks.{length-stack}
+use Rattle.condition_words.specs.Machine.{Meaning, stackOf}
+use Rattle.condition_words.proofs.Room.{fits}
+use Rattle.condition_words.proofs.Passes.{fold, pass, Allowed, pass-on}
+use Rattle.condition_words.proofs.Stacks.{length-stack}
 use Rattle.layout.specs.Tables.{wordsIn}
 use Rattle.layout.specs.Groups.{Sound, rulesOk}
 use Rattle.layout.proofs.Parts.{conditions-are}

@@ -12,11 +12,11 @@ use Rattle.model.specs.declared.Degree.{Degree}
 use Rattle.model.specs.declared.Pair.{Pair}
 use Rattle.model.specs.Block.{Op, and, or}
 use Rattle.model.specs.Degrees.{notOf, pairs}
-use Rattle.model.specs.Image.{opWord}
+use Rattle.model.specs.Image.{NOT-WORD, TERM-WORD, opWord}
 use Rattle.degrees.specs.Tables.{numbers}
-use Rattle.stored_conditions.specs.Machine.{NOT-WORD, TERM-WORD, operatorOf, Meaning, unary, binary, step, turn, stackOf}
-use Rattle.stored_conditions.proofs.Passes.{none-some, added-in}
-use Rattle.stored_conditions.proofs.Stacks.{length-stack, stack-push}
+use Rattle.condition_words.specs.Machine.{operatorOf, Meaning, unary, binary, step, turn, stackOf}
+use Rattle.condition_words.proofs.Passes.{none-some, added-in}
+use Rattle.condition_words.proofs.Stacks.{length-stack, stack-push}
 use Rattle.aggregation.specs.Stacks.{places, byDegrees}
 use Rattle.aggregation.proofs.Degrees.{numbers-set}
 

@@ -8,7 +8,7 @@ use lib.ListN.{getD}
 use Rattle.model.specs.Bounds.{ruleLimit}
 use Rattle.model.specs.declared.Pair.{Pair}
 use Rattle.model.specs.Degrees.{notOf, pairs}
-use Rattle.stored_conditions.specs.Machine.{Meaning, room}
+use Rattle.condition_words.specs.Machine.{Meaning, room}
 
 -- one for each rule, and those that a condition needs
 abbrev pub places : ℕ

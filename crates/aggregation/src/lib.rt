@@ -6,17 +6,17 @@ ghost use Rattle.model.specs.Bounds.{M};
 ghost use Rattle.model.specs.Degrees.{pairs, conditionDegree};
 ghost use Rattle.model.specs.Image.{wordAt, ruleAt};
 ghost use Rattle.degrees.specs.Tables.{numbers, Low};
-ghost use Rattle.stored_conditions.specs.Machine.{operatorOf};
+ghost use Rattle.condition_words.specs.Machine.{operatorOf};
 ghost use Rattle.layout.specs.Checked.{Checked};
 use bounds::INPUT_TERMS;
 use bounds::RULES;
+use condition_words::AND_WORD;
+use condition_words::NOT_WORD;
+use condition_words::ROOM;
+use condition_words::TERM_WORD;
 use header::Header;
 use model::Degree;
 use model::Pair;
-use stored_conditions::AND_WORD;
-use stored_conditions::NOT_WORD;
-use stored_conditions::ROOM;
-use stored_conditions::TERM_WORD;
 use words::whole_word;
 
 // A place for each rule's degree, and those that a condition needs.

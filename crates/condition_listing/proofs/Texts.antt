@@ -8,7 +8,7 @@ use Rattle.model.specs.Basic.{bytes}
 use Rattle.model.specs.Block.{Op, and, or, Condition, term, neg, two}
 use Rattle.model.specs.Parentheses.{rank, form, bareBehindNot, bareLeft, bareRight}
 use Rattle.model.specs.Listing.{TermNames, operator, wrapped, conditionText}
-use Rattle.stored_conditions.specs.Machine.{TERM-WORD}
+use Rattle.model.specs.Image.{TERM-WORD}
 use Rattle.listing_writer.specs.Prepends.{Prepends}
 use Rattle.listing_writer.proofs.Prepends.{joined}
 use Rattle.operator_listing.specs.Spans.{Spans, Forms}

@@ -8,14 +8,14 @@ ghost use Rattle.model.specs.Image.{wordAt, decode};
 ghost use Rattle.model.specs.Listing.{inputTermName, wrapped, conditionText};
 ghost use Rattle.layout.specs.Checked.{Checked};
 ghost use Rattle.condition_listing.specs.Writes.{Writes};
+use condition_words::NOT_TERM_FORM;
+use condition_words::NOT_WORD;
+use condition_words::TERM_WORD;
 use header::Header;
 use listing_writer::puts;
 use operator_listing::form;
 use operator_listing::operator;
 use operator_listing::operator_form;
-use stored_conditions::NOT_TERM_FORM;
-use stored_conditions::NOT_WORD;
-use stored_conditions::TERM_WORD;
 use subcondition_listing::term;
 use words::whole_word;
 

@@ -16,11 +16,11 @@ use cursor::Cursor;
 use lookup::Names;
 use symbol_table::SymbolTable;
 
-const NOT_WORD: u32 = stored_conditions::NOT_WORD as u32;
+const NOT_WORD: u32 = condition_words::NOT_WORD as u32;
 
-const AND_WORD: u32 = stored_conditions::AND_WORD as u32;
+const AND_WORD: u32 = condition_words::AND_WORD as u32;
 
-const OR_WORD: u32 = stored_conditions::OR_WORD as u32;
+const OR_WORD: u32 = condition_words::OR_WORD as u32;
 
 // A reading in the midst of a condition: the words that are counted, and how many of them are put.
 pub struct Pending {
@@ -113,7 +113,7 @@ fn term_named(
             words: p.words,
             put: p.put,
         },
-        (stored_conditions::TERM_WORD + symbols[i] + j) as u32,
+        (condition_words::TERM_WORD + symbols[i] + j) as u32,
     )
 }
 

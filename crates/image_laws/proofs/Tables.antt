@@ -22,7 +22,7 @@ use Rattle.layout.specs.Rows.{laid}
 use Rattle.layout.specs.Tables.{inputRow, inputNext, outputRow, outputNext, termRow, termNext, ruleRow, ruleNext, alone, onward}
 use Rattle.layout.proofs.TableLaws.{input-table, output-table, term-table, rule-table, gather-laid}
 use Rattle.layout.proofs.Parts.{range-long, wide-input, wide-output, wide-term}
-use Rattle.stored_conditions.proofs.Trees.{tree-at}
+use Rattle.condition_words.proofs.Trees.{tree-at}
 use Rattle.laws.proofs.Each.{Each}
 use Rattle.image_laws.proofs.Fields.{Spelt, name-back, crisp-back}
 use Rattle.image_laws.proofs.Placed.{Placed}

@@ -9,10 +9,10 @@ use lib.Dec.{eqb}
 use lib.ListN.{length, length-append}
 use Rattle.model.specs.Basic.{tab}
 use Rattle.model.specs.Block.{Op, and, or, Condition, term, neg, two}
-use Rattle.model.specs.Image.{opWord, postfix}
+use Rattle.model.specs.Image.{NOT-WORD, TERM-WORD, opWord, postfix}
 use Rattle.model.specs.Parentheses.{rank, negatedForm, form}
 use Rattle.laws.proofs.Places.{At, at-cut, at-tab, length-tab}
-use Rattle.stored_conditions.specs.Machine.{NOT-WORD, TERM-WORD, operatorOf}
+use Rattle.condition_words.specs.Machine.{operatorOf}
 use Rattle.operator_listing.specs.Spans.{Spans, Forms}
 
 pub operator-word : (o : Op) → (0 < opWord o) × (opWord o ≤ 2)

@@ -3,9 +3,8 @@
 use mathlib.Core.Path.{_≡_}
 use Prim.Native.Nat.{ℕ, _+_, _-_, _<_}
 use Rattle.model.specs.Block.{Condition, term, neg, two}
-use Rattle.model.specs.Image.{opWord}
+use Rattle.model.specs.Image.{NOT-WORD, TERM-WORD, opWord}
 use Rattle.model.specs.Parentheses.{form}
-use Rattle.stored_conditions.specs.Machine.{NOT-WORD, TERM-WORD}
 
 -- the words of c are those from place i to below e, f giving the word at each place
 unfoldable pub Spans : (ℕ → ℕ) → ℕ → ℕ → Condition → Type 0

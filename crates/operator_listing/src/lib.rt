@@ -5,18 +5,18 @@ ghost use lib.ListN.{length};
 ghost use Rattle.model.specs.Parentheses.{rank};
 ghost use Rattle.model.specs.Image.{wordAt};
 ghost use Rattle.model.specs.Listing.{operator as operatorText};
-ghost use Rattle.stored_conditions.specs.Machine.{operatorOf};
+ghost use Rattle.condition_words.specs.Machine.{operatorOf};
 ghost use Rattle.listing_writer.specs.Prepends.{Prepends};
 ghost use Rattle.operator_listing.specs.Spans.{Forms};
+use condition_words::AND_FORM;
+use condition_words::AND_WORD;
+use condition_words::NOT_FORM;
+use condition_words::NOT_TERM_FORM;
+use condition_words::NOT_WORD;
+use condition_words::OR_FORM;
+use condition_words::TERM_FORM;
+use condition_words::TERM_WORD;
 use listing_writer::puts;
-use stored_conditions::AND_FORM;
-use stored_conditions::AND_WORD;
-use stored_conditions::NOT_FORM;
-use stored_conditions::NOT_TERM_FORM;
-use stored_conditions::NOT_WORD;
-use stored_conditions::OR_FORM;
-use stored_conditions::TERM_FORM;
-use stored_conditions::TERM_WORD;
 use words::whole_word;
 
 pub fn operator_form(w: usize) -> u8

@@ -17,9 +17,9 @@ use Rattle.laws.proofs.Tests.{both, and-i, iff}
 use Rattle.laws.proofs.Places.{same-eq, same-refl}
 use Rattle.stored_conditions.specs.Shapes.{shape, formOf, depthOf, negatedShape, joinedShape, shapes}
 use Rattle.stored_conditions.specs.Stored.{isCondition}
-use Rattle.stored_conditions.proofs.Trees.{tree-postfix}
-use Rattle.stored_conditions.proofs.Room.{form-le, opened-ge}
-use Rattle.stored_conditions.proofs.Passes.{fold, pass, Allowed, allowed-fine, pass-postfix, pass-one}
+use Rattle.condition_words.proofs.Trees.{tree-postfix}
+use Rattle.condition_words.proofs.Room.{form-le, opened-ge}
+use Rattle.condition_words.proofs.Passes.{fold, pass, Allowed, allowed-fine, pass-postfix, pass-one}
 
 module _ (k d : ℕ) (h : k ≤ 4) where
   pub form-shape : formOf (shape k d) ≡ k

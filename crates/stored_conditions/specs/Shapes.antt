@@ -8,7 +8,7 @@ use Rattle.model.specs.Basic.{if_then_else_}
 use Rattle.model.specs.Bounds.{depthLimit}
 use Rattle.model.specs.Block.{Op}
 use Rattle.model.specs.Parentheses.{rank, negatedForm, bareBehindNot, bareLeft, bareRight, opened}
-use Rattle.stored_conditions.specs.Machine.{Meaning, room, stackOf}
+use Rattle.condition_words.specs.Machine.{Meaning, room, stackOf}
 
 -- the forms are below it
 abbrev pub forms : ℕ

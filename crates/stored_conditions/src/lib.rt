@@ -5,34 +5,21 @@ ghost use lib.ListN.{length};
 ghost use Rattle.model.specs.Block.{Op};
 ghost use Rattle.model.specs.Parentheses.{rank, negatedForm, bareRight, opened};
 ghost use Rattle.model.specs.Image.{wordAt};
-ghost use Rattle.stored_conditions.specs.Machine.{added, unary, binary, step, room, stackOf};
+ghost use Rattle.condition_words.specs.Machine.{added, unary, binary, step, room, stackOf};
 ghost use Rattle.stored_conditions.specs.Shapes.{shape, formOf, depthOf, shapes, view};
 ghost use Rattle.stored_conditions.specs.Stored.{conditionStored};
 use bounds::DEPTH;
+use condition_words::AND_FORM;
+use condition_words::AND_WORD;
+use condition_words::NOT_FORM;
+use condition_words::NOT_TERM_FORM;
+use condition_words::NOT_WORD;
+use condition_words::OR_FORM;
+use condition_words::OR_WORD;
+use condition_words::ROOM;
+use condition_words::TERM_FORM;
+use condition_words::TERM_WORD;
 use words::whole_word;
-
-// Condition words: the operators, and the first input term; the others follow it.
-pub const NOT_WORD: usize = 0;
-
-pub const AND_WORD: usize = 1;
-
-pub const OR_WORD: usize = 2;
-
-pub const TERM_WORD: usize = 16;
-
-// The forms of conditions, from tight to loose.
-pub const TERM_FORM: u8 = 0;
-
-pub const NOT_TERM_FORM: u8 = 1;
-
-pub const NOT_FORM: u8 = 2;
-
-pub const AND_FORM: u8 = 3;
-
-pub const OR_FORM: u8 = 4;
-
-// Places for operands: no condition of eight parentheses needs more.
-pub const ROOM: usize = 2 * DEPTH + 3;
 
 // A subtree is kept as one number, its shape: FORMS times the parentheses open at once in it, and its form.
 const FORMS: u8 = 8;

@@ -11,7 +11,8 @@ use Rattle.model.specs.Image.{termPlace, nameAt, pointAt, termAt}
 use Rattle.laws.proofs.Places.{length-tab}
 use Rattle.laws.proofs.Tests.{and-assoc}
 use Rattle.name_letters.specs.Letters.{lettersAt, wordsIn}
-use Rattle.stored_terms.specs.Stored.{pointsAfter, termsApart}
+use Rattle.term_points.specs.Points.{pointsAfter}
+use Rattle.stored_terms.specs.Stored.{termsApart}
 
 module _ (w : ℕ → ℕ) where
   -- a row that starts at o, with k points from s on

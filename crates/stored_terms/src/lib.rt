@@ -1,50 +1,16 @@
-// The terms of a stored image: their points, those of inputs, and names that are distinct.
+// The terms of inputs in a stored image, and terms whose names are distinct.
 ghost use mathlib.Core.Path.{_≡_};
 ghost use mathlib.Core.Bool.{true};
-ghost use mathlib.Core.List.{[]};
 ghost use Prim.Native.Nat.{_+_, _≤_, _<_};
 ghost use Rattle.model.specs.Basic.{all, tab};
 ghost use Rattle.model.specs.WellFormed.{termOk};
-ghost use Rattle.model.specs.Image.{wordAt, pointAt, termAt};
+ghost use Rattle.model.specs.Image.{wordAt, termAt};
 ghost use Rattle.header.specs.Header.{Heads, Holds};
 ghost use Rattle.layout.specs.Tables.{inputTermsIn};
 ghost use Rattle.layout.specs.Groups.{tablesOk};
-ghost use Rattle.stored_terms.specs.Stored.{pointsAfter, termsApart};
+ghost use Rattle.stored_terms.specs.Stored.{termsApart};
 use header::Header;
-use model::Crisp;
-use stored_points::degree_at;
-use stored_points::place_at;
-use term_rules::LastTwo;
 use words::whole_word;
-
-// The k points from s on, and the order of their positions.
-fn points_ok(img: &[u8], h: Header, s: usize, k: usize) -> bool
-    requires { ⌜ Heads (wordAt (now img)) h × Holds (now img) h × (s + k ≤ h .points) ⌝ }
-    ensures { λ r. ⌜ r ≡ pointsAfter [] (tab (pointAt (wordAt (now (img .entry)))) k s) ⌝ }
-{
-    let none = Crisp(0);
-    let mut last = LastTwo {
-        earlier: none,
-        later: none,
-    };
-    let mut i: usize = 0;
-    while i < k {
-        let x = place_at(img, h, s + i);
-        if !term_rules::point_ok(x, degree_at(img, h, s + i)) {
-            return false;
-        }
-        if !term_rules::may_stand(i, last, x) {
-            return false;
-        }
-        let earlier = last.later;
-        last = LastTwo {
-            earlier: earlier,
-            later: x,
-        };
-        i += 1;
-    }
-    true
-}
 
 fn term_ok(img: &[u8], h: Header, t: usize) -> bool
     requires { ⌜ Heads (wordAt (now img)) h × Holds (now img) h × (tablesOk (wordAt (now img)) ≡ true)
@@ -60,7 +26,7 @@ fn term_ok(img: &[u8], h: Header, t: usize) -> bool
         return false;
     }
     let s = whole_word(img, o + header::TERM_FIRST);
-    points_ok(img, h, s, k)
+    term_points::points_ok(img, h, s, k)
 }
 
 // The k terms from s on.

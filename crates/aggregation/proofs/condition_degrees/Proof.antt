@@ -10,12 +10,12 @@ use Rattle.model.specs.declared.Degree.{Degree}
 use Rattle.model.specs.Bounds.{M, inputTermLimit}
 use Rattle.model.specs.Block.{inputTerms}
 use Rattle.model.specs.Degrees.{notOf, pairs}
-use Rattle.model.specs.Image.{wordAt, decode, RULES}
+use Rattle.model.specs.Image.{NOT-WORD, TERM-WORD, wordAt, decode, RULES}
 use Rattle.degrees.specs.Tables.{numbers, Low}
 use Rattle.layout.proofs.Inputs.{input-terms-few}
 use Rattle.layout.proofs.Sound.{input-terms}
-use Rattle.stored_conditions.specs.Machine.{NOT-WORD, TERM-WORD, operatorOf, turn, stackOf}
-use Rattle.stored_conditions.proofs.Passes.{Left, left-start, left-end, left-more}
+use Rattle.condition_words.specs.Machine.{operatorOf, turn, stackOf}
+use Rattle.condition_words.proofs.Passes.{Left, left-start, left-end, left-more}
 use Rattle.aggregation.specs.Stacks.{places}
 use Rattle.aggregation.proofs.Degrees.{number-at, low-zeros, low-turn}
 use Rattle.aggregation.proofs.Passes.{some-eq, machine, degrees-left, stack-holds}

@@ -6,7 +6,7 @@ use lib.ListN.{length}
 use Rattle.model.specs.Parentheses.{rank}
 use Rattle.model.specs.Image.{wordAt, decode}
 use Rattle.model.specs.Listing.{inputTermName, conditionText}
-use Rattle.stored_conditions.specs.Machine.{operatorOf}
+use Rattle.condition_words.specs.Machine.{operatorOf}
 use Rattle.operator_listing.proofs.Spans as spans
 use Rattle.condition_listing.proofs.Texts as texts
 use borrow.Fn.Kinds.{In}

@@ -2,7 +2,7 @@ use mathlib.Core.Path.{_∙_}
 use native.Mathlib.Omega.{arith}
 use Prim.Native.Nat.{_<_}
 use borrow.Author.Needs.{needs}
-use Rattle.stored_conditions.specs.Machine.{unary, stackOf}
+use Rattle.condition_words.specs.Machine.{unary, stackOf}
 use Rattle.stored_conditions.proofs.Steps as laws
 use Rattle.stored_conditions.proofs.negate.Statement.{statement}
 use Rattle.stored_conditions.proofs.negate.Tie as tie

@@ -2,9 +2,9 @@ use borrow.Author.Needs.{needs}
 use borrow.Author.Tests.{not-true, not-false}
 use Rattle.model.specs.Image.{wordAt}
 use Rattle.name_letters.specs.Letters.{lettersAt}
-use Rattle.distinct_names.proofs.Fours.{first-differs, second-differs, third-differs, fourth-decides}
-use Rattle.distinct_names.proofs.same_name.Statement.{statement}
-use Rattle.distinct_names.proofs.same_name.Tie as tie
+use Rattle.same_names.proofs.Fours.{first-differs, second-differs, third-differs, fourth-decides}
+use Rattle.same_names.proofs.same_name.Statement.{statement}
+use Rattle.same_names.proofs.same_name.Tie as tie
 
 same-letters-requires : tie.Need-same-letters-requires
 same-letters-requires c κs = search needs

@@ -6,7 +6,7 @@ use native.Mathlib.Omega.{arith}
 use native.Mathlib.Numerals.{add-one}
 use lib.ListN.{length, getD, set}
 use lib.Seq.{getD-set-same, getD-set-other}
-use Rattle.stored_conditions.specs.Machine.{stackOf}
+use Rattle.condition_words.specs.Machine.{stackOf}
 
 module _ {A : Type 0} (d : A) where
   pub length-stack : (l : List A) (n : ℕ) → length (stackOf d l n) ≡ n

@@ -8,10 +8,10 @@ use Rattle.model.specs.Block.{mayFollow}
 use Rattle.model.specs.WellFormed.{pointOk}
 use Rattle.model.specs.Image.{wordAt, pointAt}
 use Rattle.term_rules.specs.Positions.{Ends}
-use Rattle.stored_terms.specs.Stored.{pointsAfter}
-use Rattle.stored_terms.proofs.Points.{taken, left, ends-first, ends-next, point-bad, place-bad, point-good, points-end, points-start}
-use Rattle.stored_terms.proofs.points_ok.Statement.{statement}
-use Rattle.stored_terms.proofs.points_ok.Tie as tie
+use Rattle.term_points.specs.Points.{pointsAfter}
+use Rattle.term_points.proofs.Points.{taken, left, ends-first, ends-next, point-bad, place-bad, point-good, points-end, points-start}
+use Rattle.term_points.proofs.points_ok.Statement.{statement}
+use Rattle.term_points.proofs.points_ok.Tie as tie
 
 abbrev Inv-loop : tie.InvT-loop
 Inv-loop img h s k last₀ i₀ last i =

@@ -9,16 +9,9 @@ use lib.ListN.{length, getD}
 use Rattle.model.specs.Basic.{if_then_else_}
 use Rattle.model.specs.Bounds.{depthLimit}
 use Rattle.model.specs.Block.{Op, and, or}
-use Rattle.model.specs.Image.{opWord}
+use Rattle.model.specs.Image.{NOT-WORD, TERM-WORD, opWord}
 
--- the condition words that model's `postfix` writes beside `opWord`: NOT, and the first input term
-abbrev pub NOT-WORD : ℕ
-NOT-WORD = 0
-
-abbrev pub TERM-WORD : ℕ
-TERM-WORD = 16
-
--- the operator of a word that is neither
+-- the operator of a word that is neither NOT nor a term
 abbrev pub operatorOf : ℕ → Op
 operatorOf w = if eqb w (opWord and) then and else or
 

@@ -13,7 +13,7 @@ use Rattle.laws.proofs.Positions.{positions}
 use Rattle.term_rules.specs.declared.LastTwo.{LastTwo}
 use Rattle.term_rules.specs.Positions.{lastWith, Ends}
 use Rattle.term_rules.proofs.Laws.{ends-none, ends-more}
-use Rattle.stored_terms.specs.Stored.{pointsAfter}
+use Rattle.term_points.specs.Points.{pointsAfter}
 
 module _ (before : List ℤ) (p : Point) (ps : List Point) where
   not-right : pointOk p ≡ false → pointsAfter before (p ∷ ps) ≡ false

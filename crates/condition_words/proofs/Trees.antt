@@ -6,10 +6,9 @@ use native.Mathlib.Omega.{arith}
 use borrow.Author.Tests.{le-leb}
 use Rattle.model.specs.Basic.{tab}
 use Rattle.model.specs.Block.{Op, and, or, Condition, term, neg, two, size}
-use Rattle.model.specs.Image.{postfix, opWord, joinTop, grown, trees, treeOf}
+use Rattle.model.specs.Image.{NOT-WORD, TERM-WORD, postfix, opWord, joinTop, grown, trees, treeOf}
 use Rattle.laws.proofs.Places.{At, tab-at}
 use Rattle.laws.proofs.Conditions.{length-postfix}
-use Rattle.stored_conditions.specs.Machine.{NOT-WORD, TERM-WORD}
 
 grown-term : (t : ℕ) (st : List Condition) → grown (TERM-WORD + t) st ≡ term t ∷ st
 unfolding grown

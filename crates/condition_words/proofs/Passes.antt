@@ -12,9 +12,9 @@ use Rattle.model.specs.Basic.{tab}
 use Rattle.model.specs.Bounds.{depthLimit}
 use Rattle.model.specs.Block.{Op, and, or, Condition, term, neg, two}
 use Rattle.model.specs.Parentheses.{depth}
-use Rattle.model.specs.Image.{postfix, opWord}
-use Rattle.stored_conditions.specs.Machine.{Meaning, NOT-WORD, TERM-WORD, room, added, unary, binary, step, turn}
-use Rattle.stored_conditions.proofs.Room.{Fits, fits, fits-left, fits-right, fits-neg, fits-one}
+use Rattle.model.specs.Image.{NOT-WORD, TERM-WORD, postfix, opWord}
+use Rattle.condition_words.specs.Machine.{Meaning, room, added, unary, binary, step, turn}
+use Rattle.condition_words.proofs.Room.{Fits, fits, fits-left, fits-right, fits-neg, fits-one}
 
 pub none-some : {A : Type 0} (x : A) → _≡_ {A = Option A} none (some x) → ⊥
 none-some x e = let z : _≡_ {A = ℕ} 0 1 = cc in omega arith

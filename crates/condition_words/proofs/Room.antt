@@ -8,7 +8,7 @@ use lib.Dec.{ltb, eqb}
 use Rattle.model.specs.Bounds.{depthLimit}
 use Rattle.model.specs.Block.{Op, and, or, Condition, term, neg, two}
 use Rattle.model.specs.Parentheses.{rank, negatedForm, form, bareBehindNot, bareLeft, bareRight, opened, depth}
-use Rattle.stored_conditions.specs.Machine.{room}
+use Rattle.condition_words.specs.Machine.{room}
 
 negated-form : (k : ℕ) → negatedForm k ≤ 2
 negated-form k = go (eqb k 0) refl

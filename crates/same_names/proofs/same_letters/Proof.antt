@@ -2,8 +2,8 @@ use mathlib.Core.Path.{ap, _∙_}
 use lib.Dec.{eqb}
 use borrow.Author.Needs.{needs}
 use Rattle.name_letters.specs.Letters.{lettersOf}
-use Rattle.distinct_names.proofs.same_letters.Statement.{statement}
-use Rattle.distinct_names.proofs.same_letters.Tie as tie
+use Rattle.same_names.proofs.same_letters.Statement.{statement}
+use Rattle.same_names.proofs.same_letters.Tie as tie
 
 whole-word-requires : tie.Need-whole-word-requires
 whole-word-requires c κs = search needs

@@ -1,0 +1,4 @@
+pub mod Room
+pub mod Stacks
+pub mod Passes
+pub mod Trees
