@@ -9,7 +9,7 @@ use borrow.Author.Tests.{ltb-true}
 use lib.ListN.{length, getD}
 use Rattle.model.specs.Basic.{bytes, tab}
 use Rattle.model.specs.Block.{Term, outputFirst, singletonsOf}
-use Rattle.model.specs.Image.{terms, nameAt, termAt, singletonAt, outputAt, conclusionAt, decode, outputPlace, termPlace, conclusionPlace}
+use Rattle.model.specs.Image.{terms, nameAt, termAt, singletonAt, outputAt, conclusionAt, decode, outputPlace, termPlace, conclusionPlace, OUTPUTS}
 use Rattle.model.specs.Listing.{conclusionText}
 use Rattle.model.specs.WellFormed.{conclusionOk}
 use Rattle.laws.proofs.Lists.{map-tab, tab-append}
@@ -33,11 +33,11 @@ nth : {A : Type 0} (f : ℕ → A) (n k : ℕ) (d : A) → k < n → getD (tab f
 nth f n k d h = tab-nth f n 0 k d h ∙ ap f (zero-add k)
 
 module _ (w : ℕ → ℕ) (ok : Sound w) where
-  pub output-name : (o : ℕ) → o < w 3 → getD (map (λ v. v .name) (decode w .outputs)) o [] ≡ nameAt w (outputPlace w o)
+  pub output-name : (o : ℕ) → o < w OUTPUTS → getD (map (λ v. v .name) (decode w .outputs)) o [] ≡ nameAt w (outputPlace w o)
   unfolding decode outputAt
   output-name o h =
       let names : ℕ → List ℕ = λ i. nameAt w (outputPlace w i) in
-      ap (λ (l : List (List ℕ)). getD l o []) (map-tab (λ v. v .name) (outputAt w) (w 3) 0) ∙ nth names (w 3) o [] h
+      ap (λ (l : List (List ℕ)). getD l o []) (map-tab (λ v. v .name) (outputAt w) (w OUTPUTS) 0) ∙ nth names (w OUTPUTS) o [] h
 
   names-are : map (λ t. t .name) (terms (decode w)) ≡ tab (λ i. nameAt w (termPlace w i)) (inputTermsIn w + outputTermsIn w) 0
   unfolding tablesOk termAt singletonAt
@@ -61,18 +61,18 @@ module _ (w : ℕ → ℕ) (ok : Sound w) where
 
   -- the output and the term of a conclusion are there
   pub concluded : (j : ℕ) → conclusionOk (decode w) (conclusionAt w j) ≡ true
-      → (conclusionAt w j .output < w 3) × (conclusionAt w j .term < inputTermsIn w + outputTermsIn w)
+      → (conclusionAt w j .output < w OUTPUTS) × (conclusionAt w j .term < inputTermsIn w + outputTermsIn w)
   unfolding conclusionOk decode
   concluded j h =
       let k = conclusionAt w j in
       let q = passed _ h in
       let there : k .output < length (decode w .outputs) = ltb-true _ _ (q .0) in
-      let o : k .output < w 3 = omega (arith, length-tab (outputAt w) (w 3) 0) in
+      let o : k .output < w OUTPUTS = omega (arith, length-tab (outputAt w) (w OUTPUTS) 0) in
       let hi : k .term < outputFirst (k .output) (decode w) + length (singletonsOf (k .output) (decode w)) = ltb-true _ _ (q .1 .1 .0) in
       let f = output-first w (ok .frame) (k .output) o in
       let g = first-is w (ok .frame) (k .output) o in
       let own = output-terms w (k .output) o ∙ ap (outputCount w) (sym (zero-add (k .output))) in
-      (o, omega (arith, hi, f, g, own, sums-part (outputCount w) (w 3) 0 (k .output) o))
+      (o, omega (arith, hi, f, g, own, sums-part (outputCount w) (w OUTPUTS) 0 (k .output) o))
 
   -- by the places that the code reads: c the conclusion's row, o and t what it holds, p and q their rows
   pub conclusion-text : (j c o t p q : ℕ) → conclusionOk (decode w) (conclusionAt w j) ≡ true → c ≡ conclusionPlace w j

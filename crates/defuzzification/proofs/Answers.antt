@@ -8,7 +8,7 @@ use lib.ListN.{length, getD, drop, replicate}
 use lib.Seq.{drop-cons}
 use Rattle.model.specs.Basic.{tab}
 use Rattle.model.specs.Bounds.{outputLimit}
-use Rattle.model.specs.Image.{singletonAt, outputAt, decode}
+use Rattle.model.specs.Image.{singletonAt, outputAt, decode, OUTPUTS}
 use Rattle.model.specs.Evaluation.{outputAnswer, outputAnswers, noAnswer, padded, heldOf}
 use Rattle.model.specs.declared.Answer.{Answer}
 use Rattle.model.specs.declared.Crisp.{Crisp}
@@ -30,7 +30,7 @@ answerAt w h held j = outputAnswer (outputAt w j) (tab h (outputCount w j) (outp
 
 module _ (w h : ℕ → ℕ) (held : List Crisp) (s : Sound w) where
   -- the answers of k outputs from the i-th on
-  answers-on : (k i : ℕ) → i + k ≤ length held → i + k ≤ w 3
+  answers-on : (k i : ℕ) → i + k ≤ length held → i + k ≤ w OUTPUTS
       → outputAnswers (decode w) h i (tab (outputAt w) k i) (map (λ c. c .0) (drop i held)) ≡ tab (answerAt w h held) k i
   unfolding outputAnswers tab answerAt outputAt
   answers-on zero i l r = refl
@@ -43,9 +43,9 @@ module _ (w h : ℕ → ℕ) (held : List Crisp) (s : Sound w) where
       ∙ (λ j. outputAnswer (outputAt w i) (tab h (n j) (first j)) (getD held i none .0) ∷ rest)
       ∙ ap (λ (rs : List Answer). answerAt w h held i ∷ rs) (answers-on k (suc i) (omega arith) (omega arith))
 
-  pub answers-are : length held ≡ outputLimit → outputAnswers (decode w) h 0 (decode w .outputs) (map (λ c. c .0) held) ≡ tab (answerAt w h held) (w 3) 0
+  pub answers-are : length held ≡ outputLimit → outputAnswers (decode w) h 0 (decode w .outputs) (map (λ c. c .0) held) ≡ tab (answerAt w h held) (w OUTPUTS) 0
   unfolding decode
-  answers-are l = answers-on (w 3) 0 (omega (arith, outputs-few w s)) (omega arith)
+  answers-are l = answers-on (w OUTPUTS) 0 (omega (arith, outputs-few w s)) (omega arith)
 
 pub padded-is : (f : ℕ → Answer) (n : ℕ) → tab f n 0 ++ replicate (outputLimit - n) noAnswer ≡ padded noAnswer (tab f n 0)
 padded-is f n = ap (λ (k : ℕ). tab f n 0 ++ replicate (outputLimit - k) noAnswer) (sym (length-tab f n 0))

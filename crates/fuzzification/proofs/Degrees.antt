@@ -10,7 +10,7 @@ use Rattle.model.specs.Basic.{tab}
 use Rattle.model.specs.Block.{Term, Input}
 use Rattle.model.specs.Degrees.{termDegree}
 use Rattle.model.specs.Evaluation.{termDegrees}
-use Rattle.model.specs.Image.{termAt, inputAt}
+use Rattle.model.specs.Image.{termAt, inputAt, INPUTS}
 use Rattle.laws.proofs.Places.{length-tab}
 use Rattle.layout.specs.Tables.{sums, inputCount}
 use Rattle.layout.specs.Groups.{Sound}
@@ -48,7 +48,7 @@ module _ (w : ℕ → ℕ) where
       length-append (degreesAt x (tab (termAt w) (inputCount w s) (inputFirst w s))) (termDegrees (tab (inputAt w) k (suc s)) xs)
       ∙ omega (arith, length-at x (termAt w) (inputCount w s) (inputFirst w s), length-degrees k (suc s) xs (omega arith))
 
-  degrees-next : (i : ℕ) (xs : List ℤ) → Sound w → i < w 2 → i < length xs
+  degrees-next : (i : ℕ) (xs : List ℤ) → Sound w → i < w INPUTS → i < length xs
       → termDegrees (tab (inputAt w) (i + 1) 0) xs
       ≡ termDegrees (tab (inputAt w) i 0) xs ++ degreesAt (getD xs i (pos 0)) (tab (termAt w) (inputCount w i) (sums (inputCount w) i 0))
   unfolding inputAt
@@ -63,7 +63,7 @@ module _ (w : ℕ → ℕ) where
       ∙ ap (λ (f : ℕ). termDegrees us xs ++ degreesAt (getD xs i (pos 0)) (tab (termAt w) (inputCount w i) f)) (first-is w i s h)
 
   -- one input more in an array, by the numbers that were read
-  pub input-more : (i p n : ℕ) (x : ℤ) (xs : List ℤ) (l₀ ds ds′ : List ℕ) → Sound w → i < w 2 → i < length xs
+  pub input-more : (i p n : ℕ) (x : ℤ) (xs : List ℤ) (l₀ ds ds′ : List ℕ) → Sound w → i < w INPUTS → i < length xs
       → p ≡ sums (inputCount w) i 0 → n ≡ inputCount w i → x ≡ getD xs i (pos 0)
       → ds ≡ sets l₀ 0 (termDegrees (tab (inputAt w) i 0) xs) → ds′ ≡ sets ds p (degreesAt x (tab (termAt w) n p))
       → ds′ ≡ sets l₀ 0 (termDegrees (tab (inputAt w) (i + 1) 0) xs)

@@ -26,7 +26,7 @@ pub record Heads (w : ℕ → ℕ) (h : Header) : Type 0 where
   pub conclusion-table : h .«conclusion_table» ≡ w CONCLUSION-TABLE
 
 -- bytes that go as far as the end of the header and of every table that it names
-pub record Holds (bytes : List ℕ) (h : Header) : Type 0 where
+pub record Covers (bytes : List ℕ) (h : Header) : Type 0 where
   pub head : headerSize * 4 ≤ length bytes
   pub inputs : (h .«input_table» + h .inputs * inputWidth) * 4 ≤ length bytes
   pub outputs : (h .«output_table» + h .outputs * outputWidth) * 4 ≤ length bytes

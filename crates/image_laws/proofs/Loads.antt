@@ -22,7 +22,7 @@ use Rattle.model.specs.declared.Activation.{Activation}
 use Rattle.model.specs.declared.Activation.the-variants.{Min, Prod}
 use Rattle.model.specs.Tokens.{isName, inCrisp}
 use Rattle.model.specs.WellFormed.{unitOk, pointOk, termOk, inputOk, rangeOk, figureOk, defaultOk, singletonOk, outputOk, wellFormed}
-use Rattle.model.specs.Image.{wordAt, pairWord, accuWord, actWord, nameWords, singletonTerm, terms, points, words, image, inputAt, outputAt, ruleAt, pairOf, accuOf, actOf, decode, isImageOf, loads}
+use Rattle.model.specs.Image.{wordAt, pairWord, accuWord, actWord, nameWords, singletonTerm, terms, points, words, image, inputAt, outputAt, ruleAt, pairOf, accuOf, actOf, decode, isImageOf, loads, BLOCK-NAME, RULE-BLOCK-NAME}
 use Rattle.laws.proofs.Places.{At, at-cut, tab-at, same-eq, same-refl}
 use Rattle.laws.proofs.Tests.{both, and-i, passed}
 use Rattle.words.proofs.Bytes.{words-at}
@@ -116,9 +116,9 @@ unfolding decode nameWords
 decode-words w b h a =
     let f = fine b h in
     let p = placed w b a in
-    let n = at-cut w 20 (nameWords (b .name)) (nameWords (b .ruleBlock)) (p .codes .1 .1 .1 .1) in
-    let en = name-back w 20 (b .name) (f .name) (n .0) in
-    let er = name-back w 24 (b .ruleBlock) (f .ruleBlock) (n .1) in
+    let n = at-cut w BLOCK-NAME (nameWords (b .name)) (nameWords (b .ruleBlock)) (p .codes .1 .1 .1 .1) in
+    let en = name-back w BLOCK-NAME (b .name) (f .name) (n .0) in
+    let er = name-back w RULE-BLOCK-NAME (b .ruleBlock) (f .ruleBlock) (n .1) in
     let ei = ap (λ (k : ℕ). tab (inputAt w) k 0) (p .inputs) ∙ tab-at (inputAt w) 0 (b .inputs) (inputs-back w b f p) in
     let eo = ap (λ (k : ℕ). tab (outputAt w) k 0) (p .outputs) ∙ tab-at (outputAt w) 0 (b .outputs) (outputs-back w b f p) in
     let es = ap (λ (k : ℕ). tab (ruleAt w) k 0) (p .rules) ∙ tab-at (ruleAt w) 0 (b .rules) (rules-back w b f p) in

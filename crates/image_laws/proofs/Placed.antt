@@ -6,7 +6,7 @@ use native.Mathlib.Omega.{arith}
 use lib.ListN.{length}
 use Rattle.model.specs.Basic.{gather, total}
 use Rattle.model.specs.Block.{Block, conclusions, size}
-use Rattle.model.specs.Image.{pairWord, accuWord, actWord, nameWords, terms, points, postfix, inputTable, outputTable, termTable, pointWords, ruleTable, conclusionWords, offsets, endOf, header, words}
+use Rattle.model.specs.Image.{pairWord, accuWord, actWord, nameWords, terms, points, postfix, inputTable, outputTable, termTable, pointWords, ruleTable, conclusionWords, offsets, endOf, header, words, CONCLUSION-TABLE, INPUT-TABLE, INPUTS, OUTPUT-TABLE, OUTPUTS, PAIR-WORD, POINT-TABLE, RULE-TABLE, RULES, TERM-TABLE, WORD-TABLE}
 use Rattle.laws.proofs.Places.{At, at-shift, at-cut}
 use Rattle.layout.proofs.Lengths.{header-long, inputs-long, outputs-long, terms-long, points-long, rules-long}
 use Rattle.layout.proofs.Whole.{length-conditions}
@@ -16,17 +16,17 @@ abbrev pub codeWords : Block → List ℕ
 codeWords b = pairWord (b .pair) ∷ accuWord (b .accu) ∷ actWord (b .act) ∷ 0 ∷ (nameWords (b .name) ++ nameWords (b .ruleBlock))
 
 pub record Placed (w : ℕ → ℕ) (b : Block) : Type 0 where
-  pub inputs : w 2 ≡ length (b .inputs)
-  pub outputs : w 3 ≡ length (b .outputs)
-  pub rules : w 6 ≡ length (b .rules)
-  pub codes : At w 16 (codeWords b)
-  pub inputsAt : At w (w 9) (inputTable 0 (b .inputs))
-  pub outputsAt : At w (w 10) (outputTable b 0 (b .outputs))
-  pub termsAt : At w (w 11) (termTable 0 (terms b))
-  pub pointsAt : At w (w 12) (gather pointWords (points b))
-  pub rulesAt : At w (w 13) (ruleTable 0 0 (b .rules))
-  pub wordsAt : At w (w 14) (gather (λ r. postfix (r .condition)) (b .rules))
-  pub conclusionsAt : At w (w 15) (gather conclusionWords (conclusions b))
+  pub inputs : w INPUTS ≡ length (b .inputs)
+  pub outputs : w OUTPUTS ≡ length (b .outputs)
+  pub rules : w RULES ≡ length (b .rules)
+  pub codes : At w PAIR-WORD (codeWords b)
+  pub inputsAt : At w (w INPUT-TABLE) (inputTable 0 (b .inputs))
+  pub outputsAt : At w (w OUTPUT-TABLE) (outputTable b 0 (b .outputs))
+  pub termsAt : At w (w TERM-TABLE) (termTable 0 (terms b))
+  pub pointsAt : At w (w POINT-TABLE) (gather pointWords (points b))
+  pub rulesAt : At w (w RULE-TABLE) (ruleTable 0 0 (b .rules))
+  pub wordsAt : At w (w WORD-TABLE) (gather (λ r. postfix (r .condition)) (b .rules))
+  pub conclusionsAt : At w (w CONCLUSION-TABLE) (gather conclusionWords (conclusions b))
 
 module _ (w : ℕ → ℕ) (b : Block) where
   abbrev I : List ℕ
@@ -64,19 +64,19 @@ module _ (w : ℕ → ℕ) (b : Block) where
       let c = h .0 .1 .1 in
       let o = c .1 .1 .1 .1 .1 .1 .1 in
       let nc : length C ≡ total (λ r. size (r .condition)) (b .rules) = length-conditions (b .rules) in
-      let e9 : w 9 ≡ 28 = o .0 in
-      let e10 : w 10 ≡ w 9 + length I = o .1 .0 ∙ omega (arith, inputs-long b) in
-      let e11 : w 11 ≡ w 10 + length O = o .1 .1 .0 ∙ omega (arith, inputs-long b, outputs-long b) in
-      let e12 : w 12 ≡ w 11 + length T = o .1 .1 .1 .0 ∙ omega (arith, inputs-long b, outputs-long b, terms-long b) in
-      let e13 : w 13 ≡ w 12 + length P = o .1 .1 .1 .1 .0 ∙ omega (arith, inputs-long b, outputs-long b, terms-long b, points-long b) in
-      let e14 : w 14 ≡ w 13 + length R = o .1 .1 .1 .1 .1 .0 ∙ omega (arith, inputs-long b, outputs-long b, terms-long b, points-long b, rules-long b) in
-      let e15 : w 15 ≡ w 14 + length C = o .1 .1 .1 .1 .1 .1 .0 ∙ omega (arith, inputs-long b, outputs-long b, terms-long b, points-long b, rules-long b) in
-      let c1 = behind (w 9) (w 10) I (O ++ TK) e10 (at-shift w (0 + length (header b)) (w 9) (I ++ (O ++ TK)) (omega (arith, header-long b)) (h .1)) in
-      let c2 = behind (w 10) (w 11) O TK e11 (c1 .1) in
-      let c3 = behind (w 11) (w 12) T (P ++ (R ++ (C ++ K))) e12 (c2 .1) in
-      let c4 = behind (w 12) (w 13) P (R ++ (C ++ K)) e13 (c3 .1) in
-      let c5 = behind (w 13) (w 14) R (C ++ K) e14 (c4 .1) in
-      let c6 = behind (w 14) (w 15) C K e15 (c5 .1) in
+      let e9 : w INPUT-TABLE ≡ 28 = o .0 in
+      let e10 : w OUTPUT-TABLE ≡ w INPUT-TABLE + length I = o .1 .0 ∙ omega (arith, inputs-long b) in
+      let e11 : w TERM-TABLE ≡ w OUTPUT-TABLE + length O = o .1 .1 .0 ∙ omega (arith, inputs-long b, outputs-long b) in
+      let e12 : w POINT-TABLE ≡ w TERM-TABLE + length T = o .1 .1 .1 .0 ∙ omega (arith, inputs-long b, outputs-long b, terms-long b) in
+      let e13 : w RULE-TABLE ≡ w POINT-TABLE + length P = o .1 .1 .1 .1 .0 ∙ omega (arith, inputs-long b, outputs-long b, terms-long b, points-long b) in
+      let e14 : w WORD-TABLE ≡ w RULE-TABLE + length R = o .1 .1 .1 .1 .1 .0 ∙ omega (arith, inputs-long b, outputs-long b, terms-long b, points-long b, rules-long b) in
+      let e15 : w CONCLUSION-TABLE ≡ w WORD-TABLE + length C = o .1 .1 .1 .1 .1 .1 .0 ∙ omega (arith, inputs-long b, outputs-long b, terms-long b, points-long b, rules-long b) in
+      let c1 = behind (w INPUT-TABLE) (w OUTPUT-TABLE) I (O ++ TK) e10 (at-shift w (0 + length (header b)) (w INPUT-TABLE) (I ++ (O ++ TK)) (omega (arith, header-long b)) (h .1)) in
+      let c2 = behind (w OUTPUT-TABLE) (w TERM-TABLE) O TK e11 (c1 .1) in
+      let c3 = behind (w TERM-TABLE) (w POINT-TABLE) T (P ++ (R ++ (C ++ K))) e12 (c2 .1) in
+      let c4 = behind (w POINT-TABLE) (w RULE-TABLE) P (R ++ (C ++ K)) e13 (c3 .1) in
+      let c5 = behind (w RULE-TABLE) (w WORD-TABLE) R (C ++ K) e14 (c4 .1) in
+      let c6 = behind (w WORD-TABLE) (w CONCLUSION-TABLE) C K e15 (c5 .1) in
       record {
         inputs = c .0;
         outputs = c .1 .0;

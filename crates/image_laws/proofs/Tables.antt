@@ -15,7 +15,7 @@ use Rattle.model.specs.Block.{Point, Term, Singleton, Input, Range, Output, Con
 use Rattle.model.specs.declared.InputType.{InputType}
 use Rattle.model.specs.declared.InputType.the-variants.{Real, Int}
 use Rattle.model.specs.Tokens.{inCrisp}
-use Rattle.model.specs.Image.{crispOf, nameWords, nameAt, typeWord, rangeWords, defaultWords, pointWords, postfix, singletonTerm, terms, points, conclusionWords, pointAt, termAt, singletonAt, inputAt, outputAt, conclusionAt, treeOf, ruleAt}
+use Rattle.model.specs.Image.{crispOf, nameWords, nameAt, typeWord, rangeWords, defaultWords, pointWords, postfix, singletonTerm, terms, points, conclusionWords, pointAt, termAt, singletonAt, inputAt, outputAt, conclusionAt, treeOf, ruleAt, CONCLUSION-TABLE, INPUT-TABLE, OUTPUT-TABLE, POINT-TABLE, RULE-TABLE, TERM-TABLE, WORD-TABLE}
 use Rattle.laws.proofs.Conditions.{length-postfix}
 use Rattle.laws.proofs.Places.{At, at-shift, at-cut, tab-at, tab-from}
 use Rattle.layout.specs.Rows.{laid}
@@ -71,13 +71,13 @@ module _ (w : ℕ → ℕ) (b : Block) (f : Fine b) (p : Placed w b) where
   points-back : At (pointAt w) 0 (points b)
   unfolding pointAt
   points-back =
-      rows-back (alone pointWords) onward (pointAt w) w (w 12) 2 (λ σ q. refl) (λ σ ps. Each FinePoint ps) row
+      rows-back (alone pointWords) onward (pointAt w) w (w POINT-TABLE) 2 (λ σ q. refl) (λ σ ps. Each FinePoint ps) row
       tt (points b) _ (gather-laid pointWords (points b)) (p .pointsAt) (f .points′)
     where
-      row : (i : ℕ) (σ : Unit {0}) (q : Point) (qs : List Point) → At w (w 12 + i * 2) (pointWords q) → Each FinePoint (q ∷ qs)
+      row : (i : ℕ) (σ : Unit {0}) (q : Point) (qs : List Point) → At w (w POINT-TABLE + i * 2) (pointWords q) → Each FinePoint (q ∷ qs)
           → (pointAt w i ≡ q) × Each FinePoint qs
       row i σ q qs a x =
-          let o = w 12 + i * 2 in
+          let o = w POINT-TABLE + i * 2 in
           let ea : crispOf (w o) ≡ q .at = ap crispOf (a .0) ∙ crisp-back (q .at) (x .0 .0) in
           let ed : w (o + 1) ≡ q .degree = on o 1 (suc o) (omega arith) ∙ a .1 .0 in
           ((λ j. record { at = ea j; degree = ed j }), x .1)
@@ -89,15 +89,15 @@ module _ (w : ℕ → ℕ) (b : Block) (f : Fine b) (p : Placed w b) where
   terms-back : At (termAt w) 0 (terms b)
   unfolding termAt nameWords gather
   terms-back =
-      rows-back termRow termNext (termAt w) w (w 11) 6 wide-term X row
+      rows-back termRow termNext (termAt w) w (w TERM-TABLE) 6 wide-term X row
       0 (terms b) _ (term-table 0 (terms b)) (p .termsAt) (f .terms′, points-back)
     where
       X : ℕ → List Term → Type 0
       X n ts = Each (λ t. Spelt (t .name)) ts × At (pointAt w) n (gather (λ t. t .points) ts)
 
-      row : (i n : ℕ) (t : Term) (ts : List Term) → At w (w 11 + i * 6) (termRow n t) → X n (t ∷ ts) → (termAt w i ≡ t) × X (n + length (t .points)) ts
+      row : (i n : ℕ) (t : Term) (ts : List Term) → At w (w TERM-TABLE + i * 6) (termRow n t) → X n (t ∷ ts) → (termAt w i ≡ t) × X (n + length (t .points)) ts
       row i n t ts a x =
-          let o = w 11 + i * 6 in
+          let o = w TERM-TABLE + i * 6 in
           let c = at-cut w o (nameWords (t .name)) (n ∷ length (t .points) ∷ []) a in
           let y = at-cut (pointAt w) n (t .points) (gather (λ u. u .points) ts) (x .1) in
           let en = name-back w o (t .name) (x .0 .0) (c .0) in
@@ -112,15 +112,15 @@ module _ (w : ℕ → ℕ) (b : Block) (f : Fine b) (p : Placed w b) where
   unfolding inputAt nameWords gather
   inputs-back =
       let t = at-cut (termAt w) 0 (inputTerms b) (map singletonTerm (outputTerms b)) terms-back in
-      rows-back inputRow inputNext (inputAt w) w (w 9) 7 wide-input X row
+      rows-back inputRow inputNext (inputAt w) w (w INPUT-TABLE) 7 wide-input X row
       0 (b .inputs) _ (input-table 0 (b .inputs)) (p .inputsAt) (f .inputs, t .0)
     where
       X : ℕ → List Input → Type 0
       X n vs = Each (λ v. Spelt (v .name)) vs × At (termAt w) n (gather (λ v. v .terms) vs)
 
-      row : (i n : ℕ) (v : Input) (vs : List Input) → At w (w 9 + i * 7) (inputRow n v) → X n (v ∷ vs) → (inputAt w i ≡ v) × X (n + length (v .terms)) vs
+      row : (i n : ℕ) (v : Input) (vs : List Input) → At w (w INPUT-TABLE + i * 7) (inputRow n v) → X n (v ∷ vs) → (inputAt w i ≡ v) × X (n + length (v .terms)) vs
       row i n v vs a x =
-          let o = w 9 + i * 7 in
+          let o = w INPUT-TABLE + i * 7 in
           let c = at-cut w o (nameWords (v .name)) (typeWord (v .type) ∷ n ∷ length (v .terms) ∷ []) a in
           let y = at-cut (termAt w) n (v .terms) (gather (λ u. u .terms) vs) (x .1) in
           let en = name-back w o (v .name) (x .0 .0) (c .0) in
@@ -134,8 +134,8 @@ module _ (w : ℕ → ℕ) (b : Block) (f : Fine b) (p : Placed w b) where
   singleton-back : (i : ℕ) (s : Singleton) → termAt w i ≡ singletonTerm s → singletonAt w i ≡ s
   unfolding termAt singletonAt tab
   singleton-back i s e =
-      let en : nameAt w (w 11 + i * 6) ≡ s .name = ap (λ (t : Term). t .name) e in
-      let ea = one (w (w 11 + i * 6 + 5)) (w (w 11 + i * 6 + 4)) (ap (λ (t : Term). t .points) e) in
+      let en : nameAt w (w TERM-TABLE + i * 6) ≡ s .name = ap (λ (t : Term). t .name) e in
+      let ea = one (w (w TERM-TABLE + i * 6 + 5)) (w (w TERM-TABLE + i * 6 + 4)) (ap (λ (t : Term). t .points) e) in
       λ j. record { name = en j; at = ea j .at }
     where
       one : (n k : ℕ) {q : Point} → tab (pointAt w) n k ≡ q ∷ [] → pointAt w k ≡ q
@@ -151,7 +151,7 @@ module _ (w : ℕ → ℕ) (b : Block) (f : Fine b) (p : Placed w b) where
   outputs-back =
       let t = at-cut (termAt w) 0 (inputTerms b) (map singletonTerm (outputTerms b)) terms-back in
       let n = length (inputTerms b) in
-      rows-back outputRow outputNext (outputAt w) w (w 10) 11 wide-output X row
+      rows-back outputRow outputNext (outputAt w) w (w OUTPUT-TABLE) 11 wide-output X row
       n (b .outputs) _ (output-table b) (p .outputsAt)
       (f .outputs, singletons-from n (outputTerms b) (at-shift (termAt w) (0 + n) n (map singletonTerm (outputTerms b)) (omega arith) (t .1)))
     where
@@ -174,9 +174,9 @@ module _ (w : ℕ → ℕ) (b : Block) (f : Fine b) (p : Placed w b) where
           let ex : crispOf (w (o + 10)) ≡ x = ap crispOf (on o 10 _ (omega arith) ∙ a .1 .0) ∙ crisp-back x (h x refl) in
           rw (a .0) (λ j. some (ex j))
 
-      row : (i n : ℕ) (v : Output) (vs : List Output) → At w (w 10 + i * 11) (outputRow n v) → X n (v ∷ vs) → (outputAt w i ≡ v) × X (n + length (v .terms)) vs
+      row : (i n : ℕ) (v : Output) (vs : List Output) → At w (w OUTPUT-TABLE + i * 11) (outputRow n v) → X n (v ∷ vs) → (outputAt w i ≡ v) × X (n + length (v .terms)) vs
       row i n v vs a x =
-          let o = w 10 + i * 11 in
+          let o = w OUTPUT-TABLE + i * 11 in
           let c = at-cut w o (nameWords (v .name)) (n ∷ length (v .terms) ∷ (rangeWords (v .range) ++ defaultWords (v .default))) a in
           let d = at-cut w (suc (suc (o + 4))) (rangeWords (v .range)) (defaultWords (v .default)) (c .1 .1 .1) in
           let z : suc (suc (o + 4)) + length (rangeWords (v .range)) ≡ o + 9 = omega (arith, range-long (v .range)) in
@@ -190,42 +190,42 @@ module _ (w : ℕ → ℕ) (b : Block) (f : Fine b) (p : Placed w b) where
   conclusions-back : At (conclusionAt w) 0 (conclusions b)
   unfolding conclusionAt
   conclusions-back =
-      rows-back (alone conclusionWords) onward (conclusionAt w) w (w 15) 2 (λ σ k. refl) (λ σ ks. Unit {0}) row
+      rows-back (alone conclusionWords) onward (conclusionAt w) w (w CONCLUSION-TABLE) 2 (λ σ k. refl) (λ σ ks. Unit {0}) row
       tt (conclusions b) _ (gather-laid conclusionWords (conclusions b)) (p .conclusionsAt) tt
     where
-      row : (i : ℕ) (σ : Unit {0}) (k : Conclusion) (ks : List Conclusion) → At w (w 15 + i * 2) (conclusionWords k) → Unit {0}
+      row : (i : ℕ) (σ : Unit {0}) (k : Conclusion) (ks : List Conclusion) → At w (w CONCLUSION-TABLE + i * 2) (conclusionWords k) → Unit {0}
           → (conclusionAt w i ≡ k) × Unit {0}
       row i σ k ks a x =
-          let o = w 15 + i * 2 in
+          let o = w CONCLUSION-TABLE + i * 2 in
           let et : w (o + 1) ≡ k .term = on o 1 (suc o) (omega arith) ∙ a .1 .0 in
           ((λ j. record { output = a .0 j; term = et j }), tt)
 
   pub rules-back : At (ruleAt w) 0 (b .rules)
   unfolding ruleAt gather
   rules-back =
-      rows-back ruleRow ruleNext (ruleAt w) w (w 13) 6 (λ σ r. refl) X row
+      rows-back ruleRow ruleNext (ruleAt w) w (w RULE-TABLE) 6 (λ σ r. refl) X row
       (0, 0) (b .rules) _ (rule-table 0 0 (b .rules)) (p .rulesAt)
-      (at-shift w (w 14) (w 14 + 0) (gather (λ r. postfix (r .condition)) (b .rules)) (omega arith) (p .wordsAt), conclusions-back)
+      (at-shift w (w WORD-TABLE) (w WORD-TABLE + 0) (gather (λ r. postfix (r .condition)) (b .rules)) (omega arith) (p .wordsAt), conclusions-back)
     where
       X : ℕ × ℕ → List Rule → Type 0
-      X σ rs = At w (w 14 + σ .0) (gather (λ r. postfix (r .condition)) rs) × At (conclusionAt w) (σ .1) (gather (λ r. r .conclusions) rs)
+      X σ rs = At w (w WORD-TABLE + σ .0) (gather (λ r. postfix (r .condition)) rs) × At (conclusionAt w) (σ .1) (gather (λ r. r .conclusions) rs)
 
-      row : (i : ℕ) (σ : ℕ × ℕ) (r : Rule) (rs : List Rule) → At w (w 13 + i * 6) (ruleRow σ r) → X σ (r ∷ rs) → (ruleAt w i ≡ r) × X (ruleNext σ r) rs
+      row : (i : ℕ) (σ : ℕ × ℕ) (r : Rule) (rs : List Rule) → At w (w RULE-TABLE + i * 6) (ruleRow σ r) → X σ (r ∷ rs) → (ruleAt w i ≡ r) × X (ruleNext σ r) rs
       row i σ r rs a x =
-          let o = w 13 + i * 6 in
+          let o = w RULE-TABLE + i * 6 in
           let c = r .condition in
           let rest = gather (λ q. postfix (q .condition)) rs in
-          let u = at-cut w (w 14 + σ .0) (postfix c) rest (x .0) in
+          let u = at-cut w (w WORD-TABLE + σ .0) (postfix c) rest (x .0) in
           let y = at-cut (conclusionAt w) (σ .1) (r .conclusions) (gather (λ q. q .conclusions) rs) (x .1) in
           let e1 : w (o + 1) ≡ σ .0 = on o 1 _ (omega arith) ∙ a .1 .0 in
           let e2 : w (o + 2) ≡ size c = on o 2 _ (omega arith) ∙ a .1 .1 .0 in
-          let ec : treeOf (tab (λ k. w (w 14 + k)) (w (o + 2)) (w (o + 1))) ≡ c =
-          (λ j. treeOf (tab (λ k. w (w 14 + k)) (e2 j) (e1 j))) ∙ ap treeOf (tab-from w (w 14) (size c) (σ .0)) ∙ tree-at w (w 14 + σ .0) c (u .0) in
+          let ec : treeOf (tab (λ k. w (w WORD-TABLE + k)) (w (o + 2)) (w (o + 1))) ≡ c =
+          (λ j. treeOf (tab (λ k. w (w WORD-TABLE + k)) (e2 j) (e1 j))) ∙ ap treeOf (tab-from w (w WORD-TABLE) (size c) (σ .0)) ∙ tree-at w (w WORD-TABLE + σ .0) c (u .0) in
           let e3 = on o 3 _ (omega arith) ∙ a .1 .1 .1 .0 in
           let e4 = on o 4 _ (omega arith) ∙ a .1 .1 .1 .1 .0 in
           let ek = entries (conclusionAt w) (w (o + 4)) (w (o + 3)) (σ .1) (r .conclusions) e4 e3 (y .0) in
           let ew : w (o + 5) ≡ r .weight = on o 5 _ (omega arith) ∙ a .1 .1 .1 .1 .1 .0 in
-          let z : w 14 + σ .0 + length (postfix c) ≡ w 14 + (σ .0 + size c) = omega (arith, length-postfix c) in (
+          let z : w WORD-TABLE + σ .0 + length (postfix c) ≡ w WORD-TABLE + (σ .0 + size c) = omega (arith, length-postfix c) in (
             (λ j. record { number = a .0 j; condition = ec j; conclusions = ek j; weight = ew j }),
-            (at-shift w (w 14 + σ .0 + length (postfix c)) (w 14 + (σ .0 + size c)) rest z (u .1), y .1),
+            (at-shift w (w WORD-TABLE + σ .0 + length (postfix c)) (w WORD-TABLE + (σ .0 + size c)) rest z (u .1), y .1),
           )

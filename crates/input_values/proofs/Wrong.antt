@@ -16,7 +16,7 @@ use Rattle.model.specs.declared.InputType.{InputType}
 use Rattle.model.specs.Outcome.{Outcome, accepted, refused, andThen}
 use Rattle.model.specs.Readings.{taken, valueIn}
 use Rattle.model.specs.Evaluation.{valuesOf}
-use Rattle.model.specs.Image.{inputAt, decode}
+use Rattle.model.specs.Image.{inputAt, decode, INPUTS}
 use Rattle.model.specs.declared.Reading.{Reading}
 use Rattle.model.specs.declared.Taken.{Taken}
 use Rattle.model.specs.declared.Taken.the-variants.{Value, Absent as Missing, NotFinite, WrongKind}
@@ -116,11 +116,11 @@ module _ (w : ℕ → ℕ) (rs : List Reading) where
   abbrev pub found : List ℤ
   found = valuesRead (decode w .inputs) rs
 
-  pub found-most : length found ≤ w 2
+  pub found-most : length found ≤ w INPUTS
   unfolding decode
-  found-most = omega (arith, read-most (tab (inputAt w) (w 2) 0) rs, length-tab (inputAt w) (w 2) 0)
+  found-most = omega (arith, read-most (tab (inputAt w) (w INPUTS) 0) rs, length-tab (inputAt w) (w INPUTS) 0)
 
-  module _ (i : ℕ) (d : Reading) (k : InputType) (t : Taken) (h : i < w 2) (l : i < length rs) (m : i ≤ length found)
+  module _ (i : ℕ) (d : Reading) (k : InputType) (t : Taken) (h : i < w INPUTS) (l : i < length rs) (m : i ≤ length found)
       (ek : k ≡ inputAt w i .type) (et : t ≡ taken k (getD rs i d)) where
     value-is : valueIn (taken (inputAt w (0 + i) .type) (getD rs i d)) ≡ valueIn t
     value-is =
@@ -131,12 +131,12 @@ module _ (w : ℕ → ℕ) (rs : List Reading) where
 
     pub found-next : (x : ℤ) → valueIn t ≡ some x → (i < length found) × (getD found i (pos 0) ≡ x)
     unfolding decode
-    found-next x e = next-right (inputAt w) d (w 2) 0 i rs x h l m (value-is ∙ e)
+    found-next x e = next-right (inputAt w) d (w INPUTS) 0 i rs x h l m (value-is ∙ e)
 
     -- every variant but the first
     pub found-all : OneOf (1 ∷ 2 ∷ 3 ∷ []) (tagOf the-type t) → length found ≡ i
     unfolding decode
-    found-all o = next-wrong (inputAt w) d (w 2) 0 i rs h l m (value-is ∙ no-value t o)
+    found-all o = next-wrong (inputAt w) d (w INPUTS) 0 i rs h l m (value-is ∙ no-value t o)
       where
         never : OneOf (1 ∷ 2 ∷ 3 ∷ []) 0 → ⊥
         never q = ⊎-elim (λ e. omega arith) (λ r. ⊎-elim (λ e. omega arith) (λ e. omega arith) r) q

@@ -8,7 +8,7 @@ use lib.Dec.{leb}
 use lib.ListN.{length}
 use Rattle.model.specs.Basic.{all, tab}
 use Rattle.model.specs.Bounds.{ruleLimit}
-use Rattle.model.specs.Image.{decode, rulePlace, ruleAt, conclusionAt}
+use Rattle.model.specs.Image.{decode, rulePlace, ruleAt, conclusionAt, RULES}
 use Rattle.model.specs.WellFormed.{unitOk, conditionOk, conclusionOk, ruleOk}
 use Rattle.laws.proofs.Lists.{all-at}
 use Rattle.laws.proofs.Tests.{both, passed}
@@ -17,25 +17,25 @@ use Rattle.layout.specs.Tables.{conditionRows, conditionExact}
 use Rattle.layout.specs.Groups.{Sound, rulesOk}
 
 module _ (w : ℕ → ℕ) (ok : Sound w) where
-  pub rules-few : w 6 ≤ ruleLimit
+  pub rules-few : w RULES ≤ ruleLimit
   unfolding rulesOk decode
   rules-few =
       let q = passed _ (ok .rules) .1 .1 .1 .1 .0 in
-      let n = length (tab (ruleAt w) (w 6) 0) in
-      omega (arith, leb-true n ruleLimit (both (leb 1 n) (leb n ruleLimit) q .1), length-tab (ruleAt w) (w 6) 0)
+      let n = length (tab (ruleAt w) (w RULES) 0) in
+      omega (arith, leb-true n ruleLimit (both (leb 1 n) (leb n ruleLimit) q .1), length-tab (ruleAt w) (w RULES) 0)
 
-  module _ (i : ℕ) (h : i < w 6) where
+  module _ (i : ℕ) (h : i < w RULES) where
     rule-good : ruleOk (decode w) (ruleAt w i) ≡ true
     unfolding rulesOk decode
     rule-good =
         let e : 0 + i ≡ i = omega arith in
-        rw (sym e) (all-at (ruleOk (decode w)) (ruleAt w) (w 6) 0 i h (passed _ (ok .rules) .1 .1 .1 .1 .1 .0))
+        rw (sym e) (all-at (ruleOk (decode w)) (ruleAt w) (w RULES) 0 i h (passed _ (ok .rules) .1 .1 .1 .1 .1 .0))
 
     pub condition-exact : conditionExact w i ≡ true
     unfolding rulesOk conditionRows
     condition-exact =
         let e : 0 + i ≡ i = omega arith in
-        rw (sym e) (all-at (conditionExact w) (λ j. j) (w 6) 0 i h (passed _ (ok .rules) .1 .0))
+        rw (sym e) (all-at (conditionExact w) (λ j. j) (w RULES) 0 i h (passed _ (ok .rules) .1 .0))
 
     pub rule-parts : let r = ruleAt w i in
         (conditionOk (decode w) (r .condition) ≡ true) × (all (conclusionOk (decode w)) (r .conclusions) ≡ true) × (unitOk (r .weight) ≡ true)

@@ -14,7 +14,7 @@ use Rattle.model.specs.Bounds.{crispLimit, outputLimit, termLimit, outputTermLi
 use Rattle.model.specs.Block.{Singleton, Output, inputTerms, outputFirst, singletonsOf, inRange}
 use Rattle.model.specs.Tokens.{isName, inCrisp}
 use Rattle.model.specs.WellFormed.{outputOk, singletonOk}
-use Rattle.model.specs.Image.{termAt, singletonAt, outputAt, decode}
+use Rattle.model.specs.Image.{termAt, singletonAt, outputAt, decode, OUTPUT-TABLE, OUTPUTS}
 use Rattle.laws.proofs.Lists.{map-tab, all-at}
 use Rattle.laws.proofs.Tests.{both, passed}
 use Rattle.laws.proofs.Places.{length-tab, tab-nth, take-tab}
@@ -43,12 +43,12 @@ own-few v h =
     leb-true n termLimit (both (leb 1 n) (leb n termLimit) (passed _ h .1 .0) .1)
 
 -- the terms of output o
-pub output-terms : (w : ℕ → ℕ) (o : ℕ) → o < w 3 → length (singletonsOf o (decode w)) ≡ outputCount w o
+pub output-terms : (w : ℕ → ℕ) (o : ℕ) → o < w OUTPUTS → length (singletonsOf o (decode w)) ≡ outputCount w o
 unfolding singletonsOf decode outputAt
 output-terms w o h =
     let own : ℕ → List Singleton = λ i. tab (singletonAt w) (outputCount w i) (outputFirstAt w i) in
-    ap (λ (l : List (List Singleton)). length (getD l o [])) (map-tab (λ v. v .terms) (outputAt w) (w 3) 0)
-    ∙ ap length (tab-nth own (w 3) 0 o [] h ∙ ap own (zero-add o))
+    ap (λ (l : List (List Singleton)). length (getD l o [])) (map-tab (λ v. v .terms) (outputAt w) (w OUTPUTS) 0)
+    ∙ ap length (tab-nth own (w OUTPUTS) 0 o [] h ∙ ap own (zero-add o))
     ∙ length-tab (singletonAt w) (outputCount w o) (outputFirstAt w o)
 
 module _ (w : ℕ → ℕ) (frame : tablesOk w ≡ true) where
@@ -56,46 +56,46 @@ module _ (w : ℕ → ℕ) (frame : tablesOk w ≡ true) where
   unfolding tablesOk
   input-terms = ap length (inputTerms-are w (passed _ frame .1 .0)) ∙ length-tab (termAt w) (inputTermsIn w) 0
 
-  firsts-run : Runs (outputFirstAt w) (outputCount w) (w 3) 0 (inputTermsIn w)
+  firsts-run : Runs (outputFirstAt w) (outputCount w) (w OUTPUTS) 0 (inputTermsIn w)
   unfolding tablesOk
   firsts-run = outputFirsts-run w (passed _ frame .1 .1 .0)
 
-  pub first-is : (i : ℕ) → i < w 3 → outputFirstAt w i ≡ inputTermsIn w + sums (outputCount w) i 0
-  first-is i h = ap (outputFirstAt w) (omega arith) ∙ runs-at (outputFirstAt w) (outputCount w) (w 3) 0 (inputTermsIn w) i h firsts-run
+  pub first-is : (i : ℕ) → i < w OUTPUTS → outputFirstAt w i ≡ inputTermsIn w + sums (outputCount w) i 0
+  first-is i h = ap (outputFirstAt w) (omega arith) ∙ runs-at (outputFirstAt w) (outputCount w) (w OUTPUTS) 0 (inputTermsIn w) i h firsts-run
 
   -- it is the first that the block counts
-  pub output-first : (i : ℕ) → i < w 3 → outputFirst i (decode w) ≡ outputFirstAt w i
+  pub output-first : (i : ℕ) → i < w OUTPUTS → outputFirst i (decode w) ≡ outputFirstAt w i
   unfolding outputFirst decode outputAt
   output-first i h =
       let size : Output → ℕ = λ v. length (v .terms) in
       let counts = total-sums size (outputAt w) (outputCount w) (λ j. length-tab (singletonAt w) (outputCount w j) (outputFirstAt w j)) i 0 in
-      (λ j. input-terms j + total size (take-tab (outputAt w) (w 3) i 0 (omega arith) j))
+      (λ j. input-terms j + total size (take-tab (outputAt w) (w OUTPUTS) i 0 (omega arith) j))
       ∙ ap (λ (k : ℕ). inputTermsIn w + k) counts
       ∙ sym (first-is i h)
 
 module _ (w : ℕ → ℕ) (s : Sound w) where
-  pub outputs-few : w 3 ≤ outputLimit
+  pub outputs-few : w OUTPUTS ≤ outputLimit
   unfolding variablesOk decode
   outputs-few =
-      let n = length (tab (outputAt w) (w 3) 0) in
+      let n = length (tab (outputAt w) (w OUTPUTS) 0) in
       let l : n ≤ outputLimit = leb-true _ _ (both (leb 1 n) (leb n outputLimit) (passed _ (s .variables) .1 .1 .1 .0) .1) in
-      omega (arith, length-tab (outputAt w) (w 3) 0)
+      omega (arith, length-tab (outputAt w) (w OUTPUTS) 0)
 
-  good : (i : ℕ) → i < w 3 → outputOk (outputAt w i) ≡ true
+  good : (i : ℕ) → i < w OUTPUTS → outputOk (outputAt w i) ≡ true
   unfolding variablesOk decode
-  good i h = ap (λ (k : ℕ). outputOk (outputAt w k)) (omega arith) ∙ all-at outputOk (outputAt w) (w 3) 0 i h (passed _ (s .variables) .1 .1 .1 .1 .1 .0)
+  good i h = ap (λ (k : ℕ). outputOk (outputAt w k)) (omega arith) ∙ all-at outputOk (outputAt w) (w OUTPUTS) 0 i h (passed _ (s .variables) .1 .1 .1 .1 .1 .0)
 
-  pub terms-few : (i : ℕ) → i < w 3 → outputCount w i ≤ termLimit
+  pub terms-few : (i : ℕ) → i < w OUTPUTS → outputCount w i ≤ termLimit
   unfolding outputAt
   terms-few i h =
       let l = own-few (outputAt w i) (good i h) in
-      omega (arith, length-tab (singletonAt w) (w (w 10 + i * 11 + 5)) (w (w 10 + i * 11 + 4)))
+      omega (arith, length-tab (singletonAt w) (w (w OUTPUT-TABLE + i * 11 + 5)) (w (w OUTPUT-TABLE + i * 11 + 4)))
 
   -- the terms before output i
-  pub before-few : (i : ℕ) → i < w 3 → sums (outputCount w) i 0 ≤ i * termLimit
+  pub before-few : (i : ℕ) → i < w OUTPUTS → sums (outputCount w) i 0 ≤ i * termLimit
   before-few i h = sums-le (outputCount w) termLimit i 0 (λ j l. terms-few j (omega arith))
 
-  pub positions-crisp : (i : ℕ) → i < w 3 → (k : ℕ) → k < outputCount w i → natAbs (singletonAt w (outputFirstAt w i + k) .at) ≤ crispLimit
+  pub positions-crisp : (i : ℕ) → i < w OUTPUTS → (k : ℕ) → k < outputCount w i → natAbs (singletonAt w (outputFirstAt w i + k) .at) ≤ crispLimit
   unfolding outputOk outputAt singletonOk
   positions-crisp i h k l =
       let g = outputAt w i .range in
@@ -106,7 +106,7 @@ module _ (w : ℕ → ℕ) (s : Sound w) where
       x = singletonAt w (outputFirstAt w i + k) .at
 
   -- in numbers
-  pub output-numbers : (i : ℕ) → i < w 3
+  pub output-numbers : (i : ℕ) → i < w OUTPUTS
       → (i < outputLimit) × (outputCount w i ≤ termLimit) × (inputTermsIn w ≤ outputFirstAt w i)
       × (outputFirstAt w i - inputTermsIn w + outputCount w i ≤ outputTermLimit)
   output-numbers i h = omega (arith, outputs-few, terms-few i h, first-is w (s .frame) i h, before-few i h)

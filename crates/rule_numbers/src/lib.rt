@@ -5,7 +5,7 @@ ghost use Prim.Native.Nat.{_+_, _-_, _<_};
 ghost use lib.Dec.{eqb};
 ghost use Rattle.model.specs.Basic.{all, distinct, tab};
 ghost use Rattle.model.specs.Image.{wordAt};
-ghost use Rattle.header.specs.Header.{Heads, Holds};
+ghost use Rattle.header.specs.Header.{Heads, Covers};
 ghost use Rattle.rule_numbers.specs.Numbers.{ruleNumber};
 use header::Header;
 use header::rule_row;
@@ -16,7 +16,7 @@ const REMAINDERS: usize = 256;
 
 // Whether no later rule has this number of rule i; it is known where none of theirs leaves its remainder.
 fn differs(img: &[u8], h: Header, i: usize, number: usize, met: bool) -> bool
-    requires { ⌜ Heads (wordAt (now img)) h × Holds (now img) h × (i < h .rules)
+    requires { ⌜ Heads (wordAt (now img)) h × Covers (now img) h × (i < h .rules)
         × (met ≡ false → all (λ n. not (eqb number n))
         (tab (ruleNumber (wordAt (now img))) (h .rules - (i + 1)) (i + 1)) ≡ true) ⌝ }
     ensures { λ r. ⌜ r ≡ all (λ n. not (eqb number n))
@@ -38,7 +38,7 @@ fn differs(img: &[u8], h: Header, i: usize, number: usize, met: bool) -> bool
 
 // From the last rule on: only numbers that leave the same remainder are compared.
 pub fn numbers_distinct(img: &[u8], h: Header) -> bool
-    requires { ⌜ Heads (wordAt (now img)) h × Holds (now img) h ⌝ }
+    requires { ⌜ Heads (wordAt (now img)) h × Covers (now img) h ⌝ }
     ensures { λ r. ⌜ r ≡ distinct eqb (tab (ruleNumber (wordAt (now (img .entry)))) (h .rules) 0) ⌝ }
 {
     let mut met = [false; REMAINDERS];

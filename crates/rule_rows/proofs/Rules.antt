@@ -9,7 +9,7 @@ use lib.Dec.{leb, eqb}
 use Rattle.model.specs.Basic.{every, all, between, isEmpty, tab}
 use Rattle.model.specs.Bounds.{ruleNumberLeast, ruleNumberLimit}
 use Rattle.model.specs.WellFormed.{unitOk, conditionOk, conclusionOk, ruleOk}
-use Rattle.model.specs.Image.{conclusionAt, ruleAt, decode}
+use Rattle.model.specs.Image.{conclusionAt, ruleAt, decode, CONCLUSIONS, WORD-TABLE, WORDS}
 use Rattle.laws.proofs.Tests.{both, and-i, passed, pass, iff}
 use Rattle.laws.proofs.Places.{tab-from}
 use Rattle.stored_conditions.specs.Stored.{isCondition, conditionStored}
@@ -84,15 +84,15 @@ module _ (w : ℕ → ℕ) where
   row-words h p i n k e q = rw (q .word-first, q .conclusion-first, q .words, q .conclusions, e .words, e .conclusions) refl
 
   -- a row that passes leaves the totals within the header's
-  pub row-within : (i n k : ℕ) → rowStored w i n k ≡ true → (n + wordCount w i ≤ w 7) × (k + conclusionCount w i ≤ w 8)
+  pub row-within : (i n k : ℕ) → rowStored w i n k ≡ true → (n + wordCount w i ≤ w WORDS) × (k + conclusionCount w i ≤ w CONCLUSIONS)
   unfolding rowStored
   row-within i n k h = let s = passed _ h .1 .1 in (leb-true _ _ (s .0), leb-true _ _ (s .1 .0))
 
   module _ (frame : tablesOk w ≡ true) (m : ℕ) (terms : m ≡ inputTermsIn w) where
-    condition-words : (i : ℕ) → tab w (wordCount w i) (w 14 + wordFirst w i) ≡ tab (λ k. w (w 14 + k)) (wordCount w i) (wordFirst w i)
-    condition-words i = sym (tab-from w (w 14) (wordCount w i) (wordFirst w i))
+    condition-words : (i : ℕ) → tab w (wordCount w i) (w WORD-TABLE + wordFirst w i) ≡ tab (λ k. w (w WORD-TABLE + k)) (wordCount w i) (wordFirst w i)
+    condition-words i = sym (tab-from w (w WORD-TABLE) (wordCount w i) (wordFirst w i))
 
     -- by the words that the code reads
-    pub condition-stored : (i d n : ℕ) → d ≡ w 14 + wordFirst w i → n ≡ wordCount w i → conditionStored w d n m ≡ condition-right i
+    pub condition-stored : (i d n : ℕ) → d ≡ w WORD-TABLE + wordFirst w i → n ≡ wordCount w i → conditionStored w d n m ≡ condition-right i
     unfolding conditionStored conditionExact conditionOk ruleAt
     condition-stored i d n ed en = rw (ed, en) (λ j. isCondition ((terms ∙ sym (input-terms w frame)) j) (condition-words i j))

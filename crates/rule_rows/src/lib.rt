@@ -6,7 +6,7 @@ ghost use Rattle.model.specs.Basic.{between};
 ghost use Rattle.model.specs.Bounds.{ruleNumberLeast, ruleNumberLimit};
 ghost use Rattle.model.specs.WellFormed.{unitOk};
 ghost use Rattle.model.specs.Image.{wordAt, ruleAt};
-ghost use Rattle.header.specs.Header.{Heads, Holds};
+ghost use Rattle.header.specs.Header.{Heads, Covers};
 ghost use Rattle.layout.specs.Tables.{inputTermsIn};
 ghost use Rattle.layout.specs.Groups.{tablesOk};
 ghost use Rattle.rule_rows.specs.Rows.{PartsAt, ruleStored, rowStored};
@@ -24,7 +24,7 @@ pub struct Parts {
 }
 
 fn number_ok(img: &[u8], h: Header, i: usize) -> bool
-    requires { ⌜ Heads (wordAt (now img)) h × Holds (now img) h × (i < h .rules) ⌝ }
+    requires { ⌜ Heads (wordAt (now img)) h × Covers (now img) h × (i < h .rules) ⌝ }
     ensures { λ r. ⌜ r ≡ between ruleNumberLeast ruleNumberLimit (ruleAt (wordAt (now (img .entry))) i .number) ⌝ }
 {
     bounds::within(
@@ -35,7 +35,7 @@ fn number_ok(img: &[u8], h: Header, i: usize) -> bool
 }
 
 fn weight_ok(img: &[u8], h: Header, i: usize) -> bool
-    requires { ⌜ Heads (wordAt (now img)) h × Holds (now img) h × (i < h .rules) ⌝ }
+    requires { ⌜ Heads (wordAt (now img)) h × Covers (now img) h × (i < h .rules) ⌝ }
     ensures { λ r. ⌜ r ≡ unitOk (ruleAt (wordAt (now (img .entry))) i .weight) ⌝ }
 {
     let weight = whole_word(img, rule_row(h, i) + header::RULE_WEIGHT) as u32;
@@ -43,7 +43,7 @@ fn weight_ok(img: &[u8], h: Header, i: usize) -> bool
 }
 
 pub fn parts_of(img: &[u8], h: Header, i: usize) -> Parts
-    requires { ⌜ Heads (wordAt (now img)) h × Holds (now img) h × (i < h .rules) ⌝ }
+    requires { ⌜ Heads (wordAt (now img)) h × Covers (now img) h × (i < h .rules) ⌝ }
     ensures { λ r. ⌜ PartsAt (wordAt (now (img .entry))) i r ⌝ }
 {
     let o = rule_row(h, i);
@@ -59,7 +59,7 @@ pub fn parts_of(img: &[u8], h: Header, i: usize) -> Parts
 fn rule_ok(img: &[u8], h: Header, m: usize, i: usize, p: Parts) -> bool
     requires { ⌜ (tablesOk (wordAt (now img)) ≡ true) × Heads (wordAt (now img)) h
         × (m ≡ inputTermsIn (wordAt (now img))) × (m ≤ 4294967295) × (i < h .rules)
-        × PartsAt (wordAt (now img)) i p × Holds (now img) h
+        × PartsAt (wordAt (now img)) i p × Covers (now img) h
         × (p .«word_first» + p .words ≤ h .words) × (p .«conclusion_first» + p .conclusions ≤ h .conclusions) ⌝ }
     ensures { λ r. ⌜ r ≡ ruleStored (wordAt (now (img .entry))) i ⌝ }
 {
@@ -79,7 +79,7 @@ fn rule_ok(img: &[u8], h: Header, m: usize, i: usize, p: Parts) -> bool
 pub fn row_ok(img: &[u8], h: Header, m: usize, i: usize, p: Parts, n: usize, k: usize) -> bool
     requires { ⌜ (tablesOk (wordAt (now img)) ≡ true) × Heads (wordAt (now img)) h
         × (m ≡ inputTermsIn (wordAt (now img))) × (m ≤ 4294967295) × (i < h .rules)
-        × PartsAt (wordAt (now img)) i p × Holds (now img) h ⌝ }
+        × PartsAt (wordAt (now img)) i p × Covers (now img) h ⌝ }
     ensures { λ r. ⌜ r ≡ rowStored (wordAt (now (img .entry))) i n k ⌝ }
 {
     if p.word_first != n {

@@ -7,7 +7,7 @@ use borrow.Author.Tests.{ltb-true}
 use lib.Dec.{leb, ltb}
 use Rattle.model.specs.Basic.{every}
 use Rattle.model.specs.WellFormed.{conclusionOk}
-use Rattle.model.specs.Image.{conclusionPlace, conclusionAt, decode}
+use Rattle.model.specs.Image.{conclusionPlace, conclusionAt, decode, OUTPUTS}
 use Rattle.layout.specs.Tables.{outputCount, outputFirstAt}
 use Rattle.layout.specs.Groups.{tablesOk}
 use Rattle.layout.proofs.Whole.{outputs-count}
@@ -18,18 +18,18 @@ module _ (w : ℕ → ℕ) (frame : tablesOk w ≡ true) where
   abbrev own : ℕ → ℕ → ℕ → ℕ → ℕ → List Bool
   own outputs j first n t = ltb j outputs ∷ leb first t ∷ ltb t (first + n) ∷ []
 
-  own-is : (j t : ℕ) → conclusionOk (decode w) (record { output = j; term = t }) ≡ every (own (w 3) j (outputFirstAt w j) (outputCount w j) t)
+  own-is : (j t : ℕ) → conclusionOk (decode w) (record { output = j; term = t }) ≡ every (own (w OUTPUTS) j (outputFirstAt w j) (outputCount w j) t)
   unfolding conclusionOk every
-  own-is j t = go (ltb j (w 3)) refl
+  own-is j t = go (ltb j (w OUTPUTS)) refl
     where
-      go : (b : Bool) → ltb j (w 3) ≡ b
-          → conclusionOk (decode w) (record { output = j; term = t }) ≡ every (own (w 3) j (outputFirstAt w j) (outputCount w j) t)
-      go true e = let l : j < w 3 = ltb-true j (w 3) e in rw (outputs-count w, output-first w frame j l, output-terms w j l) refl
+      go : (b : Bool) → ltb j (w OUTPUTS) ≡ b
+          → conclusionOk (decode w) (record { output = j; term = t }) ≡ every (own (w OUTPUTS) j (outputFirstAt w j) (outputCount w j) t)
+      go true e = let l : j < w OUTPUTS = ltb-true j (w OUTPUTS) e in rw (outputs-count w, output-first w frame j l, output-terms w j l) refl
       go false e = rw (outputs-count w, e) refl
 
   -- by the words that the code reads
   pub conclusion-words : (i j t outputs first n : ℕ) → j ≡ w (conclusionPlace w i) → t ≡ w (conclusionPlace w i + 1)
-      → outputs ≡ w 3 → first ≡ outputFirstAt w j → n ≡ outputCount w j
+      → outputs ≡ w OUTPUTS → first ≡ outputFirstAt w j → n ≡ outputCount w j
       → conclusionOk (decode w) (conclusionAt w i) ≡ every (own outputs j first n t)
   unfolding conclusionAt
   conclusion-words i j t outputs first n ej et eo ef en = rw (sym ej, sym et, eo, ef, en) (own-is j t)

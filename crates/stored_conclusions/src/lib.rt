@@ -6,7 +6,7 @@ ghost use lib.Dec.{leb};
 ghost use Rattle.model.specs.Basic.{all, tab};
 ghost use Rattle.model.specs.WellFormed.{conclusionOk};
 ghost use Rattle.model.specs.Image.{wordAt, conclusionAt, decode};
-ghost use Rattle.header.specs.Header.{Heads, Holds};
+ghost use Rattle.header.specs.Header.{Heads, Covers};
 ghost use Rattle.layout.specs.Groups.{tablesOk};
 use header::Header;
 use words::whole_word;
@@ -14,7 +14,7 @@ use words::whole_word;
 // Conclusion i of all.
 fn conclusion_ok(img: &[u8], h: Header, i: usize) -> bool
     requires { ⌜ (tablesOk (wordAt (now img)) ≡ true) × Heads (wordAt (now img)) h
-        × Holds (now img) h × (i < h .conclusions) ⌝ }
+        × Covers (now img) h × (i < h .conclusions) ⌝ }
     ensures { λ r. ⌜ r
         ≡ conclusionOk (decode (wordAt (now (img .entry)))) (conclusionAt (wordAt (now (img .entry))) i) ⌝ }
 {
@@ -35,7 +35,7 @@ fn conclusion_ok(img: &[u8], h: Header, i: usize) -> bool
 // The k conclusions from the s-th on: there are some, and each is right.
 pub fn conclusions_ok(img: &[u8], h: Header, s: usize, k: usize) -> bool
     requires { ⌜ (tablesOk (wordAt (now img)) ≡ true) × Heads (wordAt (now img)) h
-        × Holds (now img) h × (s + k ≤ h .conclusions) ⌝ }
+        × Covers (now img) h × (s + k ≤ h .conclusions) ⌝ }
     ensures { λ r. ⌜ r ≡ leb 1 k && all (conclusionOk (decode (wordAt (now (img .entry)))))
         (tab (conclusionAt (wordAt (now (img .entry)))) k s) ⌝ }
 {

@@ -7,6 +7,7 @@ use native.Mathlib.Omega.{arith}
 use lib.Dec.{leb, eqb}
 use borrow.Author.Tests.{eq-eqb, ne-eqb, le-leb, lt-leb}
 use Rattle.model.specs.Basic.{every}
+use Rattle.model.specs.Image.{LAYOUT, TOTAL, WORDS}
 use Rattle.header.specs.declared.Header.{Header}
 use Rattle.header.specs.Header.{Heads}
 use Rattle.layout.specs.Tables.{headerOk}
@@ -21,11 +22,11 @@ every-append (false ∷ xs) ys = refl
 pub header-spelt : (w : ℕ → ℕ) (h : Header) → Heads w h → every (offsetTests w h) && every (codeTests w) ≡ headerOk w
 unfolding headerOk
 header-spelt w h e =
-    let one : w 7 * 1 ≡ w 7 = omega arith in
+    let one : w WORDS * 1 ≡ w WORDS = omega arith in
     let ends = e .conclusion-table in
     sym (every-append (offsetTests w h) (codeTests w))
     ∙ (λ j. every (
-    eqb (w 0) 1
+    eqb (w LAYOUT) 1
     ∷ eqb (e .input-table j) 28
     ∷ eqb (e .output-table j) (e .input-table j + e .inputs j * 7)
     ∷ eqb (e .term-table j) (e .output-table j + e .outputs j * 11)
@@ -33,7 +34,7 @@ header-spelt w h e =
     ∷ eqb (e .rule-table j) (e .point-table j + e .points j * 2)
     ∷ eqb (e .word-table j) (e .rule-table j + e .rules j * 6)
     ∷ eqb (ends j) (e .word-table j + (ap (λ (k : ℕ). k * 1) (e .words) ∙ one) j)
-    ∷ eqb (w 1) (ends j + e .conclusions j * 2)
+    ∷ eqb (w TOTAL) (ends j + e .conclusions j * 2)
     ∷ codeTests w))
 
 module _ (r x m : ℕ) (e : r ≡ x) where

@@ -6,7 +6,7 @@ ghost use lib.ListN.{length};
 ghost use Rattle.model.specs.Basic.{all, tab};
 ghost use Rattle.model.specs.WellFormed.{singletonOk};
 ghost use Rattle.model.specs.Image.{wordAt, singletonAt};
-ghost use Rattle.header.specs.Header.{Heads, Holds};
+ghost use Rattle.header.specs.Header.{Heads, Covers};
 ghost use Rattle.layout.specs.Tables.{inputTermsIn};
 ghost use Rattle.layout.specs.Groups.{tablesOk};
 ghost use Rattle.stored_ranges.specs.Stored.{rangeAt};
@@ -17,7 +17,7 @@ use words::whole_word;
 
 // Term t of the output whose row starts at o.
 fn singleton_ok(img: &[u8], h: Header, o: usize, t: usize) -> bool
-    requires { ⌜ Heads (wordAt (now img)) h × Holds (now img) h × (tablesOk (wordAt (now img)) ≡ true)
+    requires { ⌜ Heads (wordAt (now img)) h × Covers (now img) h × (tablesOk (wordAt (now img)) ≡ true)
         × ((o + 11) * 4 ≤ length (now img)) × (inputTermsIn (wordAt (now img)) ≤ t) × (t < h .terms) ⌝ }
     ensures { λ r. ⌜ r ≡ singletonOk (rangeAt (wordAt (now (img .entry))) o)
         (singletonAt (wordAt (now (img .entry))) t) ⌝ }
@@ -32,7 +32,7 @@ fn singleton_ok(img: &[u8], h: Header, o: usize, t: usize) -> bool
 
 // The k terms from s on of that output.
 fn singletons_ok(img: &[u8], h: Header, o: usize, s: usize, k: usize) -> bool
-    requires { ⌜ Heads (wordAt (now img)) h × Holds (now img) h × (tablesOk (wordAt (now img)) ≡ true)
+    requires { ⌜ Heads (wordAt (now img)) h × Covers (now img) h × (tablesOk (wordAt (now img)) ≡ true)
         × ((o + 11) * 4 ≤ length (now img)) × (inputTermsIn (wordAt (now img)) ≤ s) × (s + k ≤ h .terms) ⌝ }
     ensures { λ r. ⌜ r ≡ all (singletonOk (rangeAt (wordAt (now (img .entry))) o))
         (tab (singletonAt (wordAt (now (img .entry)))) k s) ⌝ }
@@ -49,7 +49,7 @@ fn singletons_ok(img: &[u8], h: Header, o: usize, s: usize, k: usize) -> bool
 }
 
 fn output_ok(img: &[u8], h: Header, i: usize) -> bool
-    requires { ⌜ Heads (wordAt (now img)) h × Holds (now img) h × (tablesOk (wordAt (now img)) ≡ true)
+    requires { ⌜ Heads (wordAt (now img)) h × Covers (now img) h × (tablesOk (wordAt (now img)) ≡ true)
         × (i < h .outputs) ⌝ }
     ensures { λ r. ⌜ r ≡ outputStored (wordAt (now (img .entry))) i ⌝ }
 {
@@ -75,7 +75,7 @@ fn output_ok(img: &[u8], h: Header, i: usize) -> bool
 }
 
 pub fn outputs_ok(img: &[u8], h: Header) -> bool
-    requires { ⌜ Heads (wordAt (now img)) h × Holds (now img) h × (tablesOk (wordAt (now img)) ≡ true) ⌝ }
+    requires { ⌜ Heads (wordAt (now img)) h × Covers (now img) h × (tablesOk (wordAt (now img)) ≡ true) ⌝ }
     ensures { λ r. ⌜ r ≡ all (outputStored (wordAt (now (img .entry)))) (tab (λ i. i) (h .outputs) 0) ⌝ }
 {
     let mut i: usize = 0;

@@ -2,7 +2,7 @@
 ghost use mathlib.Core.Path.{_≡_};
 ghost use Prim.Native.Nat.{_<_};
 ghost use Rattle.model.specs.Image.{wordAt, pointAt};
-ghost use Rattle.header.specs.Header.{Heads, Holds};
+ghost use Rattle.header.specs.Header.{Heads, Covers};
 ghost use Rattle.terms.specs.Points.{pointView};
 use header::Header;
 use model::Crisp;
@@ -12,14 +12,14 @@ use words::whole_crisp;
 use words::whole_word;
 
 pub fn place_at(img: &[u8], h: Header, i: usize) -> Crisp
-    requires { ⌜ Heads (wordAt (now img)) h × Holds (now img) h × (i < h .points) ⌝ }
+    requires { ⌜ Heads (wordAt (now img)) h × Covers (now img) h × (i < h .points) ⌝ }
     ensures { λ r. ⌜ r .0 ≡ pointAt (wordAt (now (img .entry))) i .at ⌝ }
 {
     whole_crisp(img, header::point_row(h, i))
 }
 
 pub fn degree_at(img: &[u8], h: Header, i: usize) -> Degree
-    requires { ⌜ Heads (wordAt (now img)) h × Holds (now img) h × (i < h .points) ⌝ }
+    requires { ⌜ Heads (wordAt (now img)) h × Covers (now img) h × (i < h .points) ⌝ }
     ensures { λ r. ⌜ r .0 ≡ pointAt (wordAt (now (img .entry))) i .degree ⌝ }
 {
     let row = header::point_row(h, i);
@@ -27,7 +27,7 @@ pub fn degree_at(img: &[u8], h: Header, i: usize) -> Degree
 }
 
 pub fn point_at(img: &[u8], h: Header, i: usize) -> Point
-    requires { ⌜ Heads (wordAt (now img)) h × Holds (now img) h × (i < h .points) ⌝ }
+    requires { ⌜ Heads (wordAt (now img)) h × Covers (now img) h × (i < h .points) ⌝ }
     ensures { λ r. ⌜ pointView r ≡ pointAt (wordAt (now (img .entry))) i ⌝ }
 {
     Point {

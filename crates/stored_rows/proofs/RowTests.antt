@@ -12,7 +12,7 @@ use Rattle.model.specs.Basic.{if_then_else_, every, same, tab}
 use Rattle.model.specs.Bounds.{M}
 use Rattle.model.specs.Block.{Range}
 use Rattle.model.specs.declared.InputType.the-variants.{Real, Int}
-use Rattle.model.specs.Image.{crispWord, crispOf, nameWords, nameAt, typeWord, rangeWords, defaultWords, pointWords, pointAt, termAt, singletonAt, inputAt, outputAt}
+use Rattle.model.specs.Image.{crispWord, crispOf, nameWords, nameAt, typeWord, rangeWords, defaultWords, pointWords, pointAt, termAt, singletonAt, inputAt, outputAt, INPUT-TABLE, OUTPUT-TABLE, OUTPUTS, POINT-TABLE, TERM-TABLE, TERMS}
 use Rattle.laws.proofs.Lists.{tab-append}
 use Rattle.laws.proofs.Tests.{and-i, and-assoc}
 use Rattle.laws.proofs.Places.{length-tab}
@@ -71,35 +71,35 @@ module _ (w : ℕ → ℕ) where
   row-name : (n o : ℕ) (rest : List ℕ) → same (tab w (4 + n) o) (nameWords (nameAt w o) ++ rest) ≡ nameExact w o && same (tab w n (o + 4)) rest
   unfolding nameExact nameWords tab
   row-name n o rest =
-      ap (λ (l : List ℕ). same l (nameWords (nameAt w o) ++ rest)) (tab-append w 4 n o)
+      ap (λ (l : List ℕ). same l (nameWords (nameAt w o) ++ rest)) (tab-append w TERMS n o)
       ∙ same-append (tab w 4 o) (nameWords (nameAt w o)) (tab w n (o + 4)) rest refl
 
   -- a count is the length of what is read by it
   counted : {A : Type 0} (f : ℕ → A) (m k s : ℕ) → m ≡ k → eqb (w m) (length (tab f (w k) s)) && true ≡ true
   counted f m k s e = and-i _ _ (eq-eqb _ _ (ap w e ∙ sym (length-tab f (w k) s))) refl
 
-  pub input-row : (i p : ℕ) → same (tab w 7 (w 9 + i * 7)) (inputRow p (inputAt w i)) ≡ inputTest w (w 9 + i * 7) p
+  pub input-row : (i p : ℕ) → same (tab w 7 (w INPUT-TABLE + i * 7)) (inputRow p (inputAt w i)) ≡ inputTest w (w INPUT-TABLE + i * 7) p
   unfolding inputTest inputAt every tab
   input-row i p =
-      let o = w 9 + i * 7 in
+      let o = w INPUT-TABLE + i * 7 in
       let e5 : suc (o + 4) ≡ o + 5 = omega arith in
       let e6 : suc (suc (o + 4)) ≡ o + 6 = omega arith in
       let last = counted (termAt w) (suc (suc (o + 4))) (o + 6) (w (o + 5)) e6 in
       row-name 3 o (typeWord (inputAt w i .type) ∷ p ∷ length (inputAt w i .terms) ∷ [])
       ∙ (λ j. nameExact w o && (type-code (w (o + 4)) j && (eqb (w (e5 j)) p && last j)))
 
-  pub term-row : (i p : ℕ) → same (tab w 6 (w 11 + i * 6)) (termRow p (termAt w i)) ≡ termTest w (w 11 + i * 6) p
+  pub term-row : (i p : ℕ) → same (tab w 6 (w TERM-TABLE + i * 6)) (termRow p (termAt w i)) ≡ termTest w (w TERM-TABLE + i * 6) p
   unfolding termTest termAt every tab
   term-row i p =
-      let o = w 11 + i * 6 in
+      let o = w TERM-TABLE + i * 6 in
       let e5 : suc (o + 4) ≡ o + 5 = omega arith in
       let last = counted (pointAt w) (suc (o + 4)) (o + 5) (w (o + 4)) e5 in
       row-name 2 o (p ∷ length (termAt w i .points) ∷ []) ∙ (λ j. nameExact w o && (eqb (w (o + 4)) p && last j))
 
-  pub output-term-row : (i p : ℕ) → same (tab w 6 (w 11 + i * 6)) (termRow p (outputTermAt w i)) ≡ singletonTest w (w 11 + i * 6) p
+  pub output-term-row : (i p : ℕ) → same (tab w 6 (w TERM-TABLE + i * 6)) (termRow p (outputTermAt w i)) ≡ singletonTest w (w TERM-TABLE + i * 6) p
   unfolding singletonTest termTest singletonAt every tab
   output-term-row i p =
-      let o = w 11 + i * 6 in
+      let o = w TERM-TABLE + i * 6 in
       let e5 : suc (o + 4) ≡ o + 5 = omega arith in
       row-name 2 o (p ∷ 1 ∷ [])
       ∙ (λ j. nameExact w o && (eqb (w (o + 4)) p && (eqb (w (e5 j)) 1 && true)))
@@ -124,10 +124,10 @@ module _ (w : ℕ → ℕ) where
         (λ j. same (w (o + 9) ∷ w (e1 j) ∷ []) (defaultWords (if eqb (w (o + 9)) 0 then none else some (crispOf (w (o + 10))))))
         ∙ default-case (w (o + 9)) (w (o + 10)) (fits (o + 10))
 
-    pub output-row : (i p : ℕ) → same (tab w 11 (w 10 + i * 11)) (outputRow p (outputAt w i)) ≡ outputTest w (w 10 + i * 11) p
+    pub output-row : (i p : ℕ) → same (tab w 11 (w OUTPUT-TABLE + i * 11)) (outputRow p (outputAt w i)) ≡ outputTest w (w OUTPUT-TABLE + i * 11) p
     unfolding outputTest outputAt every tab
     output-row i p =
-        let o = w 10 + i * 11 in
+        let o = w OUTPUT-TABLE + i * 11 in
         let R = rangeWords (outputAt w i .range) in
         let D = defaultWords (outputAt w i .default) in
         let e5 : suc (o + 4) ≡ o + 5 = omega arith in
@@ -140,23 +140,23 @@ module _ (w : ℕ → ℕ) where
         ap (λ (k : ℕ). same (tab w 2 k) D) e9 ∙ default-row o ∙ sym (and-true (defaultTest w o)) in
         let tail : same (tab w 5 (suc (suc (o + 4)))) (R ++ D) ≡ rangeTest w o && (defaultTest w o && true) =
         ap (λ (k : ℕ). same (tab w 5 k) (R ++ D)) e6
-        ∙ ap (λ (l : List ℕ). same l (R ++ D)) (tab-append w 3 2 (o + 6))
+        ∙ ap (λ (l : List ℕ). same l (R ++ D)) (tab-append w OUTPUTS 2 (o + 6))
         ∙ same-append (tab w 3 (o + 6)) R (tab w 2 (o + 6 + 3)) D (sym (range-long (outputAt w i .range)))
         ∙ (λ j. range j && default j) in
         row-name 7 o (p ∷ length (outputAt w i .terms) ∷ (R ++ D)) ∙ (λ j. nameExact w o && (eqb (w (o + 4)) p && (count j && tail j)))
 
-    pub point-row : (i : ℕ) → same (tab w 2 (w 12 + i * 2)) (pointWords (outputPointAt w i)) ≡ eqb (w (w 12 + i * 2 + 1)) M
+    pub point-row : (i : ℕ) → same (tab w 2 (w POINT-TABLE + i * 2)) (pointWords (outputPointAt w i)) ≡ eqb (w (w POINT-TABLE + i * 2 + 1)) M
     unfolding pointAt tab
     point-row i =
-        let o = w 12 + i * 2 in
+        let o = w POINT-TABLE + i * 2 in
         let e1 : suc o ≡ o + 1 = omega arith in
         let at : eqb (w o) (crispWord (crispOf (w o))) ≡ true = crisp-same (w o) (fits o) in
         (λ j. at j && (eqb (w (e1 j)) M && true)) ∙ and-true (eqb (w (o + 1)) M)
 
   pub input-next : (i p : ℕ) → inputNext p (inputAt w i) ≡ p + inputCount w i
   unfolding inputAt
-  input-next i p = ap (λ (x : ℕ). p + x) (length-tab (termAt w) (inputCount w i) (w (w 9 + i * 7 + 5)))
+  input-next i p = ap (λ (x : ℕ). p + x) (length-tab (termAt w) (inputCount w i) (w (w INPUT-TABLE + i * 7 + 5)))
 
   pub output-next : (i p : ℕ) → outputNext p (outputAt w i) ≡ p + outputCount w i
   unfolding outputAt
-  output-next i p = ap (λ (x : ℕ). p + x) (length-tab (singletonAt w) (outputCount w i) (w (w 10 + i * 11 + 4)))
+  output-next i p = ap (λ (x : ℕ). p + x) (length-tab (singletonAt w) (outputCount w i) (w (w OUTPUT-TABLE + i * 11 + 4)))

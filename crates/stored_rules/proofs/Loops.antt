@@ -8,6 +8,7 @@ use lib.Dec.{eqb}
 use Rattle.layout.specs.Tables.{wordCount, conclusionCount}
 use Rattle.rule_rows.specs.Rows.{rowStored}
 use Rattle.stored_rules.specs.Walk.{rulesWalk}
+use Rattle.model.specs.Image.{CONCLUSIONS, WORDS}
 
 module _ (w : ℕ → ℕ) (e i n k : ℕ) where
   pub walk-more : (a b : ℕ) → a ≡ wordCount w i → b ≡ conclusionCount w i → i < e → rowStored w i n k ≡ true
@@ -21,6 +22,6 @@ module _ (w : ℕ → ℕ) (e i n k : ℕ) where
   unfolding rulesWalk
   walk-stop h q = let s : e - i ≡ suc (e - (i + 1)) = omega arith in rw s (simp q)
 
-  pub walk-end : (a b : ℕ) → a ≡ w 7 → b ≡ w 8 → e ≤ i → rulesWalk w (e - i) i n k ≡ eqb n a && eqb k b
+  pub walk-end : (a b : ℕ) → a ≡ w WORDS → b ≡ w CONCLUSIONS → e ≤ i → rulesWalk w (e - i) i n k ≡ eqb n a && eqb k b
   unfolding rulesWalk
   walk-end a b ea eb h = let s : e - i ≡ 0 = omega arith in rw (s, ea, eb)

@@ -11,7 +11,7 @@ use Rattle.model.specs.Basic.{every, all, same, between, distinct, tab}
 use Rattle.model.specs.Bounds.{ruleLimit, wordLimit, conclusionLimit}
 use Rattle.model.specs.Block.{Rule, size}
 use Rattle.model.specs.WellFormed.{ruleOk}
-use Rattle.model.specs.Image.{postfix, conclusionAt, ruleAt, decode}
+use Rattle.model.specs.Image.{postfix, conclusionAt, ruleAt, decode, CONCLUSIONS, RULE-TABLE, RULES, WORD-TABLE, WORDS}
 use Rattle.laws.proofs.Conditions.{length-postfix}
 use Rattle.laws.proofs.Lists.{map-tab}
 use Rattle.laws.proofs.Tests.{both, and-i, passed, pass, iff}
@@ -32,7 +32,7 @@ module _ (w : ℕ → ℕ) where
   unfolding conditionExact
   exact-size i h =
       let c = ruleAt w i .condition in
-      let f : ℕ → ℕ = λ k. w (w 14 + k) in
+      let f : ℕ → ℕ = λ k. w (w WORD-TABLE + k) in
       sym (length-postfix c) ∙ ap length (sym (same-eq (tab f (wordCount w i) (wordFirst w i)) (postfix c) h)) ∙ length-tab f (wordCount w i) (wordFirst w i)
 
   conclusions-size : (i : ℕ) → length (ruleAt w i .conclusions) ≡ conclusionCount w i
@@ -40,10 +40,10 @@ module _ (w : ℕ → ℕ) where
   conclusions-size i = length-tab (conclusionAt w) (conclusionCount w i) (conclusionFirst w i)
 
   row-stands : (i n k : ℕ) → conditionExact w i ≡ true → wordFirst w i ≡ n → conclusionFirst w i ≡ k
-      → same (tab w 6 (w 13 + i * 6)) (ruleRow (n, k) (ruleAt w i)) ≡ true
+      → same (tab w 6 (w RULE-TABLE + i * 6)) (ruleRow (n, k) (ruleAt w i)) ≡ true
   unfolding ruleAt
   row-stands i n k x e f =
-      let o = w 13 + i * 6 in
+      let o = w RULE-TABLE + i * 6 in
       stood w o 6 (ruleRow (n, k) (ruleAt w i)) refl (
         refl,
         (
@@ -59,7 +59,7 @@ module _ (w : ℕ → ℕ) where
   next-are i n k x = λ j. (n + exact-size i x j, k + conclusions-size i j)
 
   abbrev rows : ℕ → ℕ → ℕ × ℕ → Bool
-  rows r i σ = rowsOk ruleRow ruleNext (ruleAt w) w (w 13) 6 r i σ
+  rows r i σ = rowsOk ruleRow ruleNext (ruleAt w) w (w RULE-TABLE) 6 r i σ
 
   -- the tests of the code on r rules with n condition words and k conclusions
   abbrev pub tests : ℕ → ℕ → ℕ → List Bool
@@ -71,9 +71,9 @@ module _ (w : ℕ → ℕ) where
       ∷ distinct eqb (tab (ruleNumber w) r 0)
       ∷ []
 
-  numbers-are : map (λ (r : Rule). r .number) (decode w .rules) ≡ tab (ruleNumber w) (w 6) 0
+  numbers-are : map (λ (r : Rule). r .number) (decode w .rules) ≡ tab (ruleNumber w) (w RULES) 0
   unfolding decode ruleAt
-  numbers-are = map-tab (λ (r : Rule). r .number) (ruleAt w) (w 6) 0
+  numbers-are = map-tab (λ (r : Rule). r .number) (ruleAt w) (w RULES) 0
 
   -- THE WALK
   -- r rules from the i-th on, after n condition words and k conclusions
@@ -81,15 +81,15 @@ module _ (w : ℕ → ℕ) where
     pub table : rows r i (n, k) ≡ true
     pub exact : all (conditionExact w) (tab (λ j. j) r i) ≡ true
     pub good : all (ruleOk (decode w)) (tab (ruleAt w) r i) ≡ true
-    pub words : n + sums (wordCount w) r i ≡ w 7
-    pub conclusions′ : k + sums (conclusionCount w) r i ≡ w 8
+    pub words : n + sums (wordCount w) r i ≡ w WORDS
+    pub conclusions′ : k + sums (conclusionCount w) r i ≡ w CONCLUSIONS
 
   walk-in : (r i n k : ℕ) → rulesWalk w r i n k ≡ true → Walked r i n k
   unfolding rulesWalk rowStored ruleStored rowsOk all tab sums
   walk-in zero i n k h =
-      let b = both (eqb n (w 7)) (eqb k (w 8)) h in
-      let en = eqb-true n (w 7) (b .0) in
-      let ek = eqb-true k (w 8) (b .1) in
+      let b = both (eqb n (w WORDS)) (eqb k (w CONCLUSIONS)) h in
+      let en = eqb-true n (w WORDS) (b .0) in
+      let ek = eqb-true k (w CONCLUSIONS) (b .1) in
       record { table = refl; exact = refl; good = refl; words = omega arith; conclusions′ = omega arith }
   walk-in (suc r) i n k h =
       let b = both (rowStored w i n k) (rulesWalk w r (suc i) (n + wordCount w i) (k + conclusionCount w i)) h in
@@ -106,13 +106,13 @@ module _ (w : ℕ → ℕ) where
 
   walk-out : (r i n k : ℕ) → Walked r i n k → rulesWalk w r i n k ≡ true
   unfolding rulesWalk rowStored ruleStored rowsOk all tab sums
-  walk-out zero i n k z = and-i _ _ (eq-eqb n (w 7) (omega (arith, z .words))) (eq-eqb k (w 8) (omega (arith, z .conclusions′)))
+  walk-out zero i n k z = and-i _ _ (eq-eqb n (w WORDS) (omega (arith, z .words))) (eq-eqb k (w CONCLUSIONS) (omega (arith, z .conclusions′)))
   walk-out (suc r) i n k z =
-      let t = both (same (tab w 6 (w 13 + i * 6)) (ruleRow (n, k) (ruleAt w i))) (rows r (suc i) (ruleNext (n, k) (ruleAt w i))) (z .table) in
+      let t = both (same (tab w 6 (w RULE-TABLE + i * 6)) (ruleRow (n, k) (ruleAt w i))) (rows r (suc i) (ruleNext (n, k) (ruleAt w i))) (z .table) in
       let x = both (conditionExact w i) (all (conditionExact w) (tab (λ j. j) r (suc i))) (z .exact) in
       let g = both (ruleOk (decode w) (ruleAt w i)) (all (ruleOk (decode w)) (tab (ruleAt w) r (suc i))) (z .good) in
-      let within = le-leb (n + wordCount w i) (w 7) (omega (arith, z .words)) in
-      let within′ = le-leb (k + conclusionCount w i) (w 8) (omega (arith, z .conclusions′)) in
+      let within = le-leb (n + wordCount w i) (w WORDS) (omega (arith, z .words)) in
+      let within′ = le-leb (k + conclusionCount w i) (w CONCLUSIONS) (omega (arith, z .conclusions′)) in
       and-i _ _
       (pass _ (
         eq-eqb _ _ (rule-words-row w i (n, k) (t .0) .0),
@@ -127,28 +127,28 @@ module _ (w : ℕ → ℕ) where
       }))
 
   -- THE WHOLE
-  to : rulesOk w ≡ true → every (tests (w 6) (w 7) (w 8)) ≡ true
+  to : rulesOk w ≡ true → every (tests (w RULES) (w WORDS) (w CONCLUSIONS)) ≡ true
   unfolding rulesOk ruleRows conditionRows decode
   to h =
       let s = passed _ h in
       let q = s .1 .1 .1 .1 in
-      let n : w 7 ≡ wordsIn w = eqb-true _ _ (s .1 .1 .0) in
-      let k : w 8 ≡ conclusionsIn w = eqb-true _ _ (s .1 .1 .1 .0) in
-      let z : Walked (w 6) 0 0 0 = record { table = s .0; exact = s .1 .0; good = q .1 .0; words = omega (arith, n); conclusions′ = omega (arith, k) } in
-      let a : leb (w 7) wordLimit ≡ true = ap (λ (x : ℕ). leb x wordLimit) (n ∙ sym (words-count w (s .0) (s .1 .0))) ∙ q .1 .1 .1 .0 in
-      let b : leb (w 8) conclusionLimit ≡ true = ap (λ (x : ℕ). leb x conclusionLimit) (k ∙ sym (conclusions-count w (s .0))) ∙ q .1 .1 .1 .1 .0 in
+      let n : w WORDS ≡ wordsIn w = eqb-true _ _ (s .1 .1 .0) in
+      let k : w CONCLUSIONS ≡ conclusionsIn w = eqb-true _ _ (s .1 .1 .1 .0) in
+      let z : Walked (w RULES) 0 0 0 = record { table = s .0; exact = s .1 .0; good = q .1 .0; words = omega (arith, n); conclusions′ = omega (arith, k) } in
+      let a : leb (w WORDS) wordLimit ≡ true = ap (λ (x : ℕ). leb x wordLimit) (n ∙ sym (words-count w (s .0) (s .1 .0))) ∙ q .1 .1 .1 .0 in
+      let b : leb (w CONCLUSIONS) conclusionLimit ≡ true = ap (λ (x : ℕ). leb x conclusionLimit) (k ∙ sym (conclusions-count w (s .0))) ∙ q .1 .1 .1 .1 .0 in
       pass _ (
         ap (between 1 ruleLimit) (sym (rules-count w)) ∙ q .0,
-        (a, (b, (walk-out (w 6) 0 0 0 z, (ap (distinct eqb) (sym numbers-are) ∙ q .1 .1 .0, tt)))),
+        (a, (b, (walk-out (w RULES) 0 0 0 z, (ap (distinct eqb) (sym numbers-are) ∙ q .1 .1 .0, tt)))),
       )
 
-  from : every (tests (w 6) (w 7) (w 8)) ≡ true → rulesOk w ≡ true
+  from : every (tests (w RULES) (w WORDS) (w CONCLUSIONS)) ≡ true → rulesOk w ≡ true
   unfolding rulesOk ruleRows conditionRows decode
   from h =
       let s = passed _ h in
-      let z = walk-in (w 6) 0 0 0 (s .1 .1 .1 .0) in
-      let n : w 7 ≡ wordsIn w = omega (arith, z .words) in
-      let k : w 8 ≡ conclusionsIn w = omega (arith, z .conclusions′) in
+      let z = walk-in (w RULES) 0 0 0 (s .1 .1 .1 .0) in
+      let n : w WORDS ≡ wordsIn w = omega (arith, z .words) in
+      let k : w CONCLUSIONS ≡ conclusionsIn w = omega (arith, z .conclusions′) in
       pass _ (
         z .table,
         (
@@ -175,5 +175,5 @@ module _ (w : ℕ → ℕ) where
         ),
       )
 
-  pub rules-words : (r n k : ℕ) → r ≡ w 6 → n ≡ w 7 → k ≡ w 8 → rulesOk w ≡ every (tests r n k)
-  rules-words r n k er en ek = rw (er, en, ek) (iff (rulesOk w) (every (tests (w 6) (w 7) (w 8))) to from)
+  pub rules-words : (r n k : ℕ) → r ≡ w RULES → n ≡ w WORDS → k ≡ w CONCLUSIONS → rulesOk w ≡ every (tests r n k)
+  rules-words r n k er en ek = rw (er, en, ek) (iff (rulesOk w) (every (tests (w RULES) (w WORDS) (w CONCLUSIONS))) to from)

@@ -3,7 +3,7 @@ ghost use mathlib.Core.Path.{_≡_};
 ghost use mathlib.Core.Bool.{true};
 ghost use Prim.Native.Nat.{_≤_};
 ghost use Rattle.model.specs.Image.{wordAt};
-ghost use Rattle.header.specs.Header.{Heads, Holds};
+ghost use Rattle.header.specs.Header.{Heads, Covers};
 ghost use Rattle.layout.specs.Tables.{inputTermsIn};
 ghost use Rattle.layout.specs.Groups.{tablesOk, rulesOk};
 ghost use Rattle.stored_rules.specs.Walk.{rulesWalk};
@@ -12,7 +12,7 @@ use header::Header;
 // All rules, whose condition words and conclusions add up to the header's totals.
 fn rows_ok(img: &[u8], h: Header, m: usize) -> bool
     requires { ⌜ (tablesOk (wordAt (now img)) ≡ true) × Heads (wordAt (now img)) h
-        × (m ≡ inputTermsIn (wordAt (now img))) × (m ≤ 4294967295) × Holds (now img) h ⌝ }
+        × (m ≡ inputTermsIn (wordAt (now img))) × (m ≤ 4294967295) × Covers (now img) h ⌝ }
     ensures { λ r. ⌜ r ≡ rulesWalk (wordAt (now (img .entry))) (h .rules) 0 0 0 ⌝ }
 {
     let e = h.rules;
@@ -37,7 +37,7 @@ fn rows_ok(img: &[u8], h: Header, m: usize) -> bool
 // The tables of rules, condition words and conclusions, where there are m input terms.
 pub fn rules_ok(img: &[u8], h: Header, m: usize) -> bool
     requires { ⌜ (tablesOk (wordAt (now img)) ≡ true) × Heads (wordAt (now img)) h
-        × (m ≡ inputTermsIn (wordAt (now img))) × (m ≤ 4294967295) × Holds (now img) h ⌝ }
+        × (m ≡ inputTermsIn (wordAt (now img))) × (m ≤ 4294967295) × Covers (now img) h ⌝ }
     ensures { λ r. ⌜ r ≡ rulesOk (wordAt (now (img .entry))) ⌝ }
 {
     if !bounds::within(1, bounds::RULES, h.rules) {

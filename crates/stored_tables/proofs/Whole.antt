@@ -6,6 +6,7 @@ use native.Mathlib.Omega.{arith}
 use lib.Dec.{eqb}
 use borrow.Author.Tests.{eq-eqb, ne-eqb}
 use Rattle.model.specs.Basic.{every}
+use Rattle.model.specs.Image.{TERMS}
 use Rattle.laws.proofs.Tests.{passed, pass, iff, clash}
 use Rattle.layout.specs.Tables.{inputTermsIn, outputTermsIn, headerOk, inputRows, outputRows, inputTermRows, outputTermRows, outputPointRows}
 use Rattle.layout.specs.Groups.{tablesOk}
@@ -30,7 +31,7 @@ module _ (t x k a b : ℕ) (et : t ≡ x) (ek : k ≡ a) where
     rest-are h = omega arith
 
 pub tables-left : (w : ℕ → ℕ) (k n : ℕ) → k ≡ inputTermsIn w → n ≡ outputTermsIn w
-    → headerOk w ≡ true → inputRows w ≡ true → outputRows w ≡ true → eqb (w 4) (inputTermsIn w + outputTermsIn w) ≡ true
+    → headerOk w ≡ true → inputRows w ≡ true → outputRows w ≡ true → eqb (w TERMS) (inputTermsIn w + outputTermsIn w) ≡ true
     → every (termTests w k n) ≡ tablesOk w
 unfolding tablesOk inputTermRows outputTermRows outputPointRows
 tables-left w k n ek en a b c d =

@@ -8,7 +8,7 @@ ghost use Rattle.model.specs.Basic.{every};
 ghost use Rattle.model.specs.Image.{wordAt, headerSize};
 ghost use Rattle.layout.specs.Tables.{sums, termCount, inputTermsIn, outputTermsIn, inputRows};
 ghost use Rattle.layout.specs.Groups.{tablesOk};
-ghost use Rattle.header.specs.Header.{Heads, Holds};
+ghost use Rattle.header.specs.Header.{Heads, Covers};
 ghost use Rattle.stored_tables.specs.Tests.{outputRowsFrom, termRowsTo, outputTermRowsFrom, outputPointsFrom, termTests};
 use header::Header;
 use stored_header::header_ok;
@@ -31,7 +31,7 @@ struct Rows {
 }
 
 fn input_rows(img: &[u8], h: Header) -> Rows
-    requires { ⌜ Heads (wordAt (now img)) h × Holds (now img) h ⌝ }
+    requires { ⌜ Heads (wordAt (now img)) h × Covers (now img) h ⌝ }
     ensures { λ r. ⌜ (r .ok ≡ inputRows (wordAt (now (img .entry))))
         × (r .ok ≡ true → r .next ≡ inputTermsIn (wordAt (now (img .entry)))) ⌝ }
 {
@@ -49,7 +49,7 @@ fn input_rows(img: &[u8], h: Header) -> Rows
 }
 
 fn output_rows(img: &[u8], h: Header, first: usize) -> Rows
-    requires { ⌜ Heads (wordAt (now img)) h × Holds (now img) h × (first ≤ 4294967295) ⌝ }
+    requires { ⌜ Heads (wordAt (now img)) h × Covers (now img) h × (first ≤ 4294967295) ⌝ }
     ensures { λ r. ⌜ (r .ok ≡ outputRowsFrom (wordAt (now (img .entry))) first)
         × (r .ok ≡ true → r .next ≡ first + outputTermsIn (wordAt (now (img .entry)))) ⌝ }
 {
@@ -68,7 +68,7 @@ fn output_rows(img: &[u8], h: Header, first: usize) -> Rows
 
 // The first n terms, which are those of the inputs.
 fn term_rows(img: &[u8], h: Header, n: usize) -> Rows
-    requires { ⌜ Heads (wordAt (now img)) h × Holds (now img) h × (n ≤ h .terms) ⌝ }
+    requires { ⌜ Heads (wordAt (now img)) h × Covers (now img) h × (n ≤ h .terms) ⌝ }
     ensures { λ r. ⌜ (r .ok ≡ termRowsTo (wordAt (now (img .entry))) n)
         × (r .ok ≡ true → r .next ≡ sums (termCount (wordAt (now (img .entry)))) n 0) ⌝ }
     ensures small { λ r. ⌜ r .next ≤ 18446744065119617025 ⌝ }
@@ -88,7 +88,7 @@ fn term_rows(img: &[u8], h: Header, n: usize) -> Rows
 
 // n terms from s on, of one point each, the first of which is point q.
 fn singleton_rows(img: &[u8], h: Header, s: usize, n: usize, q: usize) -> bool
-    requires { ⌜ Heads (wordAt (now img)) h × Holds (now img) h × (s + n ≤ h .terms) × (q ≤ 4294967295) ⌝ }
+    requires { ⌜ Heads (wordAt (now img)) h × Covers (now img) h × (s + n ≤ h .terms) × (q ≤ 4294967295) ⌝ }
     ensures { λ r. ⌜ r ≡ outputTermRowsFrom (wordAt (now (img .entry))) n s q ⌝ }
 {
     let e = s + n;
@@ -106,7 +106,7 @@ fn singleton_rows(img: &[u8], h: Header, s: usize, n: usize, q: usize) -> bool
 
 // The n points from s on are of degree 1.
 fn singleton_points(img: &[u8], h: Header, s: usize, n: usize) -> bool
-    requires { ⌜ Heads (wordAt (now img)) h × Holds (now img) h × (s + n ≤ h .points) ⌝ }
+    requires { ⌜ Heads (wordAt (now img)) h × Covers (now img) h × (s + n ≤ h .points) ⌝ }
     ensures { λ r. ⌜ r ≡ outputPointsFrom (wordAt (now (img .entry))) n s ⌝ }
 {
     let e = s + n;
@@ -122,7 +122,7 @@ fn singleton_points(img: &[u8], h: Header, s: usize, n: usize) -> bool
 
 // The terms and points of k input terms and n output terms.
 fn terms_ok(img: &[u8], h: Header, k: usize, n: usize) -> bool
-    requires { ⌜ Heads (wordAt (now img)) h × Holds (now img) h × (k + n ≤ h .terms) ⌝ }
+    requires { ⌜ Heads (wordAt (now img)) h × Covers (now img) h × (k + n ≤ h .terms) ⌝ }
     ensures { λ r. ⌜ r ≡ every (termTests (wordAt (now (img .entry))) k n) ⌝ }
 {
     let t = term_rows(img, h, k);

@@ -5,7 +5,7 @@ ghost use Prim.Native.Nat.{_+_, _≤_, _<_};
 ghost use Rattle.model.specs.Basic.{all, tab};
 ghost use Rattle.model.specs.WellFormed.{termOk};
 ghost use Rattle.model.specs.Image.{wordAt, termAt};
-ghost use Rattle.header.specs.Header.{Heads, Holds};
+ghost use Rattle.header.specs.Header.{Heads, Covers};
 ghost use Rattle.layout.specs.Tables.{inputTermsIn};
 ghost use Rattle.layout.specs.Groups.{tablesOk};
 ghost use Rattle.stored_terms.specs.Stored.{termsApart};
@@ -13,7 +13,7 @@ use header::Header;
 use words::whole_word;
 
 fn term_ok(img: &[u8], h: Header, t: usize) -> bool
-    requires { ⌜ Heads (wordAt (now img)) h × Holds (now img) h × (tablesOk (wordAt (now img)) ≡ true)
+    requires { ⌜ Heads (wordAt (now img)) h × Covers (now img) h × (tablesOk (wordAt (now img)) ≡ true)
         × (t < inputTermsIn (wordAt (now img))) ⌝ }
     ensures { λ r. ⌜ r ≡ termOk (termAt (wordAt (now (img .entry))) t) ⌝ }
 {
@@ -31,7 +31,7 @@ fn term_ok(img: &[u8], h: Header, t: usize) -> bool
 
 // The k terms from s on.
 pub fn terms_ok(img: &[u8], h: Header, s: usize, k: usize) -> bool
-    requires { ⌜ Heads (wordAt (now img)) h × Holds (now img) h × (tablesOk (wordAt (now img)) ≡ true)
+    requires { ⌜ Heads (wordAt (now img)) h × Covers (now img) h × (tablesOk (wordAt (now img)) ≡ true)
         × (s + k ≤ inputTermsIn (wordAt (now img))) ⌝ }
     ensures { λ r. ⌜ r ≡ all termOk (tab (termAt (wordAt (now (img .entry)))) k s) ⌝ }
 {
@@ -48,7 +48,7 @@ pub fn terms_ok(img: &[u8], h: Header, s: usize, k: usize) -> bool
 
 // The names of the k terms from s on are distinct.
 pub fn terms_apart(img: &[u8], h: Header, s: usize, k: usize) -> bool
-    requires { ⌜ Heads (wordAt (now img)) h × Holds (now img) h × (s + k ≤ h .terms) ⌝ }
+    requires { ⌜ Heads (wordAt (now img)) h × Covers (now img) h × (s + k ≤ h .terms) ⌝ }
     ensures { λ r. ⌜ r ≡ termsApart (wordAt (now (img .entry))) s k ⌝ }
 {
     distinct_names::distinct_ok(img, header::term_row(h, s), header::TERM_WIDTH, k)

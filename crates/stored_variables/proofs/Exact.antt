@@ -8,7 +8,7 @@ use native.Mathlib.Omega.{arith}
 use lib.Dec.{eqb}
 use borrow.Author.Tests.{eqb-true, eqb-false}
 use Rattle.model.specs.Basic.{same, tab}
-use Rattle.model.specs.Image.{nameWords, nameAt, termAt, singletonAt, inputAt, outputAt}
+use Rattle.model.specs.Image.{nameWords, nameAt, termAt, singletonAt, inputAt, outputAt, INPUT-TABLE, INPUTS, OUTPUT-TABLE, OUTPUTS, TERM-TABLE}
 use Rattle.laws.proofs.Tests.{both, passed}
 use Rattle.laws.proofs.Places.{at-cut}
 use Rattle.layout.specs.Rows.{rowsOk}
@@ -52,29 +52,29 @@ exact-rows enc next dec w o s f (suc n) i σ h =
     span (λ k. nameExact w (o + k * s) ≡ true) n i (f i σ (c .0)) (exact-rows enc next dec w o s f n (suc i) (next σ (dec i)) (c .1))
 
 module _ (w : ℕ → ℕ) where
-  inputs-exact : inputRows w ≡ true → Laid w (w 9) 7 (w 2) 0
+  inputs-exact : inputRows w ≡ true → Laid w (w INPUT-TABLE) 7 (w INPUTS) 0
   unfolding inputRows inputAt
-  inputs-exact h = exact-rows inputRow inputNext (inputAt w) w (w 9) 7 (λ i σ e. exact-row w (w 9 + i * 7) 7 _ e) (w 2) 0 0 h
+  inputs-exact h = exact-rows inputRow inputNext (inputAt w) w (w INPUT-TABLE) 7 (λ i σ e. exact-row w (w INPUT-TABLE + i * 7) 7 _ e) (w INPUTS) 0 0 h
 
-  outputs-exact : outputRows w ≡ true → Laid w (w 10) 11 (w 3) 0
+  outputs-exact : outputRows w ≡ true → Laid w (w OUTPUT-TABLE) 11 (w OUTPUTS) 0
   unfolding outputRows outputAt
-  outputs-exact h = exact-rows outputRow outputNext (outputAt w) w (w 10) 11 (λ i σ e. exact-row w (w 10 + i * 11) 11 _ e) (w 3) 0 (inputTermsIn w) h
+  outputs-exact h = exact-rows outputRow outputNext (outputAt w) w (w OUTPUT-TABLE) 11 (λ i σ e. exact-row w (w OUTPUT-TABLE + i * 11) 11 _ e) (w OUTPUTS) 0 (inputTermsIn w) h
 
-  input-terms-exact : inputTermRows w ≡ true → Laid w (w 11) 6 (inputTermsIn w) 0
+  input-terms-exact : inputTermRows w ≡ true → Laid w (w TERM-TABLE) 6 (inputTermsIn w) 0
   unfolding inputTermRows termAt
-  input-terms-exact h = exact-rows termRow termNext (termAt w) w (w 11) 6 (λ i σ e. exact-row w (w 11 + i * 6) 6 _ e) (inputTermsIn w) 0 0 h
+  input-terms-exact h = exact-rows termRow termNext (termAt w) w (w TERM-TABLE) 6 (λ i σ e. exact-row w (w TERM-TABLE + i * 6) 6 _ e) (inputTermsIn w) 0 0 h
 
-  output-terms-exact : outputTermRows w ≡ true → Laid w (w 11) 6 (outputTermsIn w) (inputTermsIn w)
+  output-terms-exact : outputTermRows w ≡ true → Laid w (w TERM-TABLE) 6 (outputTermsIn w) (inputTermsIn w)
   unfolding outputTermRows singletonAt
   output-terms-exact h =
-      exact-rows termRow termNext (outputTermAt w) w (w 11) 6 (λ i σ e. exact-row w (w 11 + i * 6) 6 _ e) (outputTermsIn w) (inputTermsIn w) (inputPointsIn w) h
+      exact-rows termRow termNext (outputTermAt w) w (w TERM-TABLE) 6 (λ i σ e. exact-row w (w TERM-TABLE + i * 6) 6 _ e) (outputTermsIn w) (inputTermsIn w) (inputPointsIn w) h
 
   -- all names are exact
   pub record Names : Type 0 where
-    pub inputs : Laid w (w 9) 7 (w 2) 0
-    pub outputs : Laid w (w 10) 11 (w 3) 0
-    pub inputTerms : (i : ℕ) → i < w 2 → Laid w (w 11) 6 (inputCount w i) (inputFirst w i)
-    pub outputTerms : (i : ℕ) → i < w 3 → Laid w (w 11) 6 (outputCount w i) (outputFirstAt w i)
+    pub inputs : Laid w (w INPUT-TABLE) 7 (w INPUTS) 0
+    pub outputs : Laid w (w OUTPUT-TABLE) 11 (w OUTPUTS) 0
+    pub inputTerms : (i : ℕ) → i < w INPUTS → Laid w (w TERM-TABLE) 6 (inputCount w i) (inputFirst w i)
+    pub outputTerms : (i : ℕ) → i < w OUTPUTS → Laid w (w TERM-TABLE) 6 (outputCount w i) (outputFirstAt w i)
 
   pub exact-names : tablesOk w ≡ true → Names
   unfolding tablesOk
@@ -88,9 +88,9 @@ module _ (w : ℕ → ℕ) where
         inputs = inputs-exact ir;
         outputs = outputs-exact or;
         inputTerms = λ i l k a b.
-            let q = run-ends (inputFirst w) (inputCount w) (w 2) 0 0 i (omega arith) (omega arith) (inputFirsts-run w ir) in
+            let q = run-ends (inputFirst w) (inputCount w) (w INPUTS) 0 0 i (omega arith) (omega arith) (inputFirsts-run w ir) in
             ti k (omega arith) (omega (arith, q .1));
         outputTerms = λ i l k a b.
-            let q = run-ends (outputFirstAt w) (outputCount w) (w 3) 0 (inputTermsIn w) i (omega arith) (omega arith) (outputFirsts-run w or) in
+            let q = run-ends (outputFirstAt w) (outputCount w) (w OUTPUTS) 0 (inputTermsIn w) i (omega arith) (omega arith) (outputFirsts-run w or) in
             to k (omega (arith, q .0)) (omega (arith, q .1));
       }

@@ -7,7 +7,7 @@ use Rattle.model.specs.Basic.{between, every, all, distinct, same, tab}
 use Rattle.model.specs.Bounds.{termLimit}
 use Rattle.model.specs.Tokens.{isName}
 use Rattle.model.specs.WellFormed.{termOk}
-use Rattle.model.specs.Image.{inputPlace, nameAt, termAt}
+use Rattle.model.specs.Image.{inputPlace, nameAt, termAt, INPUT-TABLE, INPUTS, OUTPUT-TABLE, OUTPUTS}
 use Rattle.name_letters.specs.Letters.{lettersAt, wordsIn, apart}
 use Rattle.stored_terms.specs.Stored.{termsApart}
 use Rattle.stored_variables.specs.Stored.{inputStored, variablesApart}
@@ -27,7 +27,7 @@ module _ (w : ℕ → ℕ) where
   unfolding inputStored
   input-spelt i o k s eo ek es = rw (ek, es, eo)
 
-  pub apart-spelt : (a b n m : ℕ) → a ≡ w 9 → b ≡ w 10 → n ≡ w 2 → m ≡ w 3
+  pub apart-spelt : (a b n m : ℕ) → a ≡ w INPUT-TABLE → b ≡ w OUTPUT-TABLE → n ≡ w INPUTS → m ≡ w OUTPUTS
       → distinct same (tab (wordsIn (lettersAt w) a 7) n 0)
       && (apart same (tab (wordsIn (lettersAt w) a 7) n 0) (tab (wordsIn (lettersAt w) b 11) m 0) && distinct same (tab (wordsIn (lettersAt w) b 11) m 0))
       ≡ variablesApart w

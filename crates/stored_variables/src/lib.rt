@@ -4,7 +4,7 @@ ghost use mathlib.Core.Bool.{true};
 ghost use Prim.Native.Nat.{_<_};
 ghost use Rattle.model.specs.Basic.{all, tab};
 ghost use Rattle.model.specs.Image.{wordAt};
-ghost use Rattle.header.specs.Header.{Heads, Holds};
+ghost use Rattle.header.specs.Header.{Heads, Covers};
 ghost use Rattle.layout.specs.Groups.{tablesOk, variablesOk};
 ghost use Rattle.stored_variables.specs.Stored.{inputStored, variablesApart};
 use bounds::within;
@@ -14,7 +14,7 @@ use stored_names::name_ok;
 use words::whole_word;
 
 fn input_ok(img: &[u8], h: Header, i: usize) -> bool
-    requires { ⌜ Heads (wordAt (now img)) h × Holds (now img) h × (tablesOk (wordAt (now img)) ≡ true)
+    requires { ⌜ Heads (wordAt (now img)) h × Covers (now img) h × (tablesOk (wordAt (now img)) ≡ true)
         × (i < h .inputs) ⌝ }
     ensures { λ r. ⌜ r ≡ inputStored (wordAt (now (img .entry))) i ⌝ }
 {
@@ -34,7 +34,7 @@ fn input_ok(img: &[u8], h: Header, i: usize) -> bool
 }
 
 fn inputs_ok(img: &[u8], h: Header) -> bool
-    requires { ⌜ Heads (wordAt (now img)) h × Holds (now img) h × (tablesOk (wordAt (now img)) ≡ true) ⌝ }
+    requires { ⌜ Heads (wordAt (now img)) h × Covers (now img) h × (tablesOk (wordAt (now img)) ≡ true) ⌝ }
     ensures { λ r. ⌜ r ≡ all (inputStored (wordAt (now (img .entry)))) (tab (λ i. i) (h .inputs) 0) ⌝ }
 {
     let mut i: usize = 0;
@@ -49,7 +49,7 @@ fn inputs_ok(img: &[u8], h: Header) -> bool
 
 // The names of the inputs and outputs are distinct.
 fn variables_apart(img: &[u8], h: Header) -> bool
-    requires { ⌜ Heads (wordAt (now img)) h × Holds (now img) h ⌝ }
+    requires { ⌜ Heads (wordAt (now img)) h × Covers (now img) h ⌝ }
     ensures { λ r. ⌜ r ≡ variablesApart (wordAt (now (img .entry))) ⌝ }
 {
     if !distinct_ok(img, h.input_table, header::INPUT_WIDTH, h.inputs) {
@@ -71,7 +71,7 @@ fn variables_apart(img: &[u8], h: Header) -> bool
 
 // Names, counts, terms and points are those of the variables of a block.
 pub fn variables_ok(img: &[u8], h: Header) -> bool
-    requires { ⌜ (tablesOk (wordAt (now img)) ≡ true) × Heads (wordAt (now img)) h × Holds (now img) h ⌝ }
+    requires { ⌜ (tablesOk (wordAt (now img)) ≡ true) × Heads (wordAt (now img)) h × Covers (now img) h ⌝ }
     ensures { λ r. ⌜ r ≡ variablesOk (wordAt (now (img .entry))) ⌝ }
 {
     if !name_ok(img, header::BLOCK_NAME) {

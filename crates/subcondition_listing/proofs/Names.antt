@@ -7,7 +7,7 @@ use lib.ListN.{length, getD, length-map, List·getD-append}
 use lib.Seq.{getD-append-add}
 use Rattle.model.specs.Basic.{gather, tab}
 use Rattle.model.specs.Block.{Term, Input}
-use Rattle.model.specs.Image.{nameAt, termAt, inputAt, decode, inputPlace, termPlace}
+use Rattle.model.specs.Image.{nameAt, termAt, inputAt, decode, inputPlace, termPlace, INPUTS}
 use Rattle.model.specs.Listing.{TermNames, inputTermNames, inputTermName}
 use Rattle.laws.proofs.Lists.{map-tab}
 use Rattle.laws.proofs.Places.{length-tab, tab-nth}
@@ -32,13 +32,13 @@ module _ (w : ℕ → ℕ) (t : ℕ) where
   -- the names of term t are among those of the inputs from i on, of which p is the first term
   unfoldable pub Among : ℕ → Type 0
   Among i =
-      (p : ℕ) × (p ≤ t) × Runs (inputFirst w) (inputCount w) (w 2 - i) i p
-      × (inputTermName (decode w) t ≡ getD (gather namesIn (tab (inputAt w) (w 2 - i) i)) (t - p) nameless)
+      (p : ℕ) × (p ≤ t) × Runs (inputFirst w) (inputCount w) (w INPUTS - i) i p
+      × (inputTermName (decode w) t ≡ getD (gather namesIn (tab (inputAt w) (w INPUTS - i) i)) (t - p) nameless)
 
   pub among-all : Sound w → Among 0
   unfolding Among inputTermName inputTermNames decode tablesOk
   among-all s =
-      let z : w 2 - 0 ≡ w 2 = omega arith in
+      let z : w INPUTS - 0 ≡ w INPUTS = omega arith in
       let e : t - 0 ≡ t = omega arith in
       (0, omega arith, rw z (inputFirsts-run w (passed _ (s .frame) .1 .0)), rw (z, e) refl)
 
@@ -59,14 +59,14 @@ module _ (w : ℕ → ℕ) (t : ℕ) where
       ∙ ap (λ (j : ℕ). g (termAt w j)) e
 
   -- by the words that the code reads: first term and number of terms of input i
-  module _ (i first count : ℕ) (h : i < w 2) (ef : first ≡ inputFirst w i) (ec : count ≡ inputCount w i) where
+  module _ (i first count : ℕ) (h : i < w INPUTS) (ef : first ≡ inputFirst w i) (ec : count ≡ inputCount w i) where
     pub among-next : first + count ≤ t → Among i → Among (i + 1)
     unfolding Among gather tab Runs
     among-next l (p, q, r, e) =
-        let s : w 2 - i ≡ suc (w 2 - (i + 1)) = omega arith in
+        let s : w INPUTS - i ≡ suc (w INPUTS - (i + 1)) = omega arith in
         let o : suc i ≡ i + 1 = omega arith in
         let r′ = rw (s, o) at r in
-        let rest = gather namesIn (tab (inputAt w) (w 2 - (i + 1)) (i + 1)) in
+        let rest = gather namesIn (tab (inputAt w) (w INPUTS - (i + 1)) (i + 1)) in
         let n = length-names i in
         let k : t - p ≡ length (namesIn (inputAt w i)) + (t - (p + inputCount w i)) = omega (arith, r′ .0) in
         let e′ = rw (s, o) at e in (
@@ -80,18 +80,18 @@ module _ (w : ℕ → ℕ) (t : ℕ) where
     pub among-found : t < first + count → Among i → inputTermName (decode w) t ≡ namesBy i
     unfolding Among gather tab Runs
     among-found l (p, q, r, e) =
-        let s : w 2 - i ≡ suc (w 2 - (i + 1)) = omega arith in
+        let s : w INPUTS - i ≡ suc (w INPUTS - (i + 1)) = omega arith in
         let r′ = rw s at r in
         let e′ = rw s at e in
-        let rest = gather namesIn (tab (inputAt w) (w 2 - (i + 1)) (suc i)) in
+        let rest = gather namesIn (tab (inputAt w) (w INPUTS - (i + 1)) (suc i)) in
         let n = length-names i in
         e′ ∙ List·getD-append (namesIn (inputAt w i)) rest nameless (t - p) (omega (arith, r′ .0))
         ∙ ap (λ (x : ℕ). getD (namesIn (inputAt w i)) (t - x) nameless) (sym (r′ .0))
         ∙ nth-names i (omega (arith, r′ .0)) (omega arith)
 
-  pub among-none : (i : ℕ) → w 2 ≤ i → Among i → inputTermName (decode w) t ≡ nameless
+  pub among-none : (i : ℕ) → w INPUTS ≤ i → Among i → inputTermName (decode w) t ≡ nameless
   unfolding Among gather tab
-  among-none i h (p, q, r, e) = let s : w 2 - i ≡ 0 = omega arith in rw s at e
+  among-none i h (p, q, r, e) = let s : w INPUTS - i ≡ 0 = omega arith in rw s at e
 
 -- THE TEXT of a term, by its names
 module _ {k : ℕ} {s old new : List ℕ} (v : TermNames) where

@@ -4,7 +4,7 @@ ghost use mathlib.Core.List.{[]};
 ghost use Prim.Native.Nat.{_+_, _≤_};
 ghost use Rattle.model.specs.Basic.{tab};
 ghost use Rattle.model.specs.Image.{wordAt, pointAt};
-ghost use Rattle.header.specs.Header.{Heads, Holds};
+ghost use Rattle.header.specs.Header.{Heads, Covers};
 ghost use Rattle.term_points.specs.Points.{pointsAfter};
 use header::Header;
 use model::Crisp;
@@ -14,7 +14,7 @@ use term_rules::LastTwo;
 
 // The k points from s on, and the order of their positions.
 pub fn points_ok(img: &[u8], h: Header, s: usize, k: usize) -> bool
-    requires { ⌜ Heads (wordAt (now img)) h × Holds (now img) h × (s + k ≤ h .points) ⌝ }
+    requires { ⌜ Heads (wordAt (now img)) h × Covers (now img) h × (s + k ≤ h .points) ⌝ }
     ensures { λ r. ⌜ r ≡ pointsAfter [] (tab (pointAt (wordAt (now (img .entry)))) k s) ⌝ }
 {
     let none = Crisp(0);

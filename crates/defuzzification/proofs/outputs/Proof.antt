@@ -7,7 +7,7 @@ use lib.IntN.{ℤ, pos}
 use lib.ListN.{length, length-map, getD, set, replicate}
 use Rattle.model.specs.Basic.{total, tab}
 use Rattle.model.specs.Bounds.{M, outputLimit, termLimit, outputTermLimit}
-use Rattle.model.specs.Image.{wordAt, singletonAt}
+use Rattle.model.specs.Image.{wordAt, singletonAt, OUTPUTS}
 use Rattle.model.specs.Evaluation.{noAnswer, padded, heldOf}
 use Rattle.model.specs.declared.Answer.{Answer}
 use Rattle.model.specs.declared.Crisp.{Crisp}
@@ -255,12 +255,12 @@ returns c =
     let held = s .args .held in
     let h = heightOf (s .args .t3) (s .args .m) in
     let f = answerAt w h (held .figures) in
-    let e : l .loop .i ≡ w 3 = omega (arith, s .pre .0 .heads .outputs) in
+    let e : l .loop .i ≡ w OUTPUTS = omega (arith, s .pre .0 .heads .outputs) in
     let k : length (held .figures) ≡ outputLimit = sym (length-map (held .figures) _) ∙ s .good .1 .1 .1 .1 .0 .1 .1 .0 .1 .0 .1 in
-    let g : answersBy w (s .args .t3) (s .args .m) held ≡ tab f (w 3) 0 = answers-are w h (held .figures) (s .pre .0 .sound) k in (
-      l .loop .inv .2 ∙ ap (λ (n : ℕ). tab f n 0 ++ replicate (outputLimit - n) noAnswer) e ∙ padded-is f (w 3) ∙ ap (padded noAnswer) (sym g),
+    let g : answersBy w (s .args .t3) (s .args .m) held ≡ tab f (w OUTPUTS) 0 = answers-are w h (held .figures) (s .pre .0 .sound) k in (
+      l .loop .inv .2 ∙ ap (λ (n : ℕ). tab f n 0 ++ replicate (outputLimit - n) noAnswer) e ∙ padded-is f (w OUTPUTS) ∙ ap (padded noAnswer) (sym g),
       ap (λ (x : List Crisp). record { figures = x })
-          (l .loop .inv .3 ∙ ap (λ (n : ℕ). tab (λ j. f j .thousandths) n 0 ++ replicate (outputLimit - n) (record { 0 = pos 0 })) e ∙ held-is f (w 3))
+          (l .loop .inv .3 ∙ ap (λ (n : ℕ). tab (λ j. f j .thousandths) n 0 ++ replicate (outputLimit - n) (record { 0 = pos 0 })) e ∙ held-is f (w OUTPUTS))
           ∙ ap (λ (x : List Answer). heldOf (map (λ a. a .thousandths .0) x)) (sym g),
     )
 

@@ -13,7 +13,7 @@ use Rattle.model.specs.declared.Degree.{Degree}
 use Rattle.model.specs.Basic.{all, tab}
 use Rattle.model.specs.Degrees.{termDegree}
 use Rattle.model.specs.Evaluation.{termDegrees}
-use Rattle.model.specs.Image.{wordAt, termAt, inputAt, decode}
+use Rattle.model.specs.Image.{wordAt, termAt, inputAt, decode, INPUTS}
 use Rattle.model.specs.WellFormed.{termOk}
 use Rattle.laws.proofs.Arrays.{each-start, each-set, map-set}
 use Rattle.laws.proofs.Lists.{all-at}
@@ -193,7 +193,7 @@ returns c =
     let s = c .before .before .before in
     let w = wordAt (s .args .img .now) in
     let xs = figures (s .args .t3) in
-    let e : l .i ≡ w 2 = omega (arith, s .pre .0 .heads .inputs) in
+    let e : l .i ≡ w INPUTS = omega (arith, s .pre .0 .heads .inputs) in
     let n = length-map (s .args .t3) (λ (x : Crisp). x .0) in
     let long = length-degrees w (l .i) 0 xs (omega (arith, s .good, n)) in (
       l .inv .4

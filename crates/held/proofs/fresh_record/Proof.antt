@@ -7,7 +7,7 @@ use lib.IntN.{ℤ, pos}
 use lib.ListN.{set, replicate}
 use Rattle.model.specs.Basic.{tab}
 use Rattle.model.specs.Bounds.{outputLimit}
-use Rattle.model.specs.Image.{wordAt, outputAt, decode}
+use Rattle.model.specs.Image.{wordAt, outputAt, decode, OUTPUTS}
 use Rattle.model.specs.Evaluation.{startOf, heldOf, freshOf}
 use Rattle.model.specs.declared.Crisp.{Crisp}
 use Rattle.laws.proofs.Lists.{map-tab}
@@ -67,10 +67,10 @@ returns c =
     let t = l .before .before in
     let w = wordAt (t .args .img .now) in
     let f : ℕ → ℤ = λ j. startOf (outputAt w j .range) in
-    let e : l .loop .i ≡ w 3 = omega (arith, t .pre .heads .outputs) in
+    let e : l .loop .i ≡ w OUTPUTS = omega (arith, t .pre .heads .outputs) in
     ap (λ (x : List Crisp). record { figures = x })
-    (l .loop .inv .2 ∙ ap (λ (n : ℕ). tab (λ j. record { 0 = f j }) n 0 ++ replicate (outputLimit - n) (record { 0 = pos 0 })) e ∙ held-tab f (w 3))
-    ∙ ap heldOf (sym (map-tab (λ v. startOf (v .range)) (outputAt w) (w 3) 0))
+    (l .loop .inv .2 ∙ ap (λ (n : ℕ). tab (λ j. record { 0 = f j }) n 0 ++ replicate (outputLimit - n) (record { 0 = pos 0 })) e ∙ held-tab f (w OUTPUTS))
+    ∙ ap heldOf (sym (map-tab (λ v. startOf (v .range)) (outputAt w) (w OUTPUTS) 0))
 
 pub fresh-record-spec : {M : Type 1} → statement M
 fresh-record-spec =

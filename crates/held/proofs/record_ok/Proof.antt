@@ -6,7 +6,7 @@ use borrow.Author.Tests.{not-true, not-false}
 use lib.ListN.{length, length-map}
 use Rattle.model.specs.Basic.{all, tab}
 use Rattle.model.specs.Bounds.{outputLimit}
-use Rattle.model.specs.Image.{wordAt, decode}
+use Rattle.model.specs.Image.{wordAt, decode, OUTPUTS}
 use Rattle.model.specs.Evaluation.{figuresOf, heldOk}
 use Rattle.layout.proofs.Sound.{outputs-few}
 use Rattle.held.specs.Places.{fits, isZero}
@@ -29,7 +29,7 @@ tests s =
     let held = s .args .held in
     let l : length (held .figures) ≡ outputLimit = sym (length-map (held .figures) _) ∙ s .good .1 .1 .0 .1 .1 .0 .1 .0 .1 in
     let e = sym (s .pre .heads .outputs) in
-    held-tests held w (w 3) l (outputs-few w (s .pre .sound))
+    held-tests held w (w OUTPUTS) l (outputs-few w (s .pre .sound))
     ∙ (λ j. all (fits w held) (tab (λ x. x) (e j) 0) && all (isZero held) (tab (λ x. x) (outputLimit - e j) (e j)))
 
 figures-ok-requires : tie.Need-figures-ok-requires

@@ -8,7 +8,7 @@ use borrow.Author.Tests.{eq-eqb, ne-eqb, not-true, not-false}
 use lib.ListN.{getD}
 use Rattle.model.specs.Basic.{every}
 use Rattle.model.specs.Image.{wordAt, decode, isImageOf}
-use Rattle.header.specs.Header.{Heads, Holds}
+use Rattle.header.specs.Header.{Heads, Covers}
 use Rattle.layout.specs.Groups.{tablesOk, variablesOk}
 use Rattle.layout.proofs.Within.{holds}
 use Rattle.laws.proofs.Tests.{passed, one-fails, last-decides}
@@ -36,7 +36,7 @@ framed c = sym (c .before .before .tables-ok .ensures .0 .0) ∙ not-false _ (c 
 
 held : (c : tie.Else3) →
     let w = c .before .before .before .before in
-    Holds (w .before .before .before .before .args .img .now) (w .before .header-of .result)
+    Covers (w .before .before .before .before .args .img .now) (w .before .header-of .result)
 unfolding tablesOk
 held c =
     let t = c .before .before .before in

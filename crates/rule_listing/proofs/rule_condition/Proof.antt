@@ -2,7 +2,7 @@ use mathlib.Core.Path.{_≡_}
 use Prim.Native.Nat.{_+_, _*_, _≤_}
 use native.Mathlib.Omega.{arith}
 use lib.ListN.{length}
-use Rattle.model.specs.Image.{wordAt, ruleAt}
+use Rattle.model.specs.Image.{wordAt, ruleAt, WORD-TABLE}
 use Rattle.laws.proofs.Places.{field}
 use Rattle.layout.specs.Tables.{wordCount}
 use Rattle.layout.proofs.Parts.{wordFirst}
@@ -78,7 +78,7 @@ returns c =
     let s = v .before .before .before .before .before in
     let w = wordAt (s .args .img .now) in
     let r = reads-are v in
-    let at : s .args .h .«word_table» + v .before .whole-word .result ≡ w 14 + wordFirst w (s .args .i)
+    let at : s .args .h .«word_table» + v .before .whole-word .result ≡ w WORD-TABLE + wordFirst w (s .args .i)
     = λ j. s .pre .0 .heads .word-table j + r .0 j in
     p .condition .ensures .0 _ (ruleAt w (s .args .i) .condition) (rule-spans w (s .pre .0 .sound) (s .args .i) (s .pre .1) _ _ at (r .1)) .1
 

@@ -4,7 +4,7 @@ use mathlib.Core.List.{[], _∷_}
 use Prim.Native.Nat.{_+_}
 use borrow.Author.Tests.{not-true, not-false}
 use Rattle.model.specs.Basic.{every}
-use Rattle.model.specs.Image.{wordAt}
+use Rattle.model.specs.Image.{wordAt, WORD-TABLE}
 use Rattle.layout.proofs.Parts.{wordFirst}
 use Rattle.laws.proofs.Tests.{one-fails, last-decides}
 use Rattle.rule_rows.specs.Rows.{ruleStored}
@@ -61,7 +61,7 @@ returns-4 c =
     let a = s .args in
     let w = wordAt (a .img .now) in
     let q = s .pre .5 in
-    let d : a .h .«word_table» + a .p .«word_first» ≡ w 14 + wordFirst w (a .i) = λ j. s .pre .1 .word-table j + q .word-first j in
+    let d : a .h .«word_table» + a .p .«word_first» ≡ w WORD-TABLE + wordFirst w (a .i) = λ j. s .pre .1 .word-table j + q .word-first j in
     c .stored-condition .ensures
     ∙ condition-stored w (s .pre .0) (a .m) (s .pre .2) (a .i) _ _ d (q .words)
     ∙ sym (read s ∙ last-decides (_ ∷ _ ∷ _ ∷ []) _ (

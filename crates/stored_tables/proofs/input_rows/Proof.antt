@@ -5,7 +5,7 @@ use native.Mathlib.Omega.{arith}
 use lib.ListN.{length}
 use borrow.Author.Needs.{needs}
 use borrow.Author.Tests.{not-true, not-false}
-use Rattle.model.specs.Image.{wordAt, inputAt}
+use Rattle.model.specs.Image.{wordAt, inputAt, INPUT-TABLE}
 use Rattle.header.proofs.Laws.{small}
 use Rattle.layout.specs.Tables.{inputCount, inputNext, inputRow, inputRows, inputTermsIn}
 use Rattle.laws.proofs.Tests.{clash}
@@ -31,7 +31,7 @@ loop-holds c =
     let start = c .before in
     let w = wordAt (start .args .img .now) in
     let e = start .pre .0 .inputs in
-    (search needs, (search needs, (rows-start inputRow inputNext (inputAt w) w (w 9) 7 0 _ _ e, count-start (inputCount w) 0 _ _ e)))
+    (search needs, (search needs, (rows-start inputRow inputNext (inputAt w) w (w INPUT-TABLE) 7 0 _ _ e, count-start (inputCount w) 0 _ _ e)))
 
 input-row-requires : tie.Need-input-row-requires Inv-loop μ-loop
 input-row-requires c κs = let s = small (c .before .before .before .before .pre .0) in search needs
@@ -55,7 +55,7 @@ returns c =
     let h = turn .before .if1 .taken in
     let r = input-row w (l .i) (l .p) in
     let t = seen (λ (k : ℕ). inputTest w k (l .p)) _ _ _ _ _ o (c .before .input-ok .ensures) (not-true _ (c .if2 .taken)) r in
-    (rows-stop inputRow inputNext (inputAt w) w (w 9) 7 _ (l .i) (l .p) _ h t (l .inv .1 .1 .0), (λ q. clash q))
+    (rows-stop inputRow inputNext (inputAt w) w (w INPUT-TABLE) 7 _ (l .i) (l .p) _ h t (l .inv .1 .1 .0), (λ q. clash q))
 
 add-whole-word : tie.Need-add-whole-word Inv-loop μ-loop
 add-whole-word c = search needs
@@ -84,7 +84,7 @@ loop-again c =
     let r = input-row w (l .i) (l .p) in
     let t = seen (λ (k : ℕ). inputTest w k (l .p)) _ _ _ _ _ o (c .before .before .input-ok .ensures) (not-false _ (c .before .if2 .left)) r in
     let n = input-next w (l .i) (l .p) ∙ ap (λ (k : ℕ). l .p + k) (sym x) in
-    let more = rows-more inputRow inputNext (inputAt w) w (w 9) 7 _ (l .i) (l .p) _ _ h t n (l .inv .1 .1 .0) in
+    let more = rows-more inputRow inputNext (inputAt w) w (w INPUT-TABLE) 7 _ (l .i) (l .p) _ _ h t n (l .inv .1 .1 .0) in
     (search needs, (search needs, (more, count-more (inputCount w) _ (l .i) (l .p) _ _ h x (l .inv .1 .1 .1))))
 
 returns-2 : tie.Need-returns-2 Inv-loop μ-loop
@@ -93,7 +93,7 @@ returns-2 c =
     let w = wordAt (c .before .before .before .before .args .img .now) in
     let h = c .if1 .left in
     let count = count-end (inputCount w) _ (l .i) (l .p) _ h (l .inv .1 .1 .1) in
-    (rows-end inputRow inputNext (inputAt w) w (w 9) 7 _ (l .i) (l .p) _ h (l .inv .1 .1 .0), (λ q. count ∙ zero-add _))
+    (rows-end inputRow inputNext (inputAt w) w (w INPUT-TABLE) 7 _ (l .i) (l .p) _ h (l .inv .1 .1 .0), (λ q. count ∙ zero-add _))
 
 pub input-rows-spec : {M : Type 1} → statement M
 input-rows-spec =

@@ -4,7 +4,7 @@ use native.Mathlib.Omega.{arith}
 use lib.ListN.{length}
 use borrow.Author.Needs.{needs}
 use borrow.Author.Tests.{not-true, not-false}
-use Rattle.model.specs.Image.{wordAt, outputAt}
+use Rattle.model.specs.Image.{wordAt, outputAt, OUTPUT-TABLE}
 use Rattle.header.proofs.Laws.{small}
 use Rattle.layout.specs.Tables.{outputCount, outputNext, outputRow, outputTermsIn}
 use Rattle.laws.proofs.Tests.{clash}
@@ -31,7 +31,7 @@ loop-holds c =
     let w = wordAt (start .args .img .now) in
     let e = start .pre .0 .outputs in
     let p = start .args .first in
-    (search needs, (search needs, (rows-start outputRow outputNext (outputAt w) w (w 10) 11 p _ _ e, count-start (outputCount w) p _ _ e)))
+    (search needs, (search needs, (rows-start outputRow outputNext (outputAt w) w (w OUTPUT-TABLE) 11 p _ _ e, count-start (outputCount w) p _ _ e)))
 
 output-row-requires : tie.Need-output-row-requires Inv-loop μ-loop
 output-row-requires c κs = let s = small (c .before .before .before .before .pre .0) in search needs
@@ -55,7 +55,7 @@ returns c =
     let h = turn .before .if1 .taken in
     let r = output-row w (start .pre .0 .fits) (l .i) (l .p) in
     let t = seen (λ (k : ℕ). outputTest w k (l .p)) _ _ _ _ _ o (c .before .output-ok .ensures) (not-true _ (c .if2 .taken)) r in
-    (rows-stop outputRow outputNext (outputAt w) w (w 10) 11 _ (l .i) (l .p) _ h t (l .inv .1 .1 .0), (λ q. clash q))
+    (rows-stop outputRow outputNext (outputAt w) w (w OUTPUT-TABLE) 11 _ (l .i) (l .p) _ h t (l .inv .1 .1 .0), (λ q. clash q))
 
 add-whole-word : tie.Need-add-whole-word Inv-loop μ-loop
 add-whole-word c = search needs
@@ -84,7 +84,7 @@ loop-again c =
     let r = output-row w (start .pre .0 .fits) (l .i) (l .p) in
     let t = seen (λ (k : ℕ). outputTest w k (l .p)) _ _ _ _ _ o (c .before .before .output-ok .ensures) (not-false _ (c .before .if2 .left)) r in
     let n = output-next w (l .i) (l .p) ∙ ap (λ (k : ℕ). l .p + k) (sym x) in
-    let more = rows-more outputRow outputNext (outputAt w) w (w 10) 11 _ (l .i) (l .p) _ _ h t n (l .inv .1 .1 .0) in
+    let more = rows-more outputRow outputNext (outputAt w) w (w OUTPUT-TABLE) 11 _ (l .i) (l .p) _ _ h t n (l .inv .1 .1 .0) in
     (search needs, (search needs, (more, count-more (outputCount w) _ (l .i) (l .p) _ _ h x (l .inv .1 .1 .1))))
 
 returns-2 : tie.Need-returns-2 Inv-loop μ-loop
@@ -93,7 +93,7 @@ returns-2 c =
     let w = wordAt (c .before .before .before .before .args .img .now) in
     let h = c .if1 .left in
     let count = count-end (outputCount w) _ (l .i) (l .p) _ h (l .inv .1 .1 .1) in
-    (rows-end outputRow outputNext (outputAt w) w (w 10) 11 _ (l .i) (l .p) _ h (l .inv .1 .1 .0), (λ q. count))
+    (rows-end outputRow outputNext (outputAt w) w (w OUTPUT-TABLE) 11 _ (l .i) (l .p) _ h (l .inv .1 .1 .0), (λ q. count))
 
 pub output-rows-spec : {M : Type 1} → statement M
 output-rows-spec =

@@ -2,7 +2,7 @@ use mathlib.Core.Path.{refl, ap, _∙_}
 use Prim.Native.Nat.{ℕ, _+_, _-_, _≤_}
 use native.Mathlib.Omega.{arith}
 use borrow.Author.Needs.{needs}
-use Rattle.model.specs.Image.{wordAt, pointWords}
+use Rattle.model.specs.Image.{wordAt, pointWords, POINT-TABLE}
 use Rattle.header.proofs.Laws.{small}
 use Rattle.layout.specs.Tables.{alone, onward, outputPointAt}
 use Rattle.stored_tables.specs.Tests.{outputPointsFrom}
@@ -27,7 +27,7 @@ loop-holds : tie.Need-loop-holds Inv-loop μ-loop
 loop-holds c =
     let a = c .before .args in
     let w = wordAt (a .img .now) in
-    (search needs, rows-from (alone pointWords) onward (outputPointAt w) w (w 12) 2 tt (a .s) (a .n))
+    (search needs, rows-from (alone pointWords) onward (outputPointAt w) w (w POINT-TABLE) 2 tt (a .s) (a .n))
 
 point-row-requires : tie.Need-point-row-requires Inv-loop μ-loop
 point-row-requires c κs = let s = small (c .before .before .before .pre .0) in search needs
@@ -52,7 +52,7 @@ returns c =
     let h = turn .before .loop-test .taken in
     let e = c .before .whole-word .ensures .0 ∙ ap (λ (k : ℕ). w (k + 1)) o in
     let t = point-row w (start .pre .0 .fits) (l .i) ∙ differs _ _ _ e (c .if1 .taken) in
-    rows-stop (alone pointWords) onward (outputPointAt w) w (w 12) 2 (a .s + a .n) (l .i) tt _ h t (l .inv .1)
+    rows-stop (alone pointWords) onward (outputPointAt w) w (w POINT-TABLE) 2 (a .s + a .n) (l .i) tt _ h t (l .inv .1)
 
 add-i : tie.Need-add-i Inv-loop μ-loop
 add-i c = search needs
@@ -71,14 +71,14 @@ loop-again c =
     let h = turn .before .loop-test .taken in
     let e = c .before .whole-word .ensures .0 ∙ ap (λ (k : ℕ). w (k + 1)) o in
     let t = point-row w (start .pre .0 .fits) (l .i) ∙ equal _ _ _ e (c .if1 .left) in
-    (search needs, rows-more (alone pointWords) onward (outputPointAt w) w (w 12) 2 (a .s + a .n) (l .i) tt _ tt h t refl (l .inv .1))
+    (search needs, rows-more (alone pointWords) onward (outputPointAt w) w (w POINT-TABLE) 2 (a .s + a .n) (l .i) tt _ tt h t refl (l .inv .1))
 
 returns-2 : tie.Need-returns-2 Inv-loop μ-loop
 returns-2 c =
     let a = c .before .before .before .args in
     let w = wordAt (a .img .now) in
     let l = c .before .loop in
-    rows-end (alone pointWords) onward (outputPointAt w) w (w 12) 2 (a .s + a .n) (l .i) tt _ (c .loop-test .left) (l .inv .1)
+    rows-end (alone pointWords) onward (outputPointAt w) w (w POINT-TABLE) 2 (a .s + a .n) (l .i) tt _ (c .loop-test .left) (l .inv .1)
 
 pub singleton-points-spec : {M : Type 1} → statement M
 singleton-points-spec =

@@ -3,7 +3,7 @@ use Prim.Native.Nat.{ℕ, _+_, _-_, _≤_}
 use native.Mathlib.Omega.{arith}
 use borrow.Author.Needs.{needs}
 use borrow.Author.Tests.{not-true, not-false}
-use Rattle.model.specs.Image.{wordAt}
+use Rattle.model.specs.Image.{wordAt, TERM-TABLE}
 use Rattle.header.proofs.Laws.{small}
 use Rattle.layout.specs.Tables.{outputTermAt, termNext, termRow}
 use Rattle.stored_rows.specs.Tests.{singletonTest}
@@ -29,7 +29,7 @@ loop-holds : tie.Need-loop-holds Inv-loop μ-loop
 loop-holds c =
     let a = c .before .args in
     let w = wordAt (a .img .now) in
-    (search needs, (search needs, rows-from termRow termNext (outputTermAt w) w (w 11) 6 (a .q) (a .s) (a .n)))
+    (search needs, (search needs, rows-from termRow termNext (outputTermAt w) w (w TERM-TABLE) 6 (a .q) (a .s) (a .n)))
 
 term-row-requires : tie.Need-term-row-requires Inv-loop μ-loop
 term-row-requires c κs = let s = small (c .before .before .before .pre .0) in search needs
@@ -51,7 +51,7 @@ returns c =
     let h = turn .before .loop-test .taken in
     let r = output-term-row w (l .i) (l .p) in
     let t = seen (λ (k : ℕ). singletonTest w k (l .p)) _ _ _ _ _ o (c .before .singleton-ok .ensures) (not-true _ (c .if1 .taken)) r in
-    rows-stop termRow termNext (outputTermAt w) w (w 11) 6 (a .s + a .n) (l .i) (l .p) _ h t (l .inv .1 .1)
+    rows-stop termRow termNext (outputTermAt w) w (w TERM-TABLE) 6 (a .s + a .n) (l .i) (l .p) _ h t (l .inv .1 .1)
 
 add-p : tie.Need-add-p Inv-loop μ-loop
 add-p c = search needs
@@ -73,14 +73,14 @@ loop-again c =
     let h = turn .before .loop-test .taken in
     let r = output-term-row w (l .i) (l .p) in
     let t = seen (λ (k : ℕ). singletonTest w k (l .p)) _ _ _ _ _ o (c .before .singleton-ok .ensures) (not-false _ (c .if1 .left)) r in
-    (search needs, (search needs, rows-more termRow termNext (outputTermAt w) w (w 11) 6 (a .s + a .n) (l .i) (l .p) _ _ h t refl (l .inv .1 .1)))
+    (search needs, (search needs, rows-more termRow termNext (outputTermAt w) w (w TERM-TABLE) 6 (a .s + a .n) (l .i) (l .p) _ _ h t refl (l .inv .1 .1)))
 
 returns-2 : tie.Need-returns-2 Inv-loop μ-loop
 returns-2 c =
     let a = c .before .before .before .args in
     let w = wordAt (a .img .now) in
     let l = c .before .loop in
-    rows-end termRow termNext (outputTermAt w) w (w 11) 6 (a .s + a .n) (l .i) (l .p) _ (c .loop-test .left) (l .inv .1 .1)
+    rows-end termRow termNext (outputTermAt w) w (w TERM-TABLE) 6 (a .s + a .n) (l .i) (l .p) _ (c .loop-test .left) (l .inv .1 .1)
 
 pub singleton-rows-spec : {M : Type 1} → statement M
 singleton-rows-spec =

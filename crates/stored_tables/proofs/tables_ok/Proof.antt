@@ -5,7 +5,7 @@ use borrow.Author.Needs.{needs}
 use borrow.Author.Tests.{not-true, not-false}
 use Rattle.model.specs.Image.{wordAt}
 use Rattle.header.proofs.Laws.{small}
-use Rattle.header.specs.Header.{Holds}
+use Rattle.header.specs.Header.{Covers}
 use Rattle.layout.specs.Tables.{outputRows, outputTermsIn}
 use Rattle.layout.specs.Groups.{tablesOk}
 use Rattle.layout.proofs.Within.{holds}
@@ -16,7 +16,7 @@ use Rattle.stored_tables.proofs.Whole.{refuses, too-few, not-all, all-t
 use Rattle.stored_tables.proofs.tables_ok.Statement.{statement}
 use Rattle.stored_tables.proofs.tables_ok.Tie as tie
 
-held : (c : tie.Else1) → let s = c .before .before .before in Holds (s .args .img .now) (s .args .h)
+held : (c : tie.Else1) → let s = c .before .before .before in Covers (s .args .img .now) (s .args .h)
 held c =
     let s = c .before .before .before in
     holds _ (s .pre .1) (sym (c .before .header-ok .ensures) ∙ not-false _ (c .if1 .left)) _ (s .pre .0)

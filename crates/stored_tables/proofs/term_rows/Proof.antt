@@ -5,7 +5,7 @@ use native.Mathlib.Omega.{arith}
 use lib.ListN.{length}
 use borrow.Author.Needs.{needs}
 use borrow.Author.Tests.{not-true, not-false}
-use Rattle.model.specs.Image.{wordAt, termAt}
+use Rattle.model.specs.Image.{wordAt, termAt, TERM-TABLE}
 use Rattle.header.proofs.Laws.{small}
 use Rattle.layout.specs.Tables.{sums, termCount, termNext, termRow}
 use Rattle.layout.proofs.Whole.{term-next}
@@ -31,7 +31,7 @@ loop-holds : tie.Need-loop-holds Inv-loop μ-loop
 loop-holds c =
     let start = c .before in
     let w = wordAt (start .args .img .now) in
-    (search needs, (search needs, (rows-start termRow termNext (termAt w) w (w 11) 6 0 _ _ refl, count-start (termCount w) 0 _ _ refl)))
+    (search needs, (search needs, (rows-start termRow termNext (termAt w) w (w TERM-TABLE) 6 0 _ _ refl, count-start (termCount w) 0 _ _ refl)))
 
 term-row-requires : tie.Need-term-row-requires Inv-loop μ-loop
 term-row-requires c κs = let s = small (c .before .before .before .pre .0) in search needs
@@ -55,7 +55,7 @@ returns c =
     let h = turn .before .loop-test .taken in
     let r = term-row w (l .i) (l .p) in
     let t = seen (λ (k : ℕ). termTest w k (l .p)) _ _ _ _ _ o (c .before .term-ok .ensures) (not-true _ (c .if1 .taken)) r in
-    let stop = rows-stop termRow termNext (termAt w) w (w 11) 6 _ (l .i) (l .p) _ h t (l .inv .1 .1 .0) in
+    let stop = rows-stop termRow termNext (termAt w) w (w TERM-TABLE) 6 _ (l .i) (l .p) _ h t (l .inv .1 .1 .0) in
     ((stop, (λ q. clash q)), (let s = small (start .pre .0) in search needs))
 
 add-whole-word : tie.Need-add-whole-word Inv-loop μ-loop
@@ -85,7 +85,7 @@ loop-again c =
     let r = term-row w (l .i) (l .p) in
     let t = seen (λ (k : ℕ). termTest w k (l .p)) _ _ _ _ _ o (c .before .before .term-ok .ensures) (not-false _ (c .before .if1 .left)) r in
     let n = term-next w (l .i) (l .p) ∙ ap (λ (k : ℕ). l .p + k) (sym x) in
-    let more = rows-more termRow termNext (termAt w) w (w 11) 6 _ (l .i) (l .p) _ _ h t n (l .inv .1 .1 .0) in
+    let more = rows-more termRow termNext (termAt w) w (w TERM-TABLE) 6 _ (l .i) (l .p) _ _ h t n (l .inv .1 .1 .0) in
     (search needs, (search needs, (more, count-more (termCount w) _ (l .i) (l .p) _ _ h x (l .inv .1 .1 .1))))
 
 returns-2 : tie.Need-returns-2 Inv-loop μ-loop
@@ -95,7 +95,7 @@ returns-2 c =
     let w = wordAt (start .args .img .now) in
     let h = c .loop-test .left in
     let count = count-end (termCount w) _ (l .i) (l .p) _ h (l .inv .1 .1 .1) in
-    let end = rows-end termRow termNext (termAt w) w (w 11) 6 _ (l .i) (l .p) _ h (l .inv .1 .1 .0) in
+    let end = rows-end termRow termNext (termAt w) w (w TERM-TABLE) 6 _ (l .i) (l .p) _ h (l .inv .1 .1 .0) in
     ((end, (λ q. count ∙ zero-add _)), (let s = small (start .pre .0) in search needs))
 
 pub term-rows-spec : {M : Type 1} → statement M

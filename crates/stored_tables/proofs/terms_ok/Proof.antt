@@ -3,7 +3,7 @@ use Prim.Native.Nat.{ℕ, _+_}
 use lib.Dec.{eqb}
 use borrow.Author.Needs.{needs}
 use borrow.Author.Tests.{not-true, not-false}
-use Rattle.model.specs.Image.{wordAt}
+use Rattle.model.specs.Image.{wordAt, POINTS}
 use Rattle.laws.proofs.Tests.{pass, one-fails}
 use Rattle.header.proofs.Laws.{small}
 use Rattle.stored_tables.specs.Tests.{outputTermRowsFrom, outputPointsFrom}
@@ -30,7 +30,7 @@ returns-2 c =
     let w = wordAt (a .img .now) in
     let q = rows .term-rows .ensures .0 .1 (not-false _ (first .if1 .left)) in
     let d = differs _ _ _ (start .pre .0 .points) (c .if2 .taken) in
-    sym (one-fails _ 1 (seen (λ (p : ℕ). eqb (w 5) (p + a .n)) _ _ _ _ _ q refl d refl))
+    sym (one-fails _ 1 (seen (λ (p : ℕ). eqb (w POINTS) (p + a .n)) _ _ _ _ _ q refl d refl))
 
 singleton-rows-requires : tie.Need-singleton-rows-requires
 singleton-rows-requires c κs = let s = small (c .before .before .before .before .before .before .pre .0) in search needs
@@ -70,7 +70,7 @@ returns-5 c =
     let g = not-false _ (first .if1 .left) in
     let t = rows .term-rows .ensures .0 in
     let q = t .1 g in
-    let n = seen (λ (p : ℕ). eqb (w 5) (p + a .n)) _ _ _ _ _ q refl (equal _ _ _ (start .pre .0 .points) (second .if2 .left)) refl in
+    let n = seen (λ (p : ℕ). eqb (w POINTS) (p + a .n)) _ _ _ _ _ q refl (equal _ _ _ (start .pre .0 .points) (second .if2 .left)) refl in
     let r = third .before .singleton-rows .ensures in
     let o = seen (λ (p : ℕ). outputTermRowsFrom w (a .n) (a .k) p) _ _ _ _ _ q r (not-false _ (third .if3 .left)) refl in
     let s = c .before .singleton-points .ensures in

@@ -2,7 +2,7 @@ use Prim.Native.Nat.{_+_, _-_, _*_, _≤_, _<_}
 use native.Mathlib.Omega.{arith}
 use borrow.Author.Needs.{needs}
 use lib.ListN.{length}
-use Rattle.model.specs.Image.{wordAt}
+use Rattle.model.specs.Image.{wordAt, INPUTS}
 use Rattle.laws.proofs.Places.{field}
 use Rattle.subcondition_listing.proofs.Names.{Among, among-all, among-next, among-found, among-none}
 use Rattle.subcondition_listing.proofs.owner.Statement.{statement}
@@ -56,7 +56,7 @@ returns c =
     let hd = s .pre .heads in
     let w = wordAt (s .args .img .now) in
     let o = row .input-row .ensures .0 w hd in
-    let below : l .i < w 2 = omega (arith, hd .inputs) in (
+    let below : l .i < w INPUTS = omega (arith, hd .inputs) in (
       λ h. among-found w (s .args .t) (l .i) _ _ below (field w _ _ 5 _ (first .whole-word .ensures .0) o) (field w _ _ 6 _ (second .whole-word2 .ensures .0) o)
           (c .if1 .taken) (l .inv .1),
       λ h. absurd (omega (arith, hd .inputs)),
@@ -78,7 +78,7 @@ loop-again c =
     let hd = s .pre .heads in
     let w = wordAt (s .args .img .now) in
     let o = row .input-row .ensures .0 w hd in
-    let below : l .i < w 2 = omega (arith, hd .inputs) in (
+    let below : l .i < w INPUTS = omega (arith, hd .inputs) in (
       search needs,
       among-next w (s .args .t) (l .i) _ _ below (field w _ _ 5 _ (first .whole-word .ensures .0) o) (field w _ _ 6 _ (second .whole-word2 .ensures .0) o)
           (c .if1 .left) (l .inv .1),
