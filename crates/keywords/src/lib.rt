@@ -141,27 +141,56 @@ fn in_slot(w: &[u8], h: usize, text: &[u8]) -> usize
     COUNT
 }
 
-// The keywords of 2, of 3 and of 4 bytes have a text each, since a text is stored into the frame before it is compared.
-fn of_slot(w: &[u8], h: usize) -> usize
-    requires { ⌜ h ≡ slotOf (now w) ⌝ }
+// The keywords of 2, of 3 and of 4 bytes have a text each, since a text is stored into the frame before it is compared;
+// and a function each, since in one function all four would be.
+fn of_two(w: &[u8], h: usize) -> usize
+    requires { ⌜ (h ≡ slotOf (now w)) × (length (now w) ≡ 2) ⌝ }
     ensures { λ r. ⌜ (r ≡ keywordAt (now (w .entry))) × (r ≤ keywordCount) ⌝ }
 {
-    let n = w.len();
-    if n == 2 {
-        return in_slot(w, h, b"IFISLMNCORRM");
-    }
-    if n == 3 {
-        return in_slot(w, h, b"ACTANDCoACoGMAXMINNOTVARINT");
-    }
-    if n == 4 {
-        return in_slot(w, h, b"ACCUASUMBDIFBSUMCoGSNSUMPRODRULETERMTHENWITHREAL");
-    }
+    in_slot(w, h, b"IFISLMNCORRM")
+}
+
+fn of_three(w: &[u8], h: usize) -> usize
+    requires { ⌜ (h ≡ slotOf (now w)) × (length (now w) ≡ 3) ⌝ }
+    ensures { λ r. ⌜ (r ≡ keywordAt (now (w .entry))) × (r ≤ keywordCount) ⌝ }
+{
+    in_slot(w, h, b"ACTANDCoACoGMAXMINNOTVARINT")
+}
+
+fn of_four(w: &[u8], h: usize) -> usize
+    requires { ⌜ (h ≡ slotOf (now w)) × (length (now w) ≡ 4) ⌝ }
+    ensures { λ r. ⌜ (r ≡ keywordAt (now (w .entry))) × (r ≤ keywordCount) ⌝ }
+{
+    in_slot(w, h, b"ACCUASUMBDIFBSUMCoGSNSUMPRODRULETERMTHENWITHREAL")
+}
+
+fn of_more(w: &[u8], h: usize) -> usize
+    requires { ⌜ (h ≡ slotOf (now w)) × (length (now w) ≡ 2 → ⊥) × (length (now w) ≡ 3 → ⊥) × (length (now w) ≡ 4 → ⊥) ⌝ }
+    ensures { λ r. ⌜ (r ≡ keywordAt (now (w .entry))) × (r ≤ keywordCount) ⌝ }
+{
     in_slot(
         w,
         h,
         b"DEFAULTDEFUZZIFYEND_DEFUZZIFYEND_FUNCTION_BLOCKEND_FUZZIFYEND_OPTIONSEND_RULEBLOCKEND_VAR\
         FUNCTION_BLOCKFUZZIFYMETHODOPTIONSRANGERULEBLOCKVAR_INPUTVAR_OUTPUT",
     )
+}
+
+fn of_slot(w: &[u8], h: usize) -> usize
+    requires { ⌜ h ≡ slotOf (now w) ⌝ }
+    ensures { λ r. ⌜ (r ≡ keywordAt (now (w .entry))) × (r ≤ keywordCount) ⌝ }
+{
+    let n = w.len();
+    if n == 2 {
+        return of_two(w, h);
+    }
+    if n == 3 {
+        return of_three(w, h);
+    }
+    if n == 4 {
+        return of_four(w, h);
+    }
+    of_more(w, h)
 }
 
 // The slot of the words of n bytes that begin with a and end in z.

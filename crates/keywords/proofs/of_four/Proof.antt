@@ -1,0 +1,21 @@
+use borrow.Author.Needs.{needs}
+use Rattle.keywords.proofs.Laws.{text-of-4}
+use Rattle.keywords.proofs.of_four.Statement.{statement}
+use Rattle.keywords.proofs.of_four.Tie as tie
+
+slice-aggregate-in-slot : tie.Need-slice-aggregate-in-slot
+slice-aggregate-in-slot c = search needs
+
+in-slot-requires : tie.Need-in-slot-requires
+in-slot-requires c κs = search (needs, text-of-4)
+
+returns : tie.Need-returns
+returns c = search needs
+
+pub of-four-spec : {M : Type 1} → statement M
+of-four-spec =
+    tie.close
+    (tie.spec
+    slice-aggregate-in-slot
+    in-slot-requires
+    returns)
