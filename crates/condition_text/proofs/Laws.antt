@@ -12,7 +12,7 @@ use Rattle.model.specs.Basic.{if_then_else_}
 use Rattle.model.specs.Bounds.{wordLimit, variableLimit, termLimit}
 use Rattle.model.specs.Block.{Block, Op, Condition, term, two, emptyBlock}
 use Rattle.model.specs.Image.{postfix, opWord}
-use Rattle.model.specs.Keywords.{CLOSE, IS}
+use Rattle.model.specs.Keywords.{CLOSE, IS, END}
 use Rattle.model.specs.Parse.{Parse, Part, kind, text, refuse, advance, judged, expect, aName}
 use Rattle.model.specs.Declarations.{inputOf, termOf, isInput, isTerm}
 use Rattle.model.specs.Rules.{ConditionRead, conditionRead, word, conditionTerm, termOrNot, subcondition, negatedRead, closed, chainOn, chain, conditionWith, parenthesis}
@@ -44,7 +44,7 @@ pub refused-left : (s : List ℕ) (w : ℕ) (c d : Cursor) → c .why ≡ 0 → 
 unfolding refuse seen kind left
 refused-left s w c d h a =
     let q = ap kind (a .reads emptyBlock 0) in
-    let e : d .kind ≡ 0 = simp (eq-eqb _ _ h) at q in
+    let e : d .kind ≡ END = simp (eq-eqb _ _ h) at q in
     simp (eq-eqb _ _ e)
 
 -- WHATEVER THE BLOCK

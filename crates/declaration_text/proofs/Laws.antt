@@ -9,7 +9,7 @@ use lib.Dec.{ltb}
 use Rattle.model.specs.Basic.{if_then_else_}
 use Rattle.model.specs.Block.{Block, withName}
 use Rattle.model.specs.Bounds.{inputLimit}
-use Rattle.model.specs.Keywords.{COLON, SEMICOLON, REAL}
+use Rattle.model.specs.Keywords.{COLON, SEMICOLON, REAL, END, INT}
 use Rattle.model.specs.Parse.{Checks, text, refuse, advance, change, expect, listed, aName, ownName}
 use Rattle.model.specs.Declarations.{inputOf, outputOf, isInput, isOutput, addInput, intFrom, variable, inputType, inputCount, inputDeclaration}
 use Rattle.cursor.specs.declared.Cursor.{Cursor}
@@ -78,7 +78,7 @@ module _ (add : List ℕ → Block → Block) (count : Block → ℕ) (limit : �
     variable-bad g h q = reading.refuses (newChecks (view s (reading.at c t)) (ltb (count (view s (reading.at c t) .block)) limit)) _ refl w
         (ap fault same-checks ∙ sym f) h g q
 
-    pub variable-good : (u : Tables) → Fits s c → (c .kind ≡ 0 → ⊥) → w ≡ 0 → Changes s t u (add (textOf s c)) → Step advance s c d
+    pub variable-good : (u : Tables) → Fits s c → (c .kind ≡ END → ⊥) → w ≡ 0 → Changes s t u (add (textOf s c)) → Step advance s c d
         → Reads (variable add count limit) s (reading.at c t) (reading.at d u)
     unfolding variable numbered
     variable-good u g k h x q =
@@ -93,7 +93,7 @@ module _ (s : List ℕ) (c : Cursor) (t : Tables) (d : Cursor) where
   unfolding ownName view
   name-bad w f g h q = reading.refuses (aName (view s (reading.at c t)) []) _ refl w (sym f) h g q
 
-  pub name-good : (u : Tables) → 0 ≡ fault (aName (seen s c (blockView s t) 0) []) → Fits s c → (c .kind ≡ 0 → ⊥)
+  pub name-good : (u : Tables) → 0 ≡ fault (aName (seen s c (blockView s t) 0) []) → Fits s c → (c .kind ≡ END → ⊥)
       → Changes s t u (withName (textOf s c)) → Step advance s c d → Reads (ownName withName) s (reading.at c t) (reading.at d u)
   unfolding ownName view numbered
   name-good u f g k x q =
@@ -101,14 +101,14 @@ module _ (s : List ℕ) (c : Cursor) (t : Tables) (d : Cursor) where
       (reading.next (reading.changes s c t u (withName (textOf s c)) g k x) (reading.step u (x .holds) q))
       (ap (λ (v : List ℕ). advance (change (withName v) (view s (reading.at c t)))) (sym (reading.text-view s (reading.at c t))))
 
-  pub type-int : (n : ℕ) (u : Tables) → Fits s c → c .kind ≡ 170 → Changes s t u (intFrom n) → Step advance s c d
+  pub type-int : (n : ℕ) (u : Tables) → Fits s c → c .kind ≡ INT → Changes s t u (intFrom n) → Step advance s c d
       → Reads (inputType n) s (reading.at c t) (reading.at d u)
   unfolding inputType
   type-int n u g k x q =
       reading.also (reading.next (reading.changes s c t u (intFrom n) g (λ z. omega arith) x) (reading.step u (x .holds) q))
       (sym (simp (reading.kind-view, eq-eqb _ _ k)))
 
-  pub type-real : (n : ℕ) → Holds s t → (c .kind ≡ 170 → ⊥) → Step (expect REAL) s c d → Reads (inputType n) s (reading.at c t) (reading.at d t)
+  pub type-real : (n : ℕ) → Holds s t → (c .kind ≡ INT → ⊥) → Step (expect REAL) s c d → Reads (inputType n) s (reading.at c t) (reading.at d t)
   unfolding inputType
   type-real n g k q = reading.also (reading.step t g q) (sym (simp (reading.kind-view, ne-eqb _ _ k)))
 

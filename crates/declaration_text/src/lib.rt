@@ -65,7 +65,7 @@ fn new_fault(s: &[u8], names: &Names, inputs: usize, outputs: usize, room: bool,
     requires { ⌜ Fits (now s) c × Placed (now s) (now names) × (inputs ≤ inputLimit) × (outputs ≤ outputLimit) ⌝ }
     ensures { λ r. ⌜ ((b : Block) (n : ℕ) → Declares (now (s .entry)) (now (names .entry)) inputs outputs b
         → r ≡ fault (newChecks (seen (now (s .entry)) c b n) room)) ⌝ }
-    ensures passed { λ r. ⌜ (r ≡ 0 → (c .kind ≡ 2) × (room ≡ true)) ⌝ }
+    ensures passed { λ r. ⌜ (r ≡ 0 → (c .kind ≡ NAME) × (room ≡ true)) ⌝ }
 {
     let w = cursor::name_fault(c);
     if w != 0 {

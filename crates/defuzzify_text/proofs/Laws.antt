@@ -13,7 +13,7 @@ use lib.Signed.{ltZ}
 use Rattle.model.specs.Basic.{if_then_else_, isEmpty, indexOf, tab}
 use Rattle.model.specs.Bounds.{inputLimit, termLimit, variableLimit, inputTermLimit}
 use Rattle.model.specs.Block.{Block, Output, inRange, singletonsOf, rangeOf, withRange, withSingleton, withDefault}
-use Rattle.model.specs.Keywords.{NUMBER, ASSIGN, DOTS, OPEN, CLOSE, SEMICOLON, TERM}
+use Rattle.model.specs.Keywords.{NUMBER, ASSIGN, DOTS, OPEN, CLOSE, SEMICOLON, TERM, END, NC, RANGE}
 use Rattle.model.specs.Tokens.{valueOf, sameName}
 use Rattle.model.specs.Parse.{Parse, Checks, text, is, refuse, advance, change, expect, aName, aCrisp, valueHere}
 use Rattle.model.specs.Declarations.{singletonOf, isSingleton, isOutput, outputOf, lowerEnd, upperEnd, rangeBody, rangePart, figure, singletonBody, outputTerm, defaultValue, defuzzifyOf, defuzzifyVariable, changeOutput}
@@ -96,7 +96,7 @@ module _ (s : List ℕ) (c d : Cursor) (t : Tables) (o : ℕ) where
       pub upper-low : ltZ x y ≡ false → Holds s t → Step (refuse 7) s c d → Reads (upperEnd o x) s (reading.at c t) (reading.at d t)
       upper-low q g p = upper-bad 7 (above false q) (λ z. omega arith) g p
 
-      pub upper-set : (u : Tables) → ltZ x y ≡ true → Fits s c → (c .kind ≡ 0 → ⊥)
+      pub upper-set : (u : Tables) → ltZ x y ≡ true → Fits s c → (c .kind ≡ END → ⊥)
           → Changes s t u (changeOutput (withRange (record { least = x; most = y })) o) → Step advance s c d
           → Reads (upperEnd o x) s (reading.at c t) (reading.at d u)
       unfolding upperEnd numbered
@@ -139,7 +139,7 @@ module _ (s : List ℕ) (c d : Cursor) (t : Tables) (o : ℕ) where
         (ap fault checks ∙ sym e) h g q
 
     pub figure-set : (u : Tables) (y : ℤ) → 0 ≡ fault (figureChecks (rangeView (outputRow t o)) (seen s c (blockView s t) 0))
-        → y ≡ valueOf (textOf s c) → Fits s c → (c .kind ≡ 0 → ⊥)
+        → y ≡ valueOf (textOf s c) → Fits s c → (c .kind ≡ END → ⊥)
         → Changes s t u (changeOutput (with y) o) → Step advance s c d
         → Reads (figure with o) s (reading.at c t) (reading.at d u)
     unfolding figure numbered
@@ -198,48 +198,48 @@ module _ (s : List ℕ) (c : Cursor) (t : Tables) (o : ℕ) where
   abbrev termGiven : Checks
   termGiven = (is TERM q, 2) ∷ (ltb (length (singletonsOf o (q .block))) termLimit, 6) ∷ []
 
-  given-not : (c .kind ≡ 163 → ⊥) → fault termGiven ≡ 2
+  given-not : (c .kind ≡ TERM → ⊥) → fault termGiven ≡ 2
   unfolding fault
   given-not h = simp (reading.kind-view s (reading.at c t), ne-eqb _ _ h) refl
 
-  given-so : c .kind ≡ 163 → o < t .«output_count» → (x : Bool) → ltb (outputRow t o .terms) termLimit ≡ x → fault termGiven ≡ (if x then 0 else 6)
+  given-so : c .kind ≡ TERM → o < t .«output_count» → (x : Bool) → ltb (outputRow t o .terms) termLimit ≡ x → fault termGiven ≡ (if x then 0 else 6)
   unfolding fault
   given-so h b x e =
       simp (reading.kind-view s (reading.at c t), eq-eqb _ _ h)
       (ap (λ (n : ℕ). if ltb n termLimit then 0 else 6) (ap (λ (z : Block). length (singletonsOf o z)) (reading.block-view s (reading.at c t))
       ∙ singletons-count s t o b) ∙ ap (λ (z : Bool). if z then 0 else 6) e)
 
-  pub term-not : (d : Cursor) → (c .kind ≡ 163 → ⊥) → Holds s t → Step (refuse 2) s c d → Reads (outputTerm o) s (reading.at c t) (reading.at d t)
+  pub term-not : (d : Cursor) → (c .kind ≡ TERM → ⊥) → Holds s t → Step (refuse 2) s c d → Reads (outputTerm o) s (reading.at c t) (reading.at d t)
   unfolding outputTerm
   term-not d h g p = reading.refuses termGiven _ refl 2 (given-not h) (λ z. omega arith) g p
 
-  pub term-full : (d : Cursor) → c .kind ≡ 163 → o < t .«output_count» → termLimit ≤ outputRow t o .terms → Holds s t → Step (refuse 6) s c d
+  pub term-full : (d : Cursor) → c .kind ≡ TERM → o < t .«output_count» → termLimit ≤ outputRow t o .terms → Holds s t → Step (refuse 6) s c d
       → Reads (outputTerm o) s (reading.at c t) (reading.at d t)
   unfolding outputTerm
   term-full d h b l g p = reading.refuses termGiven _ refl 6 (given-so h b false (le-ltb _ _ l)) (λ z. omega arith) g p
 
-  pub term-more : (d : Cursor) (r : ParseState) → c .kind ≡ 163 → o < t .«output_count» → outputRow t o .terms < termLimit → Holds s t → Step advance s c d
+  pub term-more : (d : Cursor) (r : ParseState) → c .kind ≡ TERM → o < t .«output_count» → outputRow t o .terms < termLimit → Holds s t → Step advance s c d
       → Reads (singletonBody o) s (reading.at d t) r → Reads (outputTerm o) s (reading.at c t) r
   unfolding outputTerm numbered
   term-more d r h b l g p x = reading.passes termGiven _ refl refl (given-so h b true (lt-ltb _ _ l)) (reading.next (reading.step t g p) x) refl
 
   -- DEFAULT
-  pub default-nc : (d : Cursor) → c .kind ≡ 153 → Holds s t → Step advance s c d → Reads (defaultValue o) s (reading.at c t) (reading.at d t)
+  pub default-nc : (d : Cursor) → c .kind ≡ NC → Holds s t → Step advance s c d → Reads (defaultValue o) s (reading.at c t) (reading.at d t)
   unfolding defaultValue
   default-nc d h g p = reading.also (reading.step t g p) (sym (simp (reading.kind-view s (reading.at c t), eq-eqb _ _ h) refl))
 
-  pub default-given : (r : ParseState) → (c .kind ≡ 153 → ⊥) → Reads (figure withDefault o) s (reading.at c t) r
+  pub default-given : (r : ParseState) → (c .kind ≡ NC → ⊥) → Reads (figure withDefault o) s (reading.at c t) r
       → Reads (defaultValue o) s (reading.at c t) r
   unfolding defaultValue
   default-given r h x = reading.also x (sym (simp (reading.kind-view s (reading.at c t), ne-eqb _ _ h) refl))
 
   -- RANGE, or none
-  pub range-not : (c .kind ≡ 159 → ⊥) → Good s (reading.at c t) → Reads (rangePart o) s (reading.at c t) (reading.at c t)
+  pub range-not : (c .kind ≡ RANGE → ⊥) → Good s (reading.at c t) → Reads (rangePart o) s (reading.at c t) (reading.at c t)
   unfolding rangePart
   range-not h g = reading.also (reading.none s (reading.at c t) g)
       (sym (simp (reading.kind-view s (reading.at c t), ne-eqb _ _ h) refl))
 
-  pub range-given : (d : Cursor) (r : ParseState) → c .kind ≡ 159 → Holds s t → Step (λ z. expect OPEN (advance z)) s c d
+  pub range-given : (d : Cursor) (r : ParseState) → c .kind ≡ RANGE → Holds s t → Step (λ z. expect OPEN (advance z)) s c d
       → Reads (rangeBody o) s (reading.at d t) r → Reads (rangePart o) s (reading.at c t) r
   unfolding rangePart
   range-given d r h g p x = reading.also (reading.next (reading.step t g p) x) (sym (simp (reading.kind-view s (reading.at c t), eq-eqb _ _ h) refl))

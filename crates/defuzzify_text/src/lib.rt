@@ -6,7 +6,7 @@ ghost use lib.ListN.{length};
 ghost use lib.Seq.{slice};
 ghost use Rattle.model.specs.Bounds.{outputLimit, termLimit, outputTermLimit};
 ghost use Rattle.model.specs.Block.{Block, inRange, withSingleton, withDefault};
-ghost use Rattle.model.specs.Keywords.{TERM, DEFUZZIFY};
+ghost use Rattle.model.specs.Keywords.{TERM, DEFUZZIFY, NAME, NUMBER};
 ghost use Rattle.model.specs.Parse.{repeated};
 ghost use Rattle.model.specs.Tokens.{valueOf};
 ghost use Rattle.model.specs.Declarations.{upperEnd, rangeBody, rangePart, figure, singletonBody, outputTerm, defaultValue, defuzzifyVariable, defuzzify};
@@ -136,7 +136,7 @@ fn figure_here(s: &[u8], c: Cursor, v: Output) -> CrispHere
     requires { ⌜ Fits (now s) c ⌝ }
     ensures { λ r. ⌜ ((b : Block) (n : ℕ)
         → r .fault ≡ fault (figureChecks (rangeView v) (seen (now (s .entry)) c b n))) ⌝ }
-    ensures value { λ r. ⌜ (r .fault ≡ 0 → (c .kind ≡ 3) × (r .value .0 ≡ valueOf (textOf (now (s .entry)) c))) ⌝ }
+    ensures value { λ r. ⌜ (r .fault ≡ 0 → (c .kind ≡ NUMBER) × (r .value .0 ≡ valueOf (textOf (now (s .entry)) c))) ⌝ }
 {
     let w = number_tokens::crisp_here(s, c);
     if w.fault != 0 {
@@ -220,7 +220,7 @@ fn term_fault(s: &[u8], names: &Names, o: usize, terms: usize, c: Cursor) -> u8
     requires { ⌜ Fits (now s) c × Placed (now s) (now names) × (o < outputLimit) × (terms ≤ termLimit) ⌝ }
     ensures { λ r. ⌜ ((b : Block) (n : ℕ) → HasSingletons (now (s .entry)) (now (names .entry)) o terms b
         → r ≡ fault (termChecks o (seen (now (s .entry)) c b n))) ⌝ }
-    ensures kind { λ r. ⌜ (r ≡ 0 → c .kind ≡ 2) ⌝ }
+    ensures kind { λ r. ⌜ (r ≡ 0 → c .kind ≡ NAME) ⌝ }
 {
     let w = cursor::name_fault(c);
     if w != 0 {

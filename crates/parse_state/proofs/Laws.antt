@@ -7,7 +7,7 @@ use native.Mathlib.Omega.{arith}
 use borrow.Author.Tests.{eq-eqb, ne-eqb}
 use lib.ListN.{length}
 use Rattle.model.specs.Block.{Block}
-use Rattle.model.specs.Keywords.{COMMA}
+use Rattle.model.specs.Keywords.{COMMA, END}
 use Rattle.model.specs.Parse.{Parse, Part, Checks, kind, text, refuse, change, advance, judged, expect, repeatOn, repeated, listed}
 use Rattle.laws.proofs.Again.{Again, again-more, again-end, repeats}
 use Rattle.laws.proofs.Repetition.{turn, no-turn}
@@ -54,7 +54,7 @@ pub also : {f g : Part} {s : List ℕ} {a b : ParseState} → Reads f s a b → 
 also {f} {g} {s} {a} {b} p e = record { reads = p .reads ∙ e; fewer = p .fewer; good = p .good }
 
 -- the tables changed, at a token
-pub changes : (s : List ℕ) (c : Cursor) (t u : Tables) (f : Block → Block) → Fits s c → (c .kind ≡ 0 → ⊥) → Changes s t u f
+pub changes : (s : List ℕ) (c : Cursor) (t u : Tables) (f : Block → Block) → Fits s c → (c .kind ≡ END → ⊥) → Changes s t u f
     → Reads (change f) s (at c t) (at c u)
 unfolding view
 changes s c t u f g h q = record {
