@@ -7,7 +7,7 @@ slice-aggregate-in-slot : tie.Need-slice-aggregate-in-slot
 slice-aggregate-in-slot c = search needs
 
 in-slot-requires : tie.Need-in-slot-requires
-in-slot-requires c κs = search (needs, text-of-4)
+in-slot-requires c κs = let p = c .before .before .pre in (p .0, text-of-4 _ (p .1))
 
 returns : tie.Need-returns
 returns c = search needs
