@@ -34,10 +34,9 @@ use Rattle.block_tables.specs.Changes.{Changes}
 use Rattle.block_tables.proofs.Tabs.{tab-more}
 use Rattle.block_tables.proofs.Lookups as lookups
 use Rattle.parse_state.specs.declared.ParseState.{ParseState}
-use Rattle.parse_state.specs.Reads.{view, Good, Reads}
-use Rattle.parse_state.specs.Beside.{Ready}
+use Rattle.parse_state.specs.Reads.{view, Reads}
 use Rattle.parse_state.proofs.Laws as reading
-use Rattle.parse_state.proofs.Laws.{at, kind-view, text-view, block-view}
+use Rattle.parse_state.proofs.Laws.{at, text-view, block-view}
 use Rattle.fuzzify_text.specs.declared.LastTwo.{LastTwo}
 use Rattle.fuzzify_text.specs.declared.PointRead.{PointRead}
 use Rattle.fuzzify_text.specs.declared.Shape.{Shape}
@@ -454,61 +453,11 @@ module _ (s : List ℕ) (t : Tables) (i : ℕ) where
           good = record { fits = y .room .fits; holds = z .holds };
         }
 
--- TERM again and again: the terms are read up to p, and what the next one comes to leads on
-module _ (i : ℕ) (s : List ℕ) where
-  abbrev all : Parse → Parse
-  all r = repeated TERM (inputTerm i) (inputTerm i r)
-
-  abbrev Runs : ParseState → Parse → Type 0
-  Runs r x = Again (repeats TERM (inputTerm i)) (left s (r .cursor)) (view s r) x
-
-  abbrev pub Turning : ParseState → ParseState → Type 0
-  Turning p₀ p = (i < p .tables .«input_count») × Good s p × (left s (p .cursor) ≤ left s (p₀ .cursor))
-      × ((r : ParseState) → p .cursor .kind ≡ TERM → Reads (inputTerm i) s p r → left s (r .cursor) < left s (p .cursor) → Runs r (all (view s p₀)))
-      × ((p .cursor .kind ≡ TERM → ⊥) → view s p ≡ all (view s p₀))
-
-  pub turns-first : (p : ParseState) → i < p .tables .«input_count» → Good s p → p .cursor .kind ≡ TERM → Turning p p
-  unfolding repeated view
-  turns-first p l g h = (
-    l,
-    g,
-    omega arith,
-    λ r k q m. (suc (length (view s r .rest)), cursor.enough s (r .cursor) (blockView s (r .tables)) 0, ap (repeated TERM (inputTerm i)) (q .reads)),
-    λ z. absurd (z h),
-  )
-
-  pub turns-more : (p₀ p r : ParseState) → Turning p₀ p → p .cursor .kind ≡ TERM → Reads (inputTerm i) s p r → left s (r .cursor) < left s (p .cursor)
-      → i < r .tables .«input_count» → Turning p₀ r
-  turns-more p₀ p r g h q m l =
-      let w = g .3 r h q m in (
-        l,
-        q .good,
-        omega (arith, g .2),
-        λ v k y n.
-            again-more (repeats TERM (inputTerm i))
-            (λ f. turn TERM (inputTerm i) f (view s r) (eq-eqb _ _ (kind-view s r ∙ k)) ∙ ap (repeatOn f TERM (inputTerm i)) (sym (y .reads))) n w,
-        λ z. again-end (repeats TERM (inputTerm i)) (λ f. no-turn TERM (inputTerm i) f (view s r) (ne-eqb _ _ (λ y. z (sym (kind-view s r) ∙ y)))) w,
-      )
-
-  pub turns-end : (p₀ p : ParseState) → Turning p₀ p → (p .cursor .kind ≡ TERM → ⊥) → Reads (λ r. repeated TERM (inputTerm i) (inputTerm i r)) s p₀ p
-  turns-end p₀ p g h = record { reads = g .4 h; fewer = g .2; good = g .1 }
-
--- whatever the tables beside them
-pub record Gathers (i : ℕ) (s : List ℕ) (f₀ f : Tables → ParseState) : Type 0 where
-  pub from : Ready s f₀
-  pub turning : (t : Tables) → Good s (f₀ t) → Turning i s (f₀ t) (f t)
-
-pub gathered : {i : ℕ} {s : List ℕ} {f₀ f : Tables → ParseState} (g : Gathers i s f₀ f) → Turning i s (f₀ (g .from .tables)) (f (g .from .tables))
-gathered g = g .turning (g .from .tables) (g .from .good)
-
 pub terms-none : (s : List ℕ) (c : Cursor) (t : Tables) (d : Cursor) (i : ℕ) → Holds s t → (c .kind ≡ 163 → ⊥) → (d .why ≡ 0 → ⊥)
     → Step (refuse 2) s c d → Reads (λ r. repeated TERM (inputTerm i) (inputTerm i r)) s (at c t) (at d t)
 unfolding inputTerm judged view
 terms-none s c t d i g h w q =
-    let y : Reads (inputTerm i) s (at c t) (at d t) = reading.also (reading.step t g q) (sym (simp (kind-seen, ne-eqb _ _ h))) in
-    let z : Reads (repeated TERM (inputTerm i)) s (at d t) (at d t) =
-    reading.also (reading.none s (at d t) (y .good)) (sym (cursor.lost-repeated s d (q .fits) w (blockView s t) 0 TERM (inputTerm i) (λ x. omega arith))) in
-    reading.next y z
+    reading.turns-none TERM (inputTerm i) s (at c t) d t (λ z. omega arith) w (reading.also (reading.step t g q) (sym (simp (kind-seen, ne-eqb _ _ h))))
 
 -- A PART
 module _ (s : List ℕ) (c : Cursor) (t : Tables) (d : Cursor) where

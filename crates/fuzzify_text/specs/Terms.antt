@@ -14,22 +14,27 @@ use Rattle.model.specs.Basic.{if_then_else_, indexOf, update, tab}
 use Rattle.model.specs.Block as block
 use Rattle.model.specs.Block.{Block, termsOf, mayFollow, withInputs, withTerms}
 use Rattle.model.specs.Bounds.{termLimit, pointLeast, pointLimit, variableLimit}
-use Rattle.model.specs.Keywords.{ASSIGN, SEMICOLON}
-use Rattle.model.specs.Parse.{Parse, Part, is, advance, judged, expect, listed, aCrisp, valueHere}
+use Rattle.model.specs.Keywords.{ASSIGN, SEMICOLON, TERM, END-FUZZIFY}
+use Rattle.model.specs.Parse.{Parse, Part, is, advance, judged, expect, repeated, listed, aCrisp, valueHere}
 use Rattle.model.specs.Tokens.{sameName}
-use Rattle.model.specs.Declarations.{termOf, point, endOfPoints, inputTerm}
+use Rattle.model.specs.Declarations.{termOf, point, endOfPoints, inputTerm, fuzzify}
 use Rattle.lookup.specs.Names.{nameOf}
 use Rattle.cursor.specs.declared.Cursor.{Cursor}
-use Rattle.cursor.specs.View.{seen, Fits, left}
+use Rattle.cursor.specs.View.{seen, Fits, left, Step, Moves}
+use Rattle.block_tables.specs.declared.Input.{Input}
 use Rattle.block_tables.specs.declared.Point.{Point}
+use Rattle.block_tables.specs.declared.Term.{Term}
 use Rattle.block_tables.specs.declared.Tables.{Tables}
 use Rattle.block_tables.specs.View.{no-point, pointAt}
 use Rattle.parse_state.specs.declared.ParseState.{ParseState}
+use Rattle.parse_state.specs.Reads.{Good, Reads as ReadsTables}
+use Rattle.parse_state.specs.Beside.{Collects}
 use Rattle.fuzzify_text.specs.declared.LastTwo.{LastTwo}
 use Rattle.fuzzify_text.specs.declared.PointRead.{PointRead}
 use Rattle.fuzzify_text.specs.declared.Shape.{Shape}
 use Rattle.fuzzify_text.specs.declared.TermName.{TermName}
 use Rattle.fuzzify_text.specs.declared.Inputs.{Inputs}
+use Rattle.fuzzify_text.specs.declared.Found.{Found}
 
 -- one term more for input i of a block
 unfoldable pub withTerm : ℕ → block.Term → Block → Block
@@ -147,3 +152,21 @@ pub record Named (s : List ℕ) (n : ℕ) (c : Cursor) (r : TermName) : Type 0 w
   pub order : r .start ≤ r .end
   pub inside : r .end ≤ length s
   pub room : r .cursor .why ≡ 0 → n < termLimit
+
+-- A PART
+-- n inputs with these rows and terms
+abbrev pub inputsOf : Cursor → ℕ → List Input → List Term → Inputs
+inputsOf c n rows ts = record { cursor = c; count = n; rows = rows; terms = ts }
+
+-- a part is read up to the terms of an input, whatever those of the others, or refused
+pub record Finds (s names : List ℕ) (n : ℕ) (rows : List Input) (c : Cursor) (r : Found) : Type 0 where
+  pub found : r .cursor .why ≡ 0 → (ts : List Term) (t : Tables) → Good s (inputsIn names (inputsOf c n rows ts) t) → (p : ParseState) (e : Cursor)
+      → ReadsTables (λ q. repeated TERM (inputTerm (r .input)) (inputTerm (r .input) q)) s (inputsIn names (inputsOf (r .cursor) n rows ts) t) p
+      → Step (expect END-FUZZIFY) s (p .cursor) e
+      → ReadsTables fuzzify s (inputsIn names (inputsOf c n rows ts) t) (record { cursor = e; tables = p .tables })
+  pub lost : (r .cursor .why ≡ 0 → ⊥) → (ts : List Term)
+      → Collects fuzzify s (inputsIn names (inputsOf c n rows ts)) (inputsIn names (inputsOf (r .cursor) n rows ts))
+  pub known : r .cursor .why ≡ 0 → r .input < n
+  pub fewer : r .cursor .why ≡ 0 → left s (r .cursor) < left s c
+  pub moves : Moves s c (r .cursor)
+  pub fits : Fits s (r .cursor)
