@@ -7,13 +7,13 @@ use native.Mathlib.Omega.{arith}
 use borrow.Author.Tests.{eq-eqb, ne-eqb, lt-ltb, le-ltb, lt-leb, le-leb}
 use lib.Dec.{ltb}
 use lib.IntN.{ℤ}
-use lib.ListN.{length, getD, set, length-set}
+use lib.ListN.{length, getD, set, length-set, length-map}
 use lib.Seq.{slice, getD-set-same, getD-set-other}
 use Rattle.model.specs.Basic.{if_then_else_, isEmpty, indexOf, update, updateLast, tab}
 use Rattle.model.specs.Block as block
 use Rattle.model.specs.Block.{Block, termsOf, mayFollow, withInputs, withTerms, withPoint}
 use Rattle.model.specs.Bounds.{termLimit, pointLeast, pointLimit, variableLimit}
-use Rattle.model.specs.Keywords.{ASSIGN, CLOSE, COMMA, END-FUZZIFY, TERM, NUMBER}
+use Rattle.model.specs.Keywords.{ASSIGN, CLOSE, COMMA, END-FUZZIFY, TERM, NUMBER, OPEN, SEMICOLON}
 use Rattle.model.specs.Tokens.{valueOf, unitOf, sameName}
 use Rattle.model.specs.Parse.{Parse, Part, kind, text, refuse, advance, change, judged, expect, repeatOn, repeated, listed, aName, aCrisp, aUnit, valueHere}
 use Rattle.model.specs.Declarations.{inputOf, isInput, isTerm, addTerm, addPoint, lastPoints, pointsOf, pointPosition, pointDegree, pointBody, point, endOfPoints, termName, inputTerm, fuzzifyOf, fuzzifyVariable}
@@ -34,15 +34,16 @@ use Rattle.block_tables.specs.Changes.{Changes}
 use Rattle.block_tables.proofs.Tabs.{tab-more}
 use Rattle.block_tables.proofs.Lookups as lookups
 use Rattle.parse_state.specs.declared.ParseState.{ParseState}
-use Rattle.parse_state.specs.Reads.{view, Good, Reads}
-use Rattle.parse_state.specs.Beside.{Ready}
+use Rattle.parse_state.specs.Reads.{view, Reads}
 use Rattle.parse_state.proofs.Laws as reading
-use Rattle.parse_state.proofs.Laws.{at, kind-view, text-view, block-view}
-use Rattle.fuzzify_text.specs.declared.LastTwo.{LastTwo}
+use Rattle.parse_state.proofs.Laws.{at, text-view, block-view}
+use Rattle.term_rules.specs.declared.LastTwo.{LastTwo}
+use Rattle.term_rules.specs.Positions.{mayStand, lastWith, Ends}
+use Rattle.term_rules.proofs.Laws.{ends-none, ends-more}
 use Rattle.fuzzify_text.specs.declared.PointRead.{PointRead}
 use Rattle.fuzzify_text.specs.declared.Shape.{Shape}
 use Rattle.fuzzify_text.specs.declared.TermName.{TermName}
-use Rattle.fuzzify_text.specs.Terms.{withTerm, mayStand, lastWith, positionAfter, endAfter, Place, blockWith, viewWith, pointOf, pointsWith, Ends, ReadsPoint, pointsRead, noPoints, viewAt, Room, Reads as ReadsShape, termFrom, Terms, Names}
+use Rattle.fuzzify_text.specs.Terms.{withTerm, positionAfter, endAfter, Place, blockWith, viewWith, pointOf, pointsWith, positions, ReadsPoint, pointsRead, noPoints, viewAt, Room, ReadsShape, termFrom, Terms, Names}
 
 -- A POSITION, THE END OF THE POINTS
 module _ (s : List ℕ) (c d : Cursor) where
@@ -70,15 +71,15 @@ module _ (s : List ℕ) (c d : Cursor) where
       position-good h q = restep q (λ b m. sym (position-then b m ∙ simp h))
 
   module _ (n : ℕ) where
-    pub end-none : (c .kind ≡ 59 → ⊥) → Step (refuse 2) s c d → Step (endAfter n) s c d
+    pub end-none : (c .kind ≡ SEMICOLON → ⊥) → Step (refuse 2) s c d → Step (endAfter n) s c d
     unfolding endAfter judged
     end-none h q = restep q (λ b m. sym (simp (kind-seen, ne-eqb _ _ h)))
 
-    pub end-few : c .kind ≡ 59 → n < pointLeast → Step (refuse 7) s c d → Step (endAfter n) s c d
+    pub end-few : c .kind ≡ SEMICOLON → n < pointLeast → Step (refuse 7) s c d → Step (endAfter n) s c d
     unfolding endAfter judged
     end-few h l q = restep q (λ b m. sym (simp (kind-seen, eq-eqb _ _ h, lt-leb _ _ l)))
 
-    pub end-good : c .kind ≡ 59 → pointLeast ≤ n → Step advance s c d → Step (endAfter n) s c d
+    pub end-good : c .kind ≡ SEMICOLON → pointLeast ≤ n → Step advance s c d → Step (endAfter n) s c d
     unfolding endAfter judged
     end-good h l q = restep q (λ b m. sym (simp (kind-seen, eq-eqb _ _ h, le-leb _ _ l)))
 
@@ -109,9 +110,8 @@ module _ (i : ℕ) (x : block.Term) (b : Block) where
       ap (λ (vs : List block.Input). withInputs (λ us. vs) b) e
 
 -- THE POINTS SO FAR
-pub ends-none : (last : LastTwo) → Ends [] 0 last
-unfolding mayStand mayFollow
-ends-none last = record { count = refl; may = λ x. refl; more = λ y x. refl }
+as-many : {n : ℕ} {last : LastTwo} (ps : List block.Point) → Ends (positions ps) n last → length ps ≡ n
+as-many ps e = sym (length-map ps (λ q. q .at)) ∙ e .count
 
 points-count : (p : Shape) → length (pointsRead p) ≡ p .count
 unfolding pointsRead
@@ -130,19 +130,13 @@ module _ (p : Shape) where
         tab-more (pointAt (p .points)) (pointAt (set (p .points) n q)) n (pointOf q)
         (λ k l. ap pointOf (getD-set-other (p .points) n k q no-point (λ z. omega arith))) (ap pointOf (getD-set-same (p .points) n q no-point h))
 
-    pub ends-more : (last : LastTwo) → Ends (pointsRead p) (p .count) last → Ends (pointsRead (longer d q)) (p .count + 1) (lastWith last (q .at .0))
-    unfolding mayStand
-    ends-more last e =
-        let at : List block.Point → List ℤ = map (λ v. v .at) in
-        let m : at (pointsRead (longer d q)) ≡ at (pointsRead p) ++ (q .at .0 ∷ []) =
-        ap at read-more ∙ map-append (λ v. v .at) (pointsRead p) (pointOf q ∷ []) in
-        record {
-          count = points-count (longer d q);
-          may = λ x. ap (λ (l : List ℤ). mayFollow l x) m ∙ e .more (q .at .0) x;
-          more = λ y x.
-              ap (λ (l : List ℤ). mayFollow (l ++ (y ∷ [])) x) m ∙ follow-two (at (pointsRead p)) (q .at .0) y x
-              ∙ sym (simp (ne-eqb (p .count + 1 + 1) 0 (λ z. omega arith), ne-eqb (p .count + 1 + 1) 1 (λ z. omega arith)));
-        }
+    pub still-ends : (last : LastTwo) → Ends (positions (pointsRead p)) (p .count) last
+        → Ends (positions (pointsRead (longer d q))) (p .count + 1) (lastWith last (q .at .0))
+    still-ends last e =
+        let x = q .at .0 in
+        let m : positions (pointsRead (longer d q)) ≡ positions (pointsRead p) ++ (x ∷ []) =
+        ap positions read-more ∙ map-append (λ v. v .at) (pointsRead p) (pointOf q ∷ []) in
+        rw m (ends-more (positions (pointsRead p)) (p .count) last x e)
 
 module _ (s : List ℕ) (x : Place) (ps : List block.Point) (c : Cursor) where
   kind-with : kind (viewWith s x ps c) ≡ c .kind
@@ -166,7 +160,7 @@ module _ (s : List ℕ) (x : Place) (ps : List block.Point) (c : Cursor) where
 module _ (s : List ℕ) (c d : Cursor) (n : ℕ) (last : LastTwo) where
   -- refused
   refused : {part : ℕ → Part} (w : ℕ) (q : Point) → Step (refuse w) s c d → (d .why ≡ 0 → ⊥)
-      → ((x : Place) (ps : List block.Point) → Ends ps n last → part (x .input) (viewWith s x ps c) ≡ refuse w (viewWith s x ps c))
+      → ((x : Place) (ps : List block.Point) → Ends (positions ps) n last → part (x .input) (viewWith s x ps c) ≡ refuse w (viewWith s x ps c))
       → ReadsPoint part n last s c (record { cursor = d; read = false; point = q })
   refused w q y h e = record {
     reads = λ x ps z. step-with s x ps c y ∙ sym (e x ps z);
@@ -198,12 +192,12 @@ module _ (s : List ℕ) (c d : Cursor) (n : ℕ) (last : LastTwo) where
     stops = λ z k. true≢false z;
   }
 
-  pub point-none : (q : Point) → (c .kind ≡ 40 → ⊥) → Step (refuse 2) s c d → (d .why ≡ 0 → ⊥)
+  pub point-none : (q : Point) → (c .kind ≡ OPEN → ⊥) → Step (refuse 2) s c d → (d .why ≡ 0 → ⊥)
       → ReadsPoint point n last s c (record { cursor = d; read = false; point = q })
   unfolding point judged
   point-none q h y k = refused 2 q y k (λ x ps z. simp (kind-with, ne-eqb _ _ h))
 
-  module _ (h : c .kind ≡ 40) where
+  module _ (h : c .kind ≡ OPEN) where
     point-then : (x : Place) (ps : List block.Point) → length ps ≡ n → point (x .input) (viewWith s x ps c)
         ≡ (if ltb n pointLimit then pointBody (x .input) (advance (viewWith s x ps c)) else refuse 6 (viewWith s x ps c))
     unfolding point judged
@@ -211,18 +205,18 @@ module _ (s : List ℕ) (c d : Cursor) (n : ℕ) (last : LastTwo) where
 
     pub point-full : (q : Point) → pointLimit ≤ n → Step (refuse 6) s c d → (d .why ≡ 0 → ⊥)
         → ReadsPoint point n last s c (record { cursor = d; read = false; point = q })
-    point-full q l y k = refused 6 q y k (λ x ps z. point-then x ps (z .count) ∙ simp (le-ltb _ _ l))
+    point-full q l y k = refused 6 q y k (λ x ps z. point-then x ps (as-many ps z) ∙ simp (le-ltb _ _ l))
 
     pub point-good : (r : PointRead) → n < pointLimit → Step advance s c d → ReadsPoint pointBody n last s d r → ReadsPoint point n last s c r
     point-good r l y z = record {
       reads = λ x ps e.
-          z .reads x ps e ∙ ap (pointBody (x .input)) (step-with s x ps c y) ∙ sym (point-then x ps (e .count) ∙ simp (lt-ltb _ _ l));
+          z .reads x ps e ∙ ap (pointBody (x .input)) (step-with s x ps c y) ∙ sym (point-then x ps (as-many ps e) ∙ simp (lt-ltb _ _ l));
       fewer = let a = z .fewer in let b = y .fewer in omega arith;
       fits = z .fits;
       stops = z .stops;
     }
 
-  position-is : (x : Place) (ps : List block.Point) → Ends ps n last → pointPosition (x .input) (viewWith s x ps c) ≡ positionAfter n last (viewWith s x ps c)
+  position-is : (x : Place) (ps : List block.Point) → Ends (positions ps) n last → pointPosition (x .input) (viewWith s x ps c) ≡ positionAfter n last (viewWith s x ps c)
   unfolding pointPosition positionAfter
   position-is x ps z =
       ap (λ (b : Bool). judged (aCrisp (viewWith s x ps c) ((b, 7) ∷ [])) (viewWith s x ps c) (advance (viewWith s x ps c)))
@@ -240,7 +234,7 @@ module _ (s : List ℕ) (c d : Cursor) (n : ℕ) (last : LastTwo) where
 
   module _ (y : Step (positionAfter n last) s c d) where
     -- from behind the position on
-    body-then : (v : ℤ) → v ≡ valueOf (textOf s c) → (x : Place) (ps : List block.Point) → Ends ps n last
+    body-then : (v : ℤ) → v ≡ valueOf (textOf s c) → (x : Place) (ps : List block.Point) → Ends (positions ps) n last
         → expect CLOSE (pointDegree (x .input) v (expect COMMA (viewWith s x ps d))) ≡ pointBody (x .input) (viewWith s x ps c)
     unfolding pointBody
     body-then v o x ps z =
@@ -302,7 +296,7 @@ module _ (s : List ℕ) where
   Leads p₀ r x = Again (repeats COMMA (again (x .input))) (left s (r .cursor)) (viewAt s x r) (listed (point (x .input)) (viewAt s x p₀))
 
   abbrev pub Going : Shape → Shape → LastTwo → Type 0
-  Going p₀ p last = Room s p × Ends (pointsRead p) (p .count) last × (left s (p .cursor) ≤ left s (p₀ .cursor))
+  Going p₀ p last = Room s p × Ends (positions (pointsRead p)) (p .count) last × (left s (p .cursor) ≤ left s (p₀ .cursor))
       × ((r : Shape) (x : Place) → viewAt s x r ≡ point (x .input) (viewAt s x p) → left s (r .cursor) ≤ left s (p .cursor) → Leads p₀ r x)
 
   pub begins : (c : Cursor) (last : LastTwo) → Fits s c → Going (noPoints c) (noPoints c) last
@@ -358,7 +352,7 @@ module _ (s : List ℕ) where
       unfolding expect pointsRead
       goes d k q m = (
         record { fits = q .fits; few = omega arith; size = simp length-set (g .0 .size) },
-        ends-more p d (a .point) (omega (arith, g .0 .size)) last (g .1),
+        still-ends p d (a .point) (omega (arith, g .0 .size)) last (g .1),
         omega (arith, y .fewer, g .2),
         λ r x e n.
             let u = longer p (a .cursor) (a .point) in
@@ -389,11 +383,11 @@ term-lost s i b c d e p q f w =
     ∙ cursor.lost-judged s e f w b 0 59 _ _ (λ x. omega arith))
 
 module _ (s names : List ℕ) (i n : ℕ) (b : Block) (t : Terms s names i n b) (c d : Cursor) where
-  pub term-full : c .kind ≡ 163 → termLimit ≤ n → Step (refuse 6) s c d → seen s d b 0 ≡ inputTerm i (seen s c b 0)
+  pub term-full : c .kind ≡ TERM → termLimit ≤ n → Step (refuse 6) s c d → seen s d b 0 ≡ inputTerm i (seen s c b 0)
   unfolding inputTerm judged
   term-full h k q = q .reads b 0 ∙ sym (simp (kind-seen, eq-eqb _ _ h, block-seen, t .count, le-ltb _ _ k))
 
-  pub term-then : c .kind ≡ 163 → n < termLimit → Step advance s c d → inputTerm i (seen s c b 0) ≡ termFrom i (termName i (seen s d b 0))
+  pub term-then : c .kind ≡ TERM → n < termLimit → Step advance s c d → inputTerm i (seen s c b 0) ≡ termFrom i (termName i (seen s d b 0))
   unfolding inputTerm judged
   term-then h k q =
       simp (kind-seen, eq-eqb _ _ h, block-seen, t .count, lt-ltb _ _ k) (ap (λ (r : Parse). termFrom i (termName i r)) (sym (q .reads b 0)))
@@ -454,61 +448,11 @@ module _ (s : List ℕ) (t : Tables) (i : ℕ) where
           good = record { fits = y .room .fits; holds = z .holds };
         }
 
--- TERM again and again: the terms are read up to p, and what the next one comes to leads on
-module _ (i : ℕ) (s : List ℕ) where
-  abbrev all : Parse → Parse
-  all r = repeated TERM (inputTerm i) (inputTerm i r)
-
-  abbrev Runs : ParseState → Parse → Type 0
-  Runs r x = Again (repeats TERM (inputTerm i)) (left s (r .cursor)) (view s r) x
-
-  abbrev pub Turning : ParseState → ParseState → Type 0
-  Turning p₀ p = (i < p .tables .«input_count») × Good s p × (left s (p .cursor) ≤ left s (p₀ .cursor))
-      × ((r : ParseState) → p .cursor .kind ≡ TERM → Reads (inputTerm i) s p r → left s (r .cursor) < left s (p .cursor) → Runs r (all (view s p₀)))
-      × ((p .cursor .kind ≡ TERM → ⊥) → view s p ≡ all (view s p₀))
-
-  pub turns-first : (p : ParseState) → i < p .tables .«input_count» → Good s p → p .cursor .kind ≡ TERM → Turning p p
-  unfolding repeated view
-  turns-first p l g h = (
-    l,
-    g,
-    omega arith,
-    λ r k q m. (suc (length (view s r .rest)), cursor.enough s (r .cursor) (blockView s (r .tables)) 0, ap (repeated TERM (inputTerm i)) (q .reads)),
-    λ z. absurd (z h),
-  )
-
-  pub turns-more : (p₀ p r : ParseState) → Turning p₀ p → p .cursor .kind ≡ TERM → Reads (inputTerm i) s p r → left s (r .cursor) < left s (p .cursor)
-      → i < r .tables .«input_count» → Turning p₀ r
-  turns-more p₀ p r g h q m l =
-      let w = g .3 r h q m in (
-        l,
-        q .good,
-        omega (arith, g .2),
-        λ v k y n.
-            again-more (repeats TERM (inputTerm i))
-            (λ f. turn TERM (inputTerm i) f (view s r) (eq-eqb _ _ (kind-view s r ∙ k)) ∙ ap (repeatOn f TERM (inputTerm i)) (sym (y .reads))) n w,
-        λ z. again-end (repeats TERM (inputTerm i)) (λ f. no-turn TERM (inputTerm i) f (view s r) (ne-eqb _ _ (λ y. z (sym (kind-view s r) ∙ y)))) w,
-      )
-
-  pub turns-end : (p₀ p : ParseState) → Turning p₀ p → (p .cursor .kind ≡ TERM → ⊥) → Reads (λ r. repeated TERM (inputTerm i) (inputTerm i r)) s p₀ p
-  turns-end p₀ p g h = record { reads = g .4 h; fewer = g .2; good = g .1 }
-
--- whatever the tables beside them
-pub record Gathers (i : ℕ) (s : List ℕ) (f₀ f : Tables → ParseState) : Type 0 where
-  pub from : Ready s f₀
-  pub turning : (t : Tables) → Good s (f₀ t) → Turning i s (f₀ t) (f t)
-
-pub gathered : {i : ℕ} {s : List ℕ} {f₀ f : Tables → ParseState} (g : Gathers i s f₀ f) → Turning i s (f₀ (g .from .tables)) (f (g .from .tables))
-gathered g = g .turning (g .from .tables) (g .from .good)
-
-pub terms-none : (s : List ℕ) (c : Cursor) (t : Tables) (d : Cursor) (i : ℕ) → Holds s t → (c .kind ≡ 163 → ⊥) → (d .why ≡ 0 → ⊥)
+pub terms-none : (s : List ℕ) (c : Cursor) (t : Tables) (d : Cursor) (i : ℕ) → Holds s t → (c .kind ≡ TERM → ⊥) → (d .why ≡ 0 → ⊥)
     → Step (refuse 2) s c d → Reads (λ r. repeated TERM (inputTerm i) (inputTerm i r)) s (at c t) (at d t)
 unfolding inputTerm judged view
 terms-none s c t d i g h w q =
-    let y : Reads (inputTerm i) s (at c t) (at d t) = reading.also (reading.step t g q) (sym (simp (kind-seen, ne-eqb _ _ h))) in
-    let z : Reads (repeated TERM (inputTerm i)) s (at d t) (at d t) =
-    reading.also (reading.none s (at d t) (y .good)) (sym (cursor.lost-repeated s d (q .fits) w (blockView s t) 0 TERM (inputTerm i) (λ x. omega arith))) in
-    reading.next y z
+    reading.turns-none TERM (inputTerm i) s (at c t) d t (λ z. omega arith) w (reading.also (reading.step t g q) (sym (simp (kind-seen, ne-eqb _ _ h))))
 
 -- A PART
 module _ (s : List ℕ) (c : Cursor) (t : Tables) (d : Cursor) where

@@ -1,5 +1,5 @@
 -- A helper: the points of a term as they are read, and what they are checked for in numbers. A reading stands for any
--- block with these points in the last term of an input; `Reads` ties it to a `Part` of the model, and `position-is` and
+-- block with these points in the last term of an input; `ReadsShape` ties it to a `Part` of the model, and `position-is` and
 -- `points-end` of proofs/Laws tie the checks to the model's `pointPosition` and `endOfPoints`.
 use mathlib.Core.Path.{_≡_}
 use mathlib.Core.Bool.{Bool, true, false, _&&_}
@@ -14,36 +14,32 @@ use Rattle.model.specs.Basic.{if_then_else_, indexOf, update, tab}
 use Rattle.model.specs.Block as block
 use Rattle.model.specs.Block.{Block, termsOf, mayFollow, withInputs, withTerms}
 use Rattle.model.specs.Bounds.{termLimit, pointLeast, pointLimit, variableLimit}
-use Rattle.model.specs.Keywords.{ASSIGN, SEMICOLON}
-use Rattle.model.specs.Parse.{Parse, Part, is, advance, judged, expect, listed, aCrisp, valueHere}
+use Rattle.model.specs.Keywords.{ASSIGN, SEMICOLON, TERM, END-FUZZIFY}
+use Rattle.model.specs.Parse.{Parse, Part, is, advance, judged, expect, repeated, listed, aCrisp, valueHere}
 use Rattle.model.specs.Tokens.{sameName}
-use Rattle.model.specs.Declarations.{termOf, point, endOfPoints, inputTerm}
+use Rattle.model.specs.Declarations.{termOf, point, endOfPoints, inputTerm, fuzzify}
 use Rattle.lookup.specs.Names.{nameOf}
 use Rattle.cursor.specs.declared.Cursor.{Cursor}
-use Rattle.cursor.specs.View.{seen, Fits, left}
+use Rattle.cursor.specs.View.{seen, Fits, left, Step, Moves}
+use Rattle.block_tables.specs.declared.Input.{Input}
 use Rattle.model.specs.declared.Point.{Point}
+use Rattle.block_tables.specs.declared.Term.{Term}
 use Rattle.block_tables.specs.declared.Tables.{Tables}
 use Rattle.block_tables.specs.View.{no-point, pointAt}
 use Rattle.parse_state.specs.declared.ParseState.{ParseState}
-use Rattle.fuzzify_text.specs.declared.LastTwo.{LastTwo}
+use Rattle.parse_state.specs.Reads.{Good, Reads}
+use Rattle.parse_state.specs.Beside.{Collects}
+use Rattle.term_rules.specs.declared.LastTwo.{LastTwo}
+use Rattle.term_rules.specs.Positions.{mayStand, Ends}
 use Rattle.fuzzify_text.specs.declared.PointRead.{PointRead}
 use Rattle.fuzzify_text.specs.declared.Shape.{Shape}
 use Rattle.fuzzify_text.specs.declared.TermName.{TermName}
 use Rattle.fuzzify_text.specs.declared.Inputs.{Inputs}
+use Rattle.fuzzify_text.specs.declared.Found.{Found}
 
 -- one term more for input i of a block
 unfoldable pub withTerm : ℕ → block.Term → Block → Block
 withTerm i x = withInputs (update (withTerms (λ ts. ts ++ (x ∷ []))) i)
-
--- x may stand after n positions that end in these two
-unfoldable pub mayStand : ℕ → LastTwo → ℤ → Bool
-mayStand n t x =
-    if eqb n 0 then true else
-    if eqb n 1 then leZ (t .later .0) x else leZ (t .later .0) x && ltZ (t .earlier .0) x
-
--- one position more
-abbrev pub lastWith : LastTwo → ℤ → LastTwo
-lastWith t y = record { earlier = t .later; later = record { 0 = y } }
 
 -- a position after n others, the end of n points
 unfoldable pub positionAfter : ℕ → LastTwo → Part
@@ -91,14 +87,11 @@ pointOf q = record { at = q .at .0; degree = q .degree .0 }
 abbrev pub pointsWith : List block.Point → PointRead → List block.Point
 pointsWith ps r = if r .read then ps ++ (pointOf (r .point) ∷ []) else ps
 
--- there are n of them, and these are the last two positions: which may follow, and which with one more
-pub record Ends (ps : List block.Point) (n : ℕ) (last : LastTwo) : Type 0 where
-  pub count : length ps ≡ n
-  pub may : (x : ℤ) → mayFollow (map (λ q. q .at) ps) x ≡ mayStand n last x
-  pub more : (y x : ℤ) → mayFollow (map (λ q. q .at) ps ++ (y ∷ [])) x ≡ mayStand (n + 1) (lastWith last y) x
+abbrev pub positions : List block.Point → List ℤ
+positions ps = map (λ q. q .at) ps
 
 pub record ReadsPoint (part : ℕ → Part) (n : ℕ) (last : LastTwo) (s : List ℕ) (c : Cursor) (r : PointRead) : Type 0 where
-  pub reads : (x : Place) (ps : List block.Point) → Ends ps n last
+  pub reads : (x : Place) (ps : List block.Point) → Ends (positions ps) n last
       → viewWith s x (pointsWith ps r) (r .cursor) ≡ part (x .input) (viewWith s x ps c)
   pub fewer : left s (r .cursor) ≤ left s c
   pub fits : Fits s (r .cursor)
@@ -119,7 +112,7 @@ pub record Room (s : List ℕ) (p : Shape) : Type 0 where
   pub few : p .count ≤ pointLimit
   pub size : length (p .points) ≡ pointLimit
 
-pub record Reads (part : ℕ → Part) (s : List ℕ) (p r : Shape) : Type 0 where
+pub record ReadsShape (part : ℕ → Part) (s : List ℕ) (p r : Shape) : Type 0 where
   pub reads : (x : Place) → viewAt s x r ≡ part (x .input) (viewAt s x p)
   pub fewer : left s (r .cursor) ≤ left s (p .cursor)
   pub room : Room s r
@@ -147,3 +140,21 @@ pub record Named (s : List ℕ) (n : ℕ) (c : Cursor) (r : TermName) : Type 0 w
   pub order : r .start ≤ r .end
   pub inside : r .end ≤ length s
   pub room : r .cursor .why ≡ 0 → n < termLimit
+
+-- A PART
+-- n inputs with these rows and terms
+abbrev pub inputsOf : Cursor → ℕ → List Input → List Term → Inputs
+inputsOf c n rows ts = record { cursor = c; count = n; rows = rows; terms = ts }
+
+-- a part is read up to the terms of an input, whatever those of the others, or refused
+pub record Finds (s names : List ℕ) (n : ℕ) (rows : List Input) (c : Cursor) (r : Found) : Type 0 where
+  pub found : r .cursor .why ≡ 0 → (ts : List Term) (t : Tables) → Good s (inputsIn names (inputsOf c n rows ts) t) → (p : ParseState) (e : Cursor)
+      → Reads (λ q. repeated TERM (inputTerm (r .input)) (inputTerm (r .input) q)) s (inputsIn names (inputsOf (r .cursor) n rows ts) t) p
+      → Step (expect END-FUZZIFY) s (p .cursor) e
+      → Reads fuzzify s (inputsIn names (inputsOf c n rows ts) t) (record { cursor = e; tables = p .tables })
+  pub lost : (r .cursor .why ≡ 0 → ⊥) → (ts : List Term)
+      → Collects fuzzify s (inputsIn names (inputsOf c n rows ts)) (inputsIn names (inputsOf (r .cursor) n rows ts))
+  pub known : r .cursor .why ≡ 0 → r .input < n
+  pub fewer : r .cursor .why ≡ 0 → left s (r .cursor) < left s c
+  pub moves : Moves s c (r .cursor)
+  pub fits : Fits s (r .cursor)

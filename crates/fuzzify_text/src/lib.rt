@@ -3,16 +3,17 @@
 ghost use mathlib.Core.Path.{_≡_};
 ghost use mathlib.Core.Bool.{true};
 ghost use Prim.Native.Nat.{ℕ, _+_, _*_, _≤_, _<_};
+ghost use lib.ListN.{length};
 ghost use Rattle.model.specs.Bounds.{inputLimit, termLimit, pointLimit, inputTermLimit};
 ghost use Rattle.model.specs.Tokens.{valueOf};
 ghost use Rattle.model.specs.Keywords.{TERM, FUZZIFY};
 ghost use Rattle.model.specs.Block.{Block};
 ghost use Rattle.model.specs.Parse.{listed, repeated};
-ghost use Rattle.model.specs.Declarations.{pointDegree as aDegree, pointBody, point as aPoint, inputTerm, fuzzifyVariable, fuzzify as aFuzzify};
+ghost use Rattle.model.specs.Declarations.{pointDegree as aDegree, pointBody, point as aPoint, inputTerm, fuzzify};
 ghost use Rattle.lookup.specs.Names.{Placed};
-ghost use Rattle.cursor.specs.View.{textOf, Fits, Step, Moves};
+ghost use Rattle.cursor.specs.View.{textOf, Fits, Step};
 ghost use Rattle.parse_state.specs.Beside.{Ready, Collects};
-ghost use Rattle.fuzzify_text.specs.Terms.{mayStand, positionAfter, endAfter, ReadsPoint, noPoints, Reads as ReadsShape, termFrom, Terms, Names as Reached, Named, inputsIn};
+ghost use Rattle.fuzzify_text.specs.Terms.{positionAfter, endAfter, ReadsPoint, noPoints, ReadsShape, termFrom, Terms, Names as Reached, Named, inputsIn, Finds};
 use block_tables::Input;
 use block_tables::Term;
 use cursor::Cursor;
@@ -20,6 +21,7 @@ use lookup::Names;
 use model::Crisp;
 use model::Degree;
 use model::Point;
+use term_rules::LastTwo;
 
 // The cursor behind a position, and its value where it is not refused.
 struct At {
@@ -32,12 +34,6 @@ struct PointRead {
     cursor: Cursor,
     read: bool,
     point: Point,
-}
-
-// The last two positions so far; where there are fewer, those that are missing are not looked at.
-struct LastTwo {
-    earlier: Crisp,
-    later: Crisp,
 }
 
 // The points of a term so far.
@@ -62,20 +58,10 @@ struct TermName {
     end: usize,
 }
 
-// Whether x may stand after n positions, the last two of them given.
-fn may_stand(n: usize, last: LastTwo, x: Crisp) -> bool
-    ensures { λ r. ⌜ r ≡ mayStand n last (x .0) ⌝ }
-{
-    if n == 0 {
-        return true;
-    }
-    if !crisp::not_above(last.later, x) {
-        return false;
-    }
-    if n == 1 {
-        return true;
-    }
-    crisp::less(last.earlier, x)
+// The cursor behind the name of an input, and which one it is.
+struct Found {
+    cursor: Cursor,
+    input: usize,
 }
 
 // A position after n others, the last two of them given.
@@ -93,7 +79,7 @@ fn position(s: &[u8], c: Cursor, n: usize, last: LastTwo) -> At
             value: x,
         };
     }
-    if may_stand(n, last, x) {
+    if term_rules::may_stand(n, last, x) {
         let d = cursor::advance(s, c);
         return At {
             cursor: d,
@@ -364,68 +350,66 @@ fn input_terms(s: &[u8], names: &mut Names, p: Inputs, i: usize) -> Inputs
     r
 }
 
-// The name of an input without terms, and its terms.
-fn fuzzify_named(s: &[u8], names: &mut Names, p: Inputs) -> Inputs
-    requires { ⌜ Ready (now s) (inputsIn (now names) p) ⌝ }
-    ensures { λ r. ⌜ Collects fuzzifyVariable (now (s .entry)) (inputsIn (now (names .entry)) p)
-        (inputsIn (now (names .exit)) r) ⌝ }
-    ensures count { λ r. ⌜ r .count ≡ p .count ⌝ }
+// FUZZIFY and the name of one of n inputs, which has no terms.
+fn input_named(s: &[u8], names: &Names, c: Cursor, n: usize, rows: [Input; bounds::INPUTS]) -> Found
+    requires { ⌜ Fits (now s) c × Placed (now s) (now names) × (n ≤ inputLimit) × (length rows ≡ inputLimit) ⌝ }
+    ensures { λ r. ⌜ Finds (now (s .entry)) (now (names .entry)) n rows c r ⌝ }
 {
-    let c = p.cursor;
-    let w = cursor::name_fault(c);
-    let mut q = p;
-    if w != 0 {
-        let d = cursor::refuse(c, w);
-        q.cursor = d;
-        return q;
-    }
-    let n = p.count;
-    let i = lookup::find(s, names, 0, n, c.start, c.end);
-    if n <= i {
-        let d = cursor::refuse(c, 5);
-        q.cursor = d;
-        return q;
-    }
-    let v = p.rows[i];
-    if v.terms != 0 {
-        let d = cursor::refuse(c, 4);
-        q.cursor = d;
-        return q;
-    }
-    let d = cursor::advance(s, c);
-    q.cursor = d;
-    let mut r = input_terms(s, names, q, i);
-    let e = r.cursor;
-    let f = cursor::expect(s, e, token_kinds::END_FUZZIFY);
-    r.cursor = f;
-    r
-}
-
-fn fuzzify(s: &[u8], names: &mut Names, p: Inputs) -> Inputs
-    requires { ⌜ Ready (now s) (inputsIn (now names) p) ⌝ }
-    ensures { λ r. ⌜ Collects aFuzzify (now (s .entry)) (inputsIn (now (names .entry)) p)
-        (inputsIn (now (names .exit)) r) ⌝ }
-    ensures count { λ r. ⌜ r .count ≡ p .count ⌝ }
-    ensures moves { λ r. ⌜ Moves (now (s .entry)) (p .cursor) (r .cursor) ⌝ }
-{
-    let c = p.cursor;
     let d = cursor::expect(s, c, token_kinds::FUZZIFY);
-    let mut q = p;
-    q.cursor = d;
-    fuzzify_named(s, names, q)
+    let w = cursor::name_fault(d);
+    if w != 0 {
+        let e = cursor::refuse(d, w);
+        return Found {
+            cursor: e,
+            input: 0,
+        };
+    }
+    let i = lookup::find(s, names, 0, n, d.start, d.end);
+    if n <= i {
+        let e = cursor::refuse(d, 5);
+        return Found {
+            cursor: e,
+            input: 0,
+        };
+    }
+    let v = rows[i];
+    if v.terms != 0 {
+        let e = cursor::refuse(d, 4);
+        return Found {
+            cursor: e,
+            input: 0,
+        };
+    }
+    let e = cursor::advance(s, d);
+    Found {
+        cursor: e,
+        input: i,
+    }
 }
 
 // FUZZIFY parts, one or more.
 pub fn parts(s: &[u8], names: &mut Names, p: Inputs) -> Inputs
     requires { ⌜ Ready (now s) (inputsIn (now names) p) ⌝ }
-    ensures { λ r. ⌜ Collects (λ q. repeated FUZZIFY aFuzzify (aFuzzify q))
+    ensures { λ r. ⌜ Collects (λ q. repeated FUZZIFY fuzzify (fuzzify q))
         (now (s .entry)) (inputsIn (now (names .entry)) p)
         (inputsIn (now (names .exit)) r) ⌝ }
-    ensures count { λ r. ⌜ r .count ≡ p .count ⌝ }
 {
-    let mut q = fuzzify(s, names, p);
-    while q.cursor.kind == token_kinds::FUZZIFY {
-        q = fuzzify(s, names, q);
+    let mut q = p;
+    loop {
+        let c = q.cursor;
+        let rows = q.rows;
+        let a = input_named(s, names, c, q.count, rows);
+        let d = a.cursor;
+        q.cursor = d;
+        if d.why != 0 {
+            return q;
+        }
+        q = input_terms(s, names, q, a.input);
+        let e = q.cursor;
+        let f = cursor::expect(s, e, token_kinds::END_FUZZIFY);
+        q.cursor = f;
+        if f.kind != token_kinds::FUZZIFY {
+            return q;
+        }
     }
-    q
 }

@@ -71,7 +71,6 @@ fn no_row(h: usize) -> Row
     }
 }
 
-// To the compiler it is a table.
 fn slot_row(h: usize) -> Row
     ensures { λ r. ⌜ r ≡ slotRow h ⌝ }
 {

@@ -58,3 +58,11 @@ pub record Turns (k : ℕ) (part : Part) (s : List ℕ) (f₀ f : Tables → Par
 
 pub turned : {k : ℕ} {part : Part} {s : List ℕ} {f₀ f : Tables → ParseState} → Turns k part s f₀ f → Ready s f
 turned g = record { tables = g .from .tables; good = g .turning (g .from .tables) (g .from .good) .0 }
+
+-- the same where a loop tests at its end
+pub record Leads (k : ℕ) (part : Part) (s : List ℕ) (f₀ f : Tables → ParseState) : Type 0 where
+  pub from : Ready s f₀
+  pub leading : (t : Tables) → Good s (f₀ t) → reading.Leading k part s (f₀ t) (f t)
+
+pub led : {k : ℕ} {part : Part} {s : List ℕ} {f₀ f : Tables → ParseState} → Leads k part s f₀ f → Ready s f
+led g = record { tables = g .from .tables; good = g .leading (g .from .tables) (g .from .good) .0 }

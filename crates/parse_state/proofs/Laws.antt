@@ -7,12 +7,12 @@ use native.Mathlib.Omega.{arith}
 use borrow.Author.Tests.{eq-eqb, ne-eqb}
 use lib.ListN.{length}
 use Rattle.model.specs.Block.{Block}
-use Rattle.model.specs.Keywords.{COMMA, END}
+use Rattle.model.specs.Keywords.{END, COMMA}
 use Rattle.model.specs.Parse.{Parse, Part, Checks, kind, text, refuse, change, advance, judged, expect, repeatOn, repeated, listed}
 use Rattle.laws.proofs.Again.{Again, again-more, again-end, repeats}
 use Rattle.laws.proofs.Repetition.{turn, no-turn}
 use Rattle.cursor.specs.declared.Cursor.{Cursor}
-use Rattle.cursor.specs.View.{seen, textOf, Fits, left, Step, fault}
+use Rattle.cursor.specs.View.{seen, textOf, Fits, left, Moves, Step, fault}
 use Rattle.cursor.proofs.Laws as cursor
 use Rattle.block_tables.specs.declared.Tables.{Tables}
 use Rattle.block_tables.specs.View.{blockView, Holds}
@@ -166,3 +166,34 @@ module _ (k : ℕ) (part : Part) (s : List ℕ) where
       let z : Reads (repeated k part) s (at d t) (at d t) =
       also (none s (at d t) (y .good)) (sym (cursor.lost-repeated s d (y .good .fits) w (blockView s t) 0 k part h)) in
       next y z
+
+  -- the same where a loop tests at its end
+  abbrev pub Leading : ParseState → ParseState → Type 0
+  Leading p₀ p = Good s p × (left s (p .cursor) ≤ left s (p₀ .cursor))
+      × ((r : ParseState) → Reads part s p r → Moves s (p .cursor) (r .cursor)
+      → Again (repeats k part) (left s (r .cursor)) (view s r) (all (view s p₀)))
+
+  pub leads-first : (p : ParseState) → Good s p → Leading p p
+  unfolding repeated view
+  leads-first p g = (
+    g,
+    omega arith,
+    λ r q m. (suc (length (view s r .rest)), cursor.enough s (r .cursor) (blockView s (r .tables)) 0, ap (repeated k part) (q .reads)),
+  )
+
+  module _ (p₀ p r : ParseState) (g : Leading p₀ p) (q : Reads part s p r) (m : Moves s (p .cursor) (r .cursor)) where
+    pub leads-on : (k ≡ END → ⊥) → r .cursor .kind ≡ k → Leading p₀ r
+    leads-on z h = (
+      q .good,
+      omega (arith, g .1, q .fewer),
+      λ v y n.
+          again-more (repeats k part)
+          (λ f. turn k part f (view s r) (eq-eqb _ _ (kind-view s r ∙ h)) ∙ ap (repeatOn f k part) (sym (y .reads))) (n (λ e. z (sym h ∙ e))) (g .2 r q m),
+    )
+
+    pub leads-end : (r .cursor .kind ≡ k → ⊥) → Reads all s p₀ r
+    leads-end h = record {
+      reads = again-end (repeats k part) (λ f. no-turn k part f (view s r) (ne-eqb _ _ (λ y. h (sym (kind-view s r) ∙ y)))) (g .2 r q m);
+      fewer = omega (arith, g .1, q .fewer);
+      good = q .good;
+    }

@@ -5,7 +5,7 @@ parts-requires : tie.Need-parts-requires
 parts-requires c κs = c .before .before .before .pre
 
 returns : tie.Need-returns
-returns c = c .parts .ensures .0
+returns c = c .parts .ensures
 
 pub input-terms-spec : {M : Type 1} → statement M
 input-terms-spec = tie.close (tie.spec parts-requires returns)

@@ -1,15 +1,19 @@
 use mathlib.Core.Path.{_≡_, refl}
 use mathlib.Core.List.{List}
-use Prim.Native.Nat.{ℕ}
+use Prim.Native.Nat.{ℕ, _<_}
 use native.Mathlib.Omega.{arith}
 use borrow.Author.Needs.{needs}
+use Rattle.model.specs.Keywords.{TERM}
+use Rattle.model.specs.Declarations.{inputTerm}
 use Rattle.cursor.specs.declared.Cursor.{Cursor}
 use Rattle.cursor.specs.View.{left}
 use Rattle.cursor.proofs.Laws.{lost-kind}
 use Rattle.block_tables.specs.declared.Tables.{Tables}
 use Rattle.block_tables.specs.declared.Term.{Term}
 use Rattle.parse_state.specs.declared.ParseState.{ParseState}
+use Rattle.parse_state.proofs.Laws as reading
 use Rattle.parse_state.proofs.Laws.{at}
+use Rattle.parse_state.proofs.Beside as beside
 use Rattle.fuzzify_text.specs.declared.Inputs.{Inputs}
 use Rattle.fuzzify_text.specs.Terms.{inputsIn}
 use Rattle.fuzzify_text.proofs.Laws as laws
@@ -21,7 +25,7 @@ abbrev here : List ℕ → Cursor → Inputs → Tables → ParseState
 here names c r t = at c (inputsIn names r t .tables)
 
 abbrev Inv-loop : tie.InvT-loop
-Inv-loop s names₀ i c₀ r₀ names c r = laws.Gathers i s (here names₀ c₀ r₀) (here names c r) × (r .count ≡ r₀ .count)
+Inv-loop s names₀ i c₀ r₀ names c r = beside.Turns TERM (inputTerm i) s (here names₀ c₀ r₀) (here names c r) × (r .count ≡ r₀ .count)
 
 abbrev μ-loop : tie.MeasureT-loop
 μ-loop s names₀ i c₀ r₀ names c r = left s c
@@ -41,42 +45,45 @@ loop-holds : tie.Need-loop-holds Inv-loop μ-loop
 loop-holds c =
     let b = c .before .before .before .before in
     let a = b .args in
-    (record { from = b .pre .0; turning = λ t g. laws.turns-first (a .i) (a .s .now) (inputsIn (a .names .now) (a .p) t) (b .pre .1) g (c .if1 .left) }, refl)
+    (record { from = b .pre .0; turning = λ t g. reading.turns-first TERM (inputTerm (a .i)) (a .s .now) (inputsIn (a .names .now) (a .p) t) g (c .if1 .left) }, refl)
 
 mul-v : tie.Need-mul-v Inv-loop μ-loop
 mul-v c = search needs
 
 element-copy-out-v : tie.Need-element-copy-out-v Inv-loop μ-loop
 element-copy-out-v c =
-    let z = laws.gathered (c .before .before .loop .inv .0) in
-    omega (arith, z .0, z .1 .holds .inputCount)
+    let l = c .before .before .loop in
+    let b = c .before .before .before .before .before .before .before in
+    omega (arith, b .pre .1, l .inv .1, beside.turned (l .inv .0) .good .holds .inputCount)
 
 term-name-requires : tie.Need-term-name-requires Inv-loop μ-loop
 term-name-requires c κs =
-    let c4 = c .before .before .before .before in
-    let c9 = c4 .before .before .before .before .before in
-    let z = laws.gathered (c4 .loop .inv .0) in
-    let h = z .1 .holds in
-    (z .1 .fits, c .before .before .if2 .taken, h .placed, omega (arith, z .0, h .inputCount), h .inputTerms (c9 .args .i))
+    let l = c .before .before .before .before .loop in
+    let b = c .before .before .before .before .before .before .before .before .before in
+    let g = beside.turned (l .inv .0) .good in
+    let h = g .holds in
+    (g .fits, c .before .before .if2 .taken, h .placed, omega (arith, b .pre .1, l .inv .1, h .inputCount), h .inputTerms (b .args .i))
 
 returns-2 : tie.Need-returns-2 Inv-loop μ-loop
 returns-2 c =
     let c3 = c .before .before .before in
     let c6 = c3 .before .before .before in
     let l = c6 .before .before .loop in
-    let a = c .before .before .before .before .before .before .before .before .before .before .before .before .before .args in
+    let b = c .before .before .before .before .before .before .before .before .before .before .before .before .before in
+    let a = b .args in
     let n = c3 .term-name in
     let m = n .ensures .1 in (
       λ t g.
           let w = l .inv .0 .turning t g in
-          let h = w .1 .holds in
+          let h = w .0 .holds in
+          let k : a .i < l .r .count = omega (arith, b .pre .1, l .inv .1) in
           let u = inputsIn (l .names) (l .r) t .tables in
           let p₀ = inputsIn (a .names .now) (a .p) t in
           let r = at (n .result .cursor) u in
-          laws.turns-end (a .i) (a .s .now) p₀ r
-          (laws.turns-more (a .i) (a .s .now) p₀ (at (l .c) u) r w (c6 .if2 .taken)
-          (laws.turn-lost (a .s .now) u (a .i) (l .c) (n .result) (n .ensures .0 _ (laws.terms-known (a .s .now) u (a .i) h (w .0))) h
-          (m .fits) (m .fewer) (c .if3 .taken)) (m .fewer) (w .0))
+          reading.turns-end TERM (inputTerm (a .i)) (a .s .now) p₀ r
+          (reading.turns-more TERM (inputTerm (a .i)) (a .s .now) p₀ (at (l .c) u) r w (c6 .if2 .taken)
+          (laws.turn-lost (a .s .now) u (a .i) (l .c) (n .result) (n .ensures .0 _ (laws.terms-known (a .s .now) u (a .i) h k)) h
+          (m .fits) (m .fewer) (c .if3 .taken)) (m .fewer))
           (λ z. omega (arith, lost-kind (a .s .now) (n .result .cursor) (m .fits) (c .if3 .taken))),
       l .inv .1,
     )
@@ -86,8 +93,11 @@ term-points-requires c κs = c .before .before .before .term-name .ensures .1 .f
 
 term-place-requires : tie.Need-term-place-requires Inv-loop μ-loop
 term-place-requires c κs =
-    let z = laws.gathered (c .before .before .before .before .before .before .before .before .before .before .loop .inv .0) in
-    (omega (arith, z .0, z .1 .holds .inputCount), c .before .before .before .before .before .term-name .ensures .1 .room (c .before .before .if3 .left))
+    let l = c .before .before .before .before .before .before .before .before .before .before .loop in
+    let b = c .before .before .before .before .before .before .before .before .before .before .before .before .before .before .before in (
+      omega (arith, b .pre .1, l .inv .1, beside.turned (l .inv .0) .good .holds .inputCount),
+      c .before .before .before .before .before .term-name .ensures .1 .room (c .before .before .if3 .left),
+    )
 
 add-names : tie.Need-add-names Inv-loop μ-loop
 add-names c = search needs
@@ -118,8 +128,9 @@ mul-v-2 c = search needs
 
 element-set-from-v : tie.Need-element-set-from-v Inv-loop μ-loop
 element-set-from-v c =
-    let z = laws.gathered (c .before .before .before .before .before .before .before .before .before .before .before .loop .inv .0) in
-    omega (arith, z .0, z .1 .holds .inputCount)
+    let l = c .before .before .before .before .before .before .before .before .before .before .before .loop in
+    let b = c .before .before .before .before .before .before .before .before .before .before .before .before .before .before .before .before in
+    omega (arith, b .pre .1, l .inv .1, beside.turned (l .inv .0) .good .holds .inputCount)
 
 mul-t : tie.Need-mul-t Inv-loop μ-loop
 mul-t c = search needs
@@ -139,7 +150,8 @@ loop-again c =
     let c7 = c3 .before .before .before .before in
     let c10 = c7 .before .before .before in
     let l = c10 .before .before .loop in
-    let a = c .before .before .before .before .before .before .before .before .before .before .before .before .before .before .before .before .before .args in
+    let b = c .before .before .before .before .before .before .before .before .before .before .before .before .before .before .before .before .before in
+    let a = b .args in
     let n = c7 .term-name in
     let m = n .ensures .1 in
     let q = c3 .term-points in
@@ -150,14 +162,15 @@ loop-again c =
         from = l .inv .0 .from;
         turning = λ t g.
             let w = l .inv .0 .turning t g in
-            let h = w .1 .holds in
+            let h = w .0 .holds in
+            let o : a .i < l .r .count = omega (arith, b .pre .1, l .inv .1) in
             let u = inputsIn (l .names) (l .r) t .tables in
-            let z = term-added (a .s .now) u (a .i) (k .result) v (k .ensures .0) (w .0) (m .room y) (q .ensures .room .few) (q .ensures .room .size) h
+            let z = term-added (a .s .now) u (a .i) (k .result) v (k .ensures .0) o (m .room y) (q .ensures .room .few) (q .ensures .room .size) h
             (m .order) (m .inside) in
-            laws.turns-more (a .i) (a .s .now) (inputsIn (a .names .now) (a .p) t) (at (l .c) u) (at (q .result .cursor) (termPut u (a .i) (k .result) v)) w
+            reading.turns-more TERM (inputTerm (a .i)) (a .s .now) (inputsIn (a .names .now) (a .p) t) (at (l .c) u) (at (q .result .cursor) (termPut u (a .i) (k .result) v)) w
             (c10 .if2 .taken)
-            (laws.turn-good (a .s .now) u (a .i) (l .c) (n .result) (n .ensures .0 _ (laws.terms-known (a .s .now) u (a .i) h (w .0))) (q .result)
-            (termPut u (a .i) (k .result) v) h (w .0) y (m .fewer) (q .ensures) z) (omega (arith, q .ensures .fewer, m .fewer)) (w .0);
+            (laws.turn-good (a .s .now) u (a .i) (l .c) (n .result) (n .ensures .0 _ (laws.terms-known (a .s .now) u (a .i) h o)) (q .result)
+            (termPut u (a .i) (k .result) v) h o y (m .fewer) (q .ensures) z) (omega (arith, q .ensures .fewer, m .fewer));
       },
       l .inv .1,
     )
@@ -167,7 +180,7 @@ returns-3 c =
     let l = c .before .before .loop in
     let a = c .before .before .before .before .before .before .before .args in (
       λ t g.
-          laws.turns-end (a .i) (a .s .now) (inputsIn (a .names .now) (a .p) t) (at (l .c) (inputsIn (l .names) (l .r) t .tables)) (l .inv .0 .turning t g)
+          reading.turns-end TERM (inputTerm (a .i)) (a .s .now) (inputsIn (a .names .now) (a .p) t) (at (l .c) (inputsIn (l .names) (l .r) t .tables)) (l .inv .0 .turning t g)
           (c .if2 .left),
       l .inv .1,
     )

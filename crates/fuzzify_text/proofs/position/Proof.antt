@@ -4,7 +4,7 @@ use borrow.Author.Needs.{needs}
 use lib.IntN.{ℤ, pos}
 use Rattle.model.specs.Tokens.{valueOf}
 use Rattle.cursor.specs.View.{textOf}
-use Rattle.fuzzify_text.specs.Terms.{mayStand}
+use Rattle.term_rules.specs.Positions.{mayStand}
 use Rattle.number_tokens.proofs.Laws.{value-here}
 use Rattle.fuzzify_text.proofs.Laws as laws
 use Rattle.fuzzify_text.proofs.position.Statement.{statement}
