@@ -63,11 +63,11 @@ returns-2 c =
     let z = sym (c4 .before .if1 .left) in
     record {
       read = λ q t u g k x.
-          let y = n .read q t u g (record { known = k .known; names-are = k .names-are; row-is = k .row-is }) x in
+          let y = n .read q t u g k x in
           laws.named-some (a .s .now) (a .c) t (a .o) _ (z ∙ c6 .term-fault .ensures .0 _ 0 (laws.singletons (a .s .now) (a .names .now) t (a .o) (a .v) g k))
           (reading.next (reading.next (reading.step t g d) y) (reading.step _ (y .good .holds) e));
       lost = λ q t g k.
-          let y = n .lost q t g (record { known = k .known; names-are = k .names-are; row-is = k .row-is }) in
+          let y = n .lost q t g k in
           laws.named-some (a .s .now) (a .c) t (a .o) _ (z ∙ c6 .term-fault .ensures .0 _ 0 (laws.singletons (a .s .now) (a .names .now) t (a .o) (a .v) g k))
           (reading.next (reading.next (reading.step t g d) y) (reading.step _ (y .good .holds) e));
       fewer = omega (arith, d .fewer, n .fewer, e .fewer);
