@@ -12,7 +12,7 @@ use Rattle.model.specs.WellFormed.{unitOk, conditionOk, conclusionOk, ruleOk}
 use Rattle.model.specs.Image.{conclusionAt, ruleAt, decode, CONCLUSIONS, WORD-TABLE, WORDS}
 use Rattle.laws.proofs.Tests.{both, and-i, passed, pass, iff}
 use Rattle.laws.proofs.Places.{tab-from}
-use Rattle.stored_conditions.specs.Stored.{isCondition, conditionStored}
+use Rattle.condition_stack.specs.Stored.{isCondition, conditionStored}
 use Rattle.layout.specs.Tables.{wordCount, conclusionCount, inputTermsIn, conditionExact}
 use Rattle.layout.specs.Groups.{tablesOk}
 use Rattle.layout.proofs.Parts.{wordFirst, conclusionFirst}

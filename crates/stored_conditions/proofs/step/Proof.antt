@@ -3,7 +3,7 @@ use borrow.Author.Tests.{le-ltb, lt-ltb, le-leb, lt-leb, eq-eqb, ne-eqb}
 use borrow.Author.Needs.{needs}
 use Rattle.model.specs.Block.{and, or}
 use Rattle.condition_words.specs.Machine.{step}
-use Rattle.stored_conditions.proofs.Steps as laws
+use Rattle.condition_stack.proofs.Steps as laws
 use Rattle.stored_conditions.proofs.step.Statement.{statement}
 use Rattle.stored_conditions.proofs.step.Tie as tie
 

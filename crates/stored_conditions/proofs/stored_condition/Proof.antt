@@ -6,9 +6,9 @@ use lib.ListN.{length}
 use borrow.Author.Needs.{needs}
 use Rattle.model.specs.Image.{wordAt}
 use Rattle.condition_words.specs.Machine.{room, stackOf, turn}
-use Rattle.stored_conditions.specs.Shapes.{shapes, view}
+use Rattle.condition_stack.specs.Shapes.{shapes, view}
 use Rattle.condition_words.proofs.Passes.{Left, left-start, left-turn}
-use Rattle.stored_conditions.proofs.Steps as laws
+use Rattle.condition_stack.proofs.Steps as laws
 use Rattle.stored_conditions.proofs.stored_condition.Statement.{statement}
 use Rattle.stored_conditions.proofs.stored_condition.Tie as tie
 

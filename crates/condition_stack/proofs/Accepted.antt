@@ -15,8 +15,8 @@ use Rattle.model.specs.WellFormed.{termsBelow}
 use Rattle.model.specs.Image.{postfix, treeOf}
 use Rattle.laws.proofs.Tests.{both, and-i, iff}
 use Rattle.laws.proofs.Places.{same-eq, same-refl}
-use Rattle.stored_conditions.specs.Shapes.{shape, formOf, depthOf, negatedShape, joinedShape, shapes}
-use Rattle.stored_conditions.specs.Stored.{isCondition}
+use Rattle.condition_stack.specs.Shapes.{shape, formOf, depthOf, negatedShape, joinedShape, shapes}
+use Rattle.condition_stack.specs.Stored.{isCondition}
 use Rattle.condition_words.proofs.Trees.{tree-postfix}
 use Rattle.condition_words.proofs.Room.{form-le, opened-ge}
 use Rattle.condition_words.proofs.Passes.{fold, pass, Allowed, allowed-fine, pass-postfix, pass-one}

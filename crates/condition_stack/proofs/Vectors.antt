@@ -7,7 +7,7 @@ use Rattle.model.specs.Block.{Condition, term, neg, two, and, or}
 use Rattle.model.specs.Parentheses.{form, depth}
 use Rattle.model.specs.WellFormed.{termsBelow}
 use Rattle.model.specs.Image.{postfix, grown, trees, treeOf}
-use Rattle.stored_conditions.specs.Stored.{isCondition}
+use Rattle.condition_stack.specs.Stored.{isCondition}
 
 -- a OR b AND (a OR b AND ( .. )), n parentheses deep: this fills the stack
 abbrev nested : ℕ → Condition

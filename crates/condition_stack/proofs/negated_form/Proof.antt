@@ -1,7 +1,7 @@
 use borrow.Author.Tests.{eq-eqb, ne-eqb}
 use borrow.Author.Needs.{needs}
-use Rattle.stored_conditions.proofs.negated_form.Statement.{statement}
-use Rattle.stored_conditions.proofs.negated_form.Tie as tie
+use Rattle.condition_stack.proofs.negated_form.Statement.{statement}
+use Rattle.condition_stack.proofs.negated_form.Tie as tie
 
 returns : tie.Need-returns
 returns c = (simp (eq-eqb _ _ (c .if1 .taken)), search needs)

@@ -1,7 +1,7 @@
 use borrow.Author.Needs.{needs}
-use Rattle.stored_conditions.proofs.Steps as laws
-use Rattle.stored_conditions.proofs.opening.Statement.{statement}
-use Rattle.stored_conditions.proofs.opening.Tie as tie
+use Rattle.condition_stack.proofs.Steps as laws
+use Rattle.condition_stack.proofs.opening.Statement.{statement}
+use Rattle.condition_stack.proofs.opening.Tie as tie
 
 add-result : tie.Need-add-result
 add-result c = search needs

@@ -13,11 +13,11 @@ use Rattle.model.specs.Bounds.{depthLimit}
 use Rattle.model.specs.Block.{Op, and, or}
 use Rattle.model.specs.Parentheses.{rank, negatedForm, bareBehindNot, bareLeft, bareRight, opened}
 use Rattle.condition_words.specs.Machine.{room, added, unary, binary, stackOf}
-use Rattle.stored_conditions.specs.Shapes.{forms, shape, formOf, depthOf, shapes, negatedShape, joinedShape, view}
-use Rattle.stored_conditions.specs.Stored.{conditionStored}
+use Rattle.condition_stack.specs.Shapes.{forms, shape, formOf, depthOf, shapes, negatedShape, joinedShape, view}
+use Rattle.condition_stack.specs.Stored.{conditionStored}
 use Rattle.condition_words.proofs.Stacks.{length-stack, stack-push, stack-one, stack-two}
 use Rattle.condition_words.proofs.Passes.{Left, left-end, left-none}
-use Rattle.stored_conditions.proofs.Accepted.{depth-shape, isOne, accepts, accepts-is}
+use Rattle.condition_stack.proofs.Accepted.{depth-shape, isOne, accepts, accepts-is}
 
 abbrev at′ : List ℕ → ℕ → ℕ
 at′ l i = getD l i 0

@@ -3,9 +3,9 @@ use native.Mathlib.Omega.{arith}
 use Prim.Native.Nat.{_<_}
 use borrow.Author.Needs.{needs}
 use Rattle.condition_words.specs.Machine.{unary, stackOf}
-use Rattle.stored_conditions.proofs.Steps as laws
-use Rattle.stored_conditions.proofs.negate.Statement.{statement}
-use Rattle.stored_conditions.proofs.negate.Tie as tie
+use Rattle.condition_stack.proofs.Steps as laws
+use Rattle.condition_stack.proofs.negate.Statement.{statement}
+use Rattle.condition_stack.proofs.negate.Tie as tie
 
 returns : tie.Need-returns
 unfolding unary stackOf

@@ -1,8 +1,8 @@
 use mathlib.Core.Path.{_∙_}
 use borrow.Author.Needs.{needs}
-use Rattle.stored_conditions.proofs.Steps as laws
-use Rattle.stored_conditions.proofs.push.Statement.{statement}
-use Rattle.stored_conditions.proofs.push.Tie as tie
+use Rattle.condition_stack.proofs.Steps as laws
+use Rattle.condition_stack.proofs.push.Statement.{statement}
+use Rattle.condition_stack.proofs.push.Tie as tie
 
 cast-stack : tie.Need-cast-stack
 cast-stack c = search needs

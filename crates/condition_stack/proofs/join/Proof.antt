@@ -1,9 +1,9 @@
 use mathlib.Core.Path.{_∙_}
 use native.Mathlib.Omega.{arith}
 use borrow.Author.Needs.{needs}
-use Rattle.stored_conditions.proofs.Steps as laws
-use Rattle.stored_conditions.proofs.join.Statement.{statement}
-use Rattle.stored_conditions.proofs.join.Tie as tie
+use Rattle.condition_stack.proofs.Steps as laws
+use Rattle.condition_stack.proofs.join.Statement.{statement}
+use Rattle.condition_stack.proofs.join.Tie as tie
 
 returns : tie.Need-returns
 returns c = ((λ m o e f. laws.unseen _ ∙ laws.few-is m o _ _ (c .if1 .taken)), search needs)
