@@ -114,10 +114,12 @@ condition-loop-holds t c =
 condition-sub-whole-word : (t : ℕ) → condition-lts.Need-sub-whole-word (condition-claims t) (condition-at t) condition.Post condition-Inv-loop condition-μ-loop
 condition-sub-whole-word t c = search needs
 
-condition-whole-word-requires : (t : ℕ) → condition-lts.Need-whole-word-requires (condition-claims t) (condition-at t) condition.Post condition-Inv-loop condition-μ-loop
+condition-whole-word-requires : (t : ℕ) → condition-lts.Need-whole-word-requires
+    (condition-claims t) (condition-at t) condition.Post condition-Inv-loop condition-μ-loop
 condition-whole-word-requires t c κs = search needs
 
-condition-slice-aggregate-term : (t : ℕ) → condition-lts.Need-slice-aggregate-term (condition-claims t) (condition-at t) condition.Post condition-Inv-loop condition-μ-loop
+condition-slice-aggregate-term : (t : ℕ) → condition-lts.Need-slice-aggregate-term
+    (condition-claims t) (condition-at t) condition.Post condition-Inv-loop condition-μ-loop
 condition-slice-aggregate-term t c = search needs
 
 condition-term-requires : (t : ℕ) → condition-lts.Need-term-requires (condition-claims t) (condition-at t) condition.Post condition-Inv-loop condition-μ-loop
@@ -145,7 +147,8 @@ condition-returns t c =
 condition-sub-negation : (t : ℕ) → condition-lts.Need-sub-negation (condition-claims t) (condition-at t) condition.Post condition-Inv-loop condition-μ-loop
 condition-sub-negation t c = search needs
 
-condition-negation-requires : (t : ℕ) → condition-lts.Need-negation-requires (condition-claims t) (condition-at t) condition.Post condition-Inv-loop condition-μ-loop
+condition-negation-requires : (t : ℕ) → condition-lts.Need-negation-requires
+    (condition-claims t) (condition-at t) condition.Post condition-Inv-loop condition-μ-loop
 condition-negation-requires t c κs =
     let s = c .before .before .before .before .before .before .before .before in
     (search needs, (s .pre .1 .0, search needs))
@@ -166,7 +169,8 @@ condition-returns-2 t c =
       search needs,
     )
 
-condition-operator-form-requires : (t : ℕ) → condition-lts.Need-operator-form-requires (condition-claims t) (condition-at t) condition.Post condition-Inv-loop condition-μ-loop
+condition-operator-form-requires : (t : ℕ) → condition-lts.Need-operator-form-requires
+    (condition-claims t) (condition-at t) condition.Post condition-Inv-loop condition-μ-loop
 condition-operator-form-requires t c κs = search needs
 
 condition-sub-operand : (t : ℕ) → condition-lts.Need-sub-operand (condition-claims t) (condition-at t) condition.Post condition-Inv-loop condition-μ-loop
@@ -175,18 +179,21 @@ condition-sub-operand t c = search needs
 condition-sub-operand-2 : (t : ℕ) → condition-lts.Need-sub-operand-2 (condition-claims t) (condition-at t) condition.Post condition-Inv-loop condition-μ-loop
 condition-sub-operand-2 t c = search needs
 
-condition-operand-requires : (t : ℕ) → condition-lts.Need-operand-requires (condition-claims t) (condition-at t) condition.Post condition-Inv-loop condition-μ-loop
+condition-operand-requires : (t : ℕ) → condition-lts.Need-operand-requires
+    (condition-claims t) (condition-at t) condition.Post condition-Inv-loop condition-μ-loop
 condition-operand-requires t c κs =
     let s = c .before .before .before .before .before .before .before .before .before in
     (search needs, (s .pre .1 .0, search needs))
 
-condition-operator-requires : (t : ℕ) → condition-lts.Need-operator-requires (condition-claims t) (condition-at t) condition.Post condition-Inv-loop condition-μ-loop
+condition-operator-requires : (t : ℕ) → condition-lts.Need-operator-requires
+    (condition-claims t) (condition-at t) condition.Post condition-Inv-loop condition-μ-loop
 condition-operator-requires t c κs = search needs
 
 condition-form-requires : (t : ℕ) → condition-lts.Need-form-requires (condition-claims t) (condition-at t) condition.Post condition-Inv-loop condition-μ-loop
 condition-form-requires t c κs = search needs
 
-condition-operand-requires-2 : (t : ℕ) → condition-lts.Need-operand-requires-2 (condition-claims t) (condition-at t) condition.Post condition-Inv-loop condition-μ-loop
+condition-operand-requires-2 : (t : ℕ) → condition-lts.Need-operand-requires-2
+    (condition-claims t) (condition-at t) condition.Post condition-Inv-loop condition-μ-loop
 condition-operand-requires-2 t c κs =
     let first = c .before .before .before .before .before .before .before .before .before in
     let test = first .before .before .before .before .before .before in
