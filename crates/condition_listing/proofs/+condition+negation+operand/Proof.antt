@@ -58,6 +58,47 @@ operand-at t = and 2 operand-kinds.ps (is 2 operand-kinds.ps μ-operand t) opera
 abbrev operand-below : ℕ → In 2 operand-kinds.ps
 operand-below t = and 2 operand-kinds.ps (falls 2 operand-kinds.ps _<_ μ-operand t) operand.Pre
 
+-- what is asked of the functions that are called, and learnt of them
+abbrev condition-claims : ℕ → condition-lts.Claims
+condition-claims t = (
+  whole-word-reads.Asked,
+  whole-word-reads.Learnt,
+  term-reads.Asked,
+  term-reads.Learnt,
+  negation-below t,
+  negation.Post,
+  operator-form-reads.Asked,
+  operator-form-reads.Learnt,
+  operand-below t,
+  operand.Post,
+  operator-reads.Asked,
+  operator-reads.Learnt,
+  form-reads.Asked,
+  form-reads.Learnt,
+)
+
+abbrev negation-claims : ℕ → negation-lts.Claims
+negation-claims t = (
+  whole-word-reads.Asked,
+  whole-word-reads.Learnt,
+  term-reads.Asked,
+  term-reads.Learnt,
+  operand-below t,
+  operand.Post,
+  puts-reads.Asked,
+  puts-reads.Learnt,
+)
+
+abbrev operand-claims : ℕ → operand-lts.Claims
+operand-claims t = (
+  form-reads.Asked,
+  form-reads.Learnt,
+  condition-below t,
+  condition.Post,
+  puts-reads.Asked,
+  puts-reads.Learnt,
+)
+
 abbrev condition-Inv-loop : condition-lts.InvT-loop
 condition-Inv-loop out₀ k img h e d₀ q₀ t13 out d q =
     (d ≤ e) × texts.Left (wordAt img) (inputTermName (decode (wordAt img))) e k out₀ d q out × (length out ≡ length out₀)
@@ -65,150 +106,32 @@ condition-Inv-loop out₀ k img h e d₀ q₀ t13 out d q =
 abbrev condition-μ-loop : condition-lts.MeasureT-loop
 condition-μ-loop out₀ k img h e d₀ q₀ t13 out d q = d
 
-condition-loop-holds : (t : ℕ) → condition-lts.Need-loop-holds (
-  whole-word-reads.Asked,
-  whole-word-reads.Learnt,
-  term-reads.Asked,
-  term-reads.Learnt,
-  negation-below t,
-  negation.Post,
-  operator-form-reads.Asked,
-  operator-form-reads.Learnt,
-  operand-below t,
-  operand.Post,
-  operator-reads.Asked,
-  operator-reads.Learnt,
-  form-reads.Asked,
-  form-reads.Learnt,
-) (condition-at t) condition.Post condition-Inv-loop condition-μ-loop
+condition-loop-holds : (t : ℕ) → condition-lts.Need-loop-holds (condition-claims t) (condition-at t) condition.Post condition-Inv-loop condition-μ-loop
 condition-loop-holds t c =
     let w = wordAt (c .before .before .args .img .now) in
     (search needs, texts.left-start w (inputTermName (decode w)) _ _ _, refl)
 
-condition-sub-whole-word : (t : ℕ) → condition-lts.Need-sub-whole-word (
-  whole-word-reads.Asked,
-  whole-word-reads.Learnt,
-  term-reads.Asked,
-  term-reads.Learnt,
-  negation-below t,
-  negation.Post,
-  operator-form-reads.Asked,
-  operator-form-reads.Learnt,
-  operand-below t,
-  operand.Post,
-  operator-reads.Asked,
-  operator-reads.Learnt,
-  form-reads.Asked,
-  form-reads.Learnt,
-) (condition-at t) condition.Post condition-Inv-loop condition-μ-loop
+condition-sub-whole-word : (t : ℕ) → condition-lts.Need-sub-whole-word (condition-claims t) (condition-at t) condition.Post condition-Inv-loop condition-μ-loop
 condition-sub-whole-word t c = search needs
 
-condition-whole-word-requires : (t : ℕ) → condition-lts.Need-whole-word-requires (
-  whole-word-reads.Asked,
-  whole-word-reads.Learnt,
-  term-reads.Asked,
-  term-reads.Learnt,
-  negation-below t,
-  negation.Post,
-  operator-form-reads.Asked,
-  operator-form-reads.Learnt,
-  operand-below t,
-  operand.Post,
-  operator-reads.Asked,
-  operator-reads.Learnt,
-  form-reads.Asked,
-  form-reads.Learnt,
-) (condition-at t) condition.Post condition-Inv-loop condition-μ-loop
+condition-whole-word-requires : (t : ℕ) → condition-lts.Need-whole-word-requires
+    (condition-claims t) (condition-at t) condition.Post condition-Inv-loop condition-μ-loop
 condition-whole-word-requires t c κs = search needs
 
-condition-slice-aggregate-term : (t : ℕ) → condition-lts.Need-slice-aggregate-term (
-  whole-word-reads.Asked,
-  whole-word-reads.Learnt,
-  term-reads.Asked,
-  term-reads.Learnt,
-  negation-below t,
-  negation.Post,
-  operator-form-reads.Asked,
-  operator-form-reads.Learnt,
-  operand-below t,
-  operand.Post,
-  operator-reads.Asked,
-  operator-reads.Learnt,
-  form-reads.Asked,
-  form-reads.Learnt,
-) (condition-at t) condition.Post condition-Inv-loop condition-μ-loop
+condition-slice-aggregate-term : (t : ℕ) → condition-lts.Need-slice-aggregate-term
+    (condition-claims t) (condition-at t) condition.Post condition-Inv-loop condition-μ-loop
 condition-slice-aggregate-term t c = search needs
 
-condition-term-requires : (t : ℕ) → condition-lts.Need-term-requires (
-  whole-word-reads.Asked,
-  whole-word-reads.Learnt,
-  term-reads.Asked,
-  term-reads.Learnt,
-  negation-below t,
-  negation.Post,
-  operator-form-reads.Asked,
-  operator-form-reads.Learnt,
-  operand-below t,
-  operand.Post,
-  operator-reads.Asked,
-  operator-reads.Learnt,
-  form-reads.Asked,
-  form-reads.Learnt,
-) (condition-at t) condition.Post condition-Inv-loop condition-μ-loop
+condition-term-requires : (t : ℕ) → condition-lts.Need-term-requires (condition-claims t) (condition-at t) condition.Post condition-Inv-loop condition-μ-loop
 condition-term-requires t c κs = search needs
 
-condition-sub-t18 : (t : ℕ) → condition-lts.Need-sub-t18 (
-  whole-word-reads.Asked,
-  whole-word-reads.Learnt,
-  term-reads.Asked,
-  term-reads.Learnt,
-  negation-below t,
-  negation.Post,
-  operator-form-reads.Asked,
-  operator-form-reads.Learnt,
-  operand-below t,
-  operand.Post,
-  operator-reads.Asked,
-  operator-reads.Learnt,
-  form-reads.Asked,
-  form-reads.Learnt,
-) (condition-at t) condition.Post condition-Inv-loop condition-μ-loop
+condition-sub-t18 : (t : ℕ) → condition-lts.Need-sub-t18 (condition-claims t) (condition-at t) condition.Post condition-Inv-loop condition-μ-loop
 condition-sub-t18 t c = search needs
 
-condition-same-length : (t : ℕ) → condition-lts.Need-same-length (
-  whole-word-reads.Asked,
-  whole-word-reads.Learnt,
-  term-reads.Asked,
-  term-reads.Learnt,
-  negation-below t,
-  negation.Post,
-  operator-form-reads.Asked,
-  operator-form-reads.Learnt,
-  operand-below t,
-  operand.Post,
-  operator-reads.Asked,
-  operator-reads.Learnt,
-  form-reads.Asked,
-  form-reads.Learnt,
-) (condition-at t) condition.Post condition-Inv-loop condition-μ-loop
+condition-same-length : (t : ℕ) → condition-lts.Need-same-length (condition-claims t) (condition-at t) condition.Post condition-Inv-loop condition-μ-loop
 condition-same-length t c = search needs
 
-condition-returns : (t : ℕ) → condition-lts.Need-returns (
-  whole-word-reads.Asked,
-  whole-word-reads.Learnt,
-  term-reads.Asked,
-  term-reads.Learnt,
-  negation-below t,
-  negation.Post,
-  operator-form-reads.Asked,
-  operator-form-reads.Learnt,
-  operand-below t,
-  operand.Post,
-  operator-reads.Asked,
-  operator-reads.Learnt,
-  form-reads.Asked,
-  form-reads.Learnt,
-) (condition-at t) condition.Post condition-Inv-loop condition-μ-loop
+condition-returns : (t : ℕ) → condition-lts.Need-returns (condition-claims t) (condition-at t) condition.Post condition-Inv-loop condition-μ-loop
 condition-returns t c =
     let p = c .before .before in
     let r = p .before .before .before .before in
@@ -221,78 +144,19 @@ condition-returns t c =
       search needs,
     )
 
-condition-sub-negation : (t : ℕ) → condition-lts.Need-sub-negation (
-  whole-word-reads.Asked,
-  whole-word-reads.Learnt,
-  term-reads.Asked,
-  term-reads.Learnt,
-  negation-below t,
-  negation.Post,
-  operator-form-reads.Asked,
-  operator-form-reads.Learnt,
-  operand-below t,
-  operand.Post,
-  operator-reads.Asked,
-  operator-reads.Learnt,
-  form-reads.Asked,
-  form-reads.Learnt,
-) (condition-at t) condition.Post condition-Inv-loop condition-μ-loop
+condition-sub-negation : (t : ℕ) → condition-lts.Need-sub-negation (condition-claims t) (condition-at t) condition.Post condition-Inv-loop condition-μ-loop
 condition-sub-negation t c = search needs
 
-condition-negation-requires : (t : ℕ) → condition-lts.Need-negation-requires (
-  whole-word-reads.Asked,
-  whole-word-reads.Learnt,
-  term-reads.Asked,
-  term-reads.Learnt,
-  negation-below t,
-  negation.Post,
-  operator-form-reads.Asked,
-  operator-form-reads.Learnt,
-  operand-below t,
-  operand.Post,
-  operator-reads.Asked,
-  operator-reads.Learnt,
-  form-reads.Asked,
-  form-reads.Learnt,
-) (condition-at t) condition.Post condition-Inv-loop condition-μ-loop
+condition-negation-requires : (t : ℕ) → condition-lts.Need-negation-requires
+    (condition-claims t) (condition-at t) condition.Post condition-Inv-loop condition-μ-loop
 condition-negation-requires t c κs =
     let s = c .before .before .before .before .before .before .before .before in
     (search needs, (s .pre .1 .0, search needs))
 
-condition-same-length-2 : (t : ℕ) → condition-lts.Need-same-length-2 (
-  whole-word-reads.Asked,
-  whole-word-reads.Learnt,
-  term-reads.Asked,
-  term-reads.Learnt,
-  negation-below t,
-  negation.Post,
-  operator-form-reads.Asked,
-  operator-form-reads.Learnt,
-  operand-below t,
-  operand.Post,
-  operator-reads.Asked,
-  operator-reads.Learnt,
-  form-reads.Asked,
-  form-reads.Learnt,
-) (condition-at t) condition.Post condition-Inv-loop condition-μ-loop
+condition-same-length-2 : (t : ℕ) → condition-lts.Need-same-length-2 (condition-claims t) (condition-at t) condition.Post condition-Inv-loop condition-μ-loop
 condition-same-length-2 t c = search needs
 
-condition-returns-2 : (t : ℕ) → condition-lts.Need-returns-2 (
-  whole-word-reads.Asked,
-  whole-word-reads.Learnt,
-  term-reads.Asked,
-  term-reads.Learnt,
-  negation-below t,
-  negation.Post,
-  operator-form-reads.Asked,
-  operator-form-reads.Learnt,
-  operand-below t,
-  operand.Post,
-  operator-reads.Asked,
-  operator-reads.Learnt,
-  form-reads.Asked,
-  form-reads.Learnt,
-) (condition-at t) condition.Post condition-Inv-loop condition-μ-loop
+condition-returns-2 : (t : ℕ) → condition-lts.Need-returns-2 (condition-claims t) (condition-at t) condition.Post condition-Inv-loop condition-μ-loop
 condition-returns-2 t c =
     let p = c .before .before in
     let r = p .before .before .before .before in
@@ -305,132 +169,31 @@ condition-returns-2 t c =
       search needs,
     )
 
-condition-operator-form-requires : (t : ℕ) → condition-lts.Need-operator-form-requires (
-  whole-word-reads.Asked,
-  whole-word-reads.Learnt,
-  term-reads.Asked,
-  term-reads.Learnt,
-  negation-below t,
-  negation.Post,
-  operator-form-reads.Asked,
-  operator-form-reads.Learnt,
-  operand-below t,
-  operand.Post,
-  operator-reads.Asked,
-  operator-reads.Learnt,
-  form-reads.Asked,
-  form-reads.Learnt,
-) (condition-at t) condition.Post condition-Inv-loop condition-μ-loop
+condition-operator-form-requires : (t : ℕ) → condition-lts.Need-operator-form-requires
+    (condition-claims t) (condition-at t) condition.Post condition-Inv-loop condition-μ-loop
 condition-operator-form-requires t c κs = search needs
 
-condition-sub-operand : (t : ℕ) → condition-lts.Need-sub-operand (
-  whole-word-reads.Asked,
-  whole-word-reads.Learnt,
-  term-reads.Asked,
-  term-reads.Learnt,
-  negation-below t,
-  negation.Post,
-  operator-form-reads.Asked,
-  operator-form-reads.Learnt,
-  operand-below t,
-  operand.Post,
-  operator-reads.Asked,
-  operator-reads.Learnt,
-  form-reads.Asked,
-  form-reads.Learnt,
-) (condition-at t) condition.Post condition-Inv-loop condition-μ-loop
+condition-sub-operand : (t : ℕ) → condition-lts.Need-sub-operand (condition-claims t) (condition-at t) condition.Post condition-Inv-loop condition-μ-loop
 condition-sub-operand t c = search needs
 
-condition-sub-operand-2 : (t : ℕ) → condition-lts.Need-sub-operand-2 (
-  whole-word-reads.Asked,
-  whole-word-reads.Learnt,
-  term-reads.Asked,
-  term-reads.Learnt,
-  negation-below t,
-  negation.Post,
-  operator-form-reads.Asked,
-  operator-form-reads.Learnt,
-  operand-below t,
-  operand.Post,
-  operator-reads.Asked,
-  operator-reads.Learnt,
-  form-reads.Asked,
-  form-reads.Learnt,
-) (condition-at t) condition.Post condition-Inv-loop condition-μ-loop
+condition-sub-operand-2 : (t : ℕ) → condition-lts.Need-sub-operand-2 (condition-claims t) (condition-at t) condition.Post condition-Inv-loop condition-μ-loop
 condition-sub-operand-2 t c = search needs
 
-condition-operand-requires : (t : ℕ) → condition-lts.Need-operand-requires (
-  whole-word-reads.Asked,
-  whole-word-reads.Learnt,
-  term-reads.Asked,
-  term-reads.Learnt,
-  negation-below t,
-  negation.Post,
-  operator-form-reads.Asked,
-  operator-form-reads.Learnt,
-  operand-below t,
-  operand.Post,
-  operator-reads.Asked,
-  operator-reads.Learnt,
-  form-reads.Asked,
-  form-reads.Learnt,
-) (condition-at t) condition.Post condition-Inv-loop condition-μ-loop
+condition-operand-requires : (t : ℕ) → condition-lts.Need-operand-requires
+    (condition-claims t) (condition-at t) condition.Post condition-Inv-loop condition-μ-loop
 condition-operand-requires t c κs =
     let s = c .before .before .before .before .before .before .before .before .before in
     (search needs, (s .pre .1 .0, search needs))
 
-condition-operator-requires : (t : ℕ) → condition-lts.Need-operator-requires (
-  whole-word-reads.Asked,
-  whole-word-reads.Learnt,
-  term-reads.Asked,
-  term-reads.Learnt,
-  negation-below t,
-  negation.Post,
-  operator-form-reads.Asked,
-  operator-form-reads.Learnt,
-  operand-below t,
-  operand.Post,
-  operator-reads.Asked,
-  operator-reads.Learnt,
-  form-reads.Asked,
-  form-reads.Learnt,
-) (condition-at t) condition.Post condition-Inv-loop condition-μ-loop
+condition-operator-requires : (t : ℕ) → condition-lts.Need-operator-requires
+    (condition-claims t) (condition-at t) condition.Post condition-Inv-loop condition-μ-loop
 condition-operator-requires t c κs = search needs
 
-condition-form-requires : (t : ℕ) → condition-lts.Need-form-requires (
-  whole-word-reads.Asked,
-  whole-word-reads.Learnt,
-  term-reads.Asked,
-  term-reads.Learnt,
-  negation-below t,
-  negation.Post,
-  operator-form-reads.Asked,
-  operator-form-reads.Learnt,
-  operand-below t,
-  operand.Post,
-  operator-reads.Asked,
-  operator-reads.Learnt,
-  form-reads.Asked,
-  form-reads.Learnt,
-) (condition-at t) condition.Post condition-Inv-loop condition-μ-loop
+condition-form-requires : (t : ℕ) → condition-lts.Need-form-requires (condition-claims t) (condition-at t) condition.Post condition-Inv-loop condition-μ-loop
 condition-form-requires t c κs = search needs
 
-condition-operand-requires-2 : (t : ℕ) → condition-lts.Need-operand-requires-2 (
-  whole-word-reads.Asked,
-  whole-word-reads.Learnt,
-  term-reads.Asked,
-  term-reads.Learnt,
-  negation-below t,
-  negation.Post,
-  operator-form-reads.Asked,
-  operator-form-reads.Learnt,
-  operand-below t,
-  operand.Post,
-  operator-reads.Asked,
-  operator-reads.Learnt,
-  form-reads.Asked,
-  form-reads.Learnt,
-) (condition-at t) condition.Post condition-Inv-loop condition-μ-loop
+condition-operand-requires-2 : (t : ℕ) → condition-lts.Need-operand-requires-2
+    (condition-claims t) (condition-at t) condition.Post condition-Inv-loop condition-μ-loop
 condition-operand-requires-2 t c κs =
     let first = c .before .before .before .before .before .before .before .before .before in
     let test = first .before .before .before .before .before .before in
@@ -438,40 +201,10 @@ condition-operand-requires-2 t c κs =
     let low : first .operand .result .first ≤ s .args .e - 1 = omega (arith, first .operand .ensures .1, test .before .loop .inv .0) in
     (omega (arith, low, s .pre .0, test .before .loop .inv .0, test .loop-test), (s .pre .1 .0, omega (arith, low, s .pre .1 .1)))
 
-condition-same-length-3 : (t : ℕ) → condition-lts.Need-same-length-3 (
-  whole-word-reads.Asked,
-  whole-word-reads.Learnt,
-  term-reads.Asked,
-  term-reads.Learnt,
-  negation-below t,
-  negation.Post,
-  operator-form-reads.Asked,
-  operator-form-reads.Learnt,
-  operand-below t,
-  operand.Post,
-  operator-reads.Asked,
-  operator-reads.Learnt,
-  form-reads.Asked,
-  form-reads.Learnt,
-) (condition-at t) condition.Post condition-Inv-loop condition-μ-loop
+condition-same-length-3 : (t : ℕ) → condition-lts.Need-same-length-3 (condition-claims t) (condition-at t) condition.Post condition-Inv-loop condition-μ-loop
 condition-same-length-3 t c = search needs
 
-condition-returns-3 : (t : ℕ) → condition-lts.Need-returns-3 (
-  whole-word-reads.Asked,
-  whole-word-reads.Learnt,
-  term-reads.Asked,
-  term-reads.Learnt,
-  negation-below t,
-  negation.Post,
-  operator-form-reads.Asked,
-  operator-form-reads.Learnt,
-  operand-below t,
-  operand.Post,
-  operator-reads.Asked,
-  operator-reads.Learnt,
-  form-reads.Asked,
-  form-reads.Learnt,
-) (condition-at t) condition.Post condition-Inv-loop condition-μ-loop
+condition-returns-3 : (t : ℕ) → condition-lts.Need-returns-3 (condition-claims t) (condition-at t) condition.Post condition-Inv-loop condition-μ-loop
 condition-returns-3 t c =
     let second = c .before .before in
     let sign = second .before .before .before .before .before .before in
@@ -491,40 +224,10 @@ condition-returns-3 t c =
       search needs,
     )
 
-condition-loop-less : (t : ℕ) → condition-lts.Need-loop-less (
-  whole-word-reads.Asked,
-  whole-word-reads.Learnt,
-  term-reads.Asked,
-  term-reads.Learnt,
-  negation-below t,
-  negation.Post,
-  operator-form-reads.Asked,
-  operator-form-reads.Learnt,
-  operand-below t,
-  operand.Post,
-  operator-reads.Asked,
-  operator-reads.Learnt,
-  form-reads.Asked,
-  form-reads.Learnt,
-) (condition-at t) condition.Post condition-Inv-loop condition-μ-loop
+condition-loop-less : (t : ℕ) → condition-lts.Need-loop-less (condition-claims t) (condition-at t) condition.Post condition-Inv-loop condition-μ-loop
 condition-loop-less t c = search needs
 
-condition-loop-again : (t : ℕ) → condition-lts.Need-loop-again (
-  whole-word-reads.Asked,
-  whole-word-reads.Learnt,
-  term-reads.Asked,
-  term-reads.Learnt,
-  negation-below t,
-  negation.Post,
-  operator-form-reads.Asked,
-  operator-form-reads.Learnt,
-  operand-below t,
-  operand.Post,
-  operator-reads.Asked,
-  operator-reads.Learnt,
-  form-reads.Asked,
-  form-reads.Learnt,
-) (condition-at t) condition.Post condition-Inv-loop condition-μ-loop
+condition-loop-again : (t : ℕ) → condition-lts.Need-loop-again (condition-claims t) (condition-at t) condition.Post condition-Inv-loop condition-μ-loop
 condition-loop-again t c =
     let sign = c .before .before .before .before in
     let first = sign .before .before .before .before in
@@ -543,40 +246,10 @@ condition-loop-again t c =
       omega (arith, sign .operator .kept .0, first .operand .kept .0),
     )
 
-condition-same-length-4 : (t : ℕ) → condition-lts.Need-same-length-4 (
-  whole-word-reads.Asked,
-  whole-word-reads.Learnt,
-  term-reads.Asked,
-  term-reads.Learnt,
-  negation-below t,
-  negation.Post,
-  operator-form-reads.Asked,
-  operator-form-reads.Learnt,
-  operand-below t,
-  operand.Post,
-  operator-reads.Asked,
-  operator-reads.Learnt,
-  form-reads.Asked,
-  form-reads.Learnt,
-) (condition-at t) condition.Post condition-Inv-loop condition-μ-loop
+condition-same-length-4 : (t : ℕ) → condition-lts.Need-same-length-4 (condition-claims t) (condition-at t) condition.Post condition-Inv-loop condition-μ-loop
 condition-same-length-4 t c = search needs
 
-condition-returns-4 : (t : ℕ) → condition-lts.Need-returns-4 (
-  whole-word-reads.Asked,
-  whole-word-reads.Learnt,
-  term-reads.Asked,
-  term-reads.Learnt,
-  negation-below t,
-  negation.Post,
-  operator-form-reads.Asked,
-  operator-form-reads.Learnt,
-  operand-below t,
-  operand.Post,
-  operator-reads.Asked,
-  operator-reads.Learnt,
-  form-reads.Asked,
-  form-reads.Learnt,
-) (condition-at t) condition.Post condition-Inv-loop condition-μ-loop
+condition-returns-4 : (t : ℕ) → condition-lts.Need-returns-4 (condition-claims t) (condition-at t) condition.Post condition-Inv-loop condition-μ-loop
 condition-returns-4 t c =
     let l = c .before .loop in
     let w = wordAt (c .before .before .before .before .args .img .now) in
@@ -585,79 +258,25 @@ condition-returns-4 t c =
       search needs,
     )
 
-negation-returns : (t : ℕ) → negation-lts.Need-returns (
-  whole-word-reads.Asked,
-  whole-word-reads.Learnt,
-  term-reads.Asked,
-  term-reads.Learnt,
-  operand-below t,
-  operand.Post,
-  puts-reads.Asked,
-  puts-reads.Learnt,
-) (negation-at t) negation.Post
+negation-returns : (t : ℕ) → negation-lts.Need-returns (negation-claims t) (negation-at t) negation.Post
 negation-returns t c =
     let w = wordAt (c .before .before .before .args .img .now) in
     let g = inputTermName (decode w) in
     (texts.none-written w g (texts.negated w g) _ _ _ _ _ _ (c .if1 .taken), search needs)
 
-negation-whole-word-requires : (t : ℕ) → negation-lts.Need-whole-word-requires (
-  whole-word-reads.Asked,
-  whole-word-reads.Learnt,
-  term-reads.Asked,
-  term-reads.Learnt,
-  operand-below t,
-  operand.Post,
-  puts-reads.Asked,
-  puts-reads.Learnt,
-) (negation-at t) negation.Post
+negation-whole-word-requires : (t : ℕ) → negation-lts.Need-whole-word-requires (negation-claims t) (negation-at t) negation.Post
 negation-whole-word-requires t c κs = search needs
 
-negation-slice-aggregate-term : (t : ℕ) → negation-lts.Need-slice-aggregate-term (
-  whole-word-reads.Asked,
-  whole-word-reads.Learnt,
-  term-reads.Asked,
-  term-reads.Learnt,
-  operand-below t,
-  operand.Post,
-  puts-reads.Asked,
-  puts-reads.Learnt,
-) (negation-at t) negation.Post
+negation-slice-aggregate-term : (t : ℕ) → negation-lts.Need-slice-aggregate-term (negation-claims t) (negation-at t) negation.Post
 negation-slice-aggregate-term t c = search needs
 
-negation-term-requires : (t : ℕ) → negation-lts.Need-term-requires (
-  whole-word-reads.Asked,
-  whole-word-reads.Learnt,
-  term-reads.Asked,
-  term-reads.Learnt,
-  operand-below t,
-  operand.Post,
-  puts-reads.Asked,
-  puts-reads.Learnt,
-) (negation-at t) negation.Post
+negation-term-requires : (t : ℕ) → negation-lts.Need-term-requires (negation-claims t) (negation-at t) negation.Post
 negation-term-requires t c κs = search needs
 
-negation-same-length : (t : ℕ) → negation-lts.Need-same-length (
-  whole-word-reads.Asked,
-  whole-word-reads.Learnt,
-  term-reads.Asked,
-  term-reads.Learnt,
-  operand-below t,
-  operand.Post,
-  puts-reads.Asked,
-  puts-reads.Learnt,
-) (negation-at t) negation.Post
+negation-same-length : (t : ℕ) → negation-lts.Need-same-length (negation-claims t) (negation-at t) negation.Post
 negation-same-length t c = search needs
 
-negation-returns-2 : (t : ℕ) → negation-lts.Need-returns-2 (
-  whole-word-reads.Asked,
-  whole-word-reads.Learnt,
-  term-reads.Asked,
-  term-reads.Learnt,
-  operand-below t,
-  operand.Post,
-  puts-reads.Asked,
-  puts-reads.Learnt,
-) (negation-at t) negation.Post
+negation-returns-2 : (t : ℕ) → negation-lts.Need-returns-2 (negation-claims t) (negation-at t) negation.Post
 negation-returns-2 t c =
     let p = c .before .before in
     let r = p .before .before .before .before in
@@ -668,64 +287,19 @@ negation-returns-2 t c =
       search needs,
     )
 
-negation-operand-requires : (t : ℕ) → negation-lts.Need-operand-requires (
-  whole-word-reads.Asked,
-  whole-word-reads.Learnt,
-  term-reads.Asked,
-  term-reads.Learnt,
-  operand-below t,
-  operand.Post,
-  puts-reads.Asked,
-  puts-reads.Learnt,
-) (negation-at t) negation.Post
+negation-operand-requires : (t : ℕ) → negation-lts.Need-operand-requires (negation-claims t) (negation-at t) negation.Post
 negation-operand-requires t c κs = search needs
 
-negation-slice-aggregate-puts : (t : ℕ) → negation-lts.Need-slice-aggregate-puts (
-  whole-word-reads.Asked,
-  whole-word-reads.Learnt,
-  term-reads.Asked,
-  term-reads.Learnt,
-  operand-below t,
-  operand.Post,
-  puts-reads.Asked,
-  puts-reads.Learnt,
-) (negation-at t) negation.Post
+negation-slice-aggregate-puts : (t : ℕ) → negation-lts.Need-slice-aggregate-puts (negation-claims t) (negation-at t) negation.Post
 negation-slice-aggregate-puts t c = search needs
 
-negation-puts-requires : (t : ℕ) → negation-lts.Need-puts-requires (
-  whole-word-reads.Asked,
-  whole-word-reads.Learnt,
-  term-reads.Asked,
-  term-reads.Learnt,
-  operand-below t,
-  operand.Post,
-  puts-reads.Asked,
-  puts-reads.Learnt,
-) (negation-at t) negation.Post
+negation-puts-requires : (t : ℕ) → negation-lts.Need-puts-requires (negation-claims t) (negation-at t) negation.Post
 negation-puts-requires t c κs = search needs
 
-negation-same-length-2 : (t : ℕ) → negation-lts.Need-same-length-2 (
-  whole-word-reads.Asked,
-  whole-word-reads.Learnt,
-  term-reads.Asked,
-  term-reads.Learnt,
-  operand-below t,
-  operand.Post,
-  puts-reads.Asked,
-  puts-reads.Learnt,
-) (negation-at t) negation.Post
+negation-same-length-2 : (t : ℕ) → negation-lts.Need-same-length-2 (negation-claims t) (negation-at t) negation.Post
 negation-same-length-2 t c = search needs
 
-negation-returns-3 : (t : ℕ) → negation-lts.Need-returns-3 (
-  whole-word-reads.Asked,
-  whole-word-reads.Learnt,
-  term-reads.Asked,
-  term-reads.Learnt,
-  operand-below t,
-  operand.Post,
-  puts-reads.Asked,
-  puts-reads.Learnt,
-) (negation-at t) negation.Post
+negation-returns-3 : (t : ℕ) → negation-lts.Need-returns-3 (negation-claims t) (negation-at t) negation.Post
 negation-returns-3 t c =
     let p = c .before .before in
     let first = p .before .before .before .before .before in
@@ -737,44 +311,16 @@ negation-returns-3 t c =
       search needs,
     )
 
-operand-form-requires : (t : ℕ) → operand-lts.Need-form-requires (
-  form-reads.Asked,
-  form-reads.Learnt,
-  condition-below t,
-  condition.Post,
-  puts-reads.Asked,
-  puts-reads.Learnt,
-) (operand-at t) operand.Post
+operand-form-requires : (t : ℕ) → operand-lts.Need-form-requires (operand-claims t) (operand-at t) operand.Post
 operand-form-requires t c κs = search needs
 
-operand-condition-requires : (t : ℕ) → operand-lts.Need-condition-requires (
-  form-reads.Asked,
-  form-reads.Learnt,
-  condition-below t,
-  condition.Post,
-  puts-reads.Asked,
-  puts-reads.Learnt,
-) (operand-at t) operand.Post
+operand-condition-requires : (t : ℕ) → operand-lts.Need-condition-requires (operand-claims t) (operand-at t) operand.Post
 operand-condition-requires t c κs = search needs
 
-operand-same-length : (t : ℕ) → operand-lts.Need-same-length (
-  form-reads.Asked,
-  form-reads.Learnt,
-  condition-below t,
-  condition.Post,
-  puts-reads.Asked,
-  puts-reads.Learnt,
-) (operand-at t) operand.Post
+operand-same-length : (t : ℕ) → operand-lts.Need-same-length (operand-claims t) (operand-at t) operand.Post
 operand-same-length t c = search needs
 
-operand-returns : (t : ℕ) → operand-lts.Need-returns (
-  form-reads.Asked,
-  form-reads.Learnt,
-  condition-below t,
-  condition.Post,
-  puts-reads.Asked,
-  puts-reads.Learnt,
-) (operand-at t) operand.Post
+operand-returns : (t : ℕ) → operand-lts.Need-returns (operand-claims t) (operand-at t) operand.Post
 operand-returns t c =
     let p = c .before .before in
     let f = p .before .before .before in
@@ -783,74 +329,25 @@ operand-returns t c =
       search needs,
     )
 
-operand-slice-aggregate-puts : (t : ℕ) → operand-lts.Need-slice-aggregate-puts (
-  form-reads.Asked,
-  form-reads.Learnt,
-  condition-below t,
-  condition.Post,
-  puts-reads.Asked,
-  puts-reads.Learnt,
-) (operand-at t) operand.Post
+operand-slice-aggregate-puts : (t : ℕ) → operand-lts.Need-slice-aggregate-puts (operand-claims t) (operand-at t) operand.Post
 operand-slice-aggregate-puts t c = search needs
 
-operand-puts-requires : (t : ℕ) → operand-lts.Need-puts-requires (
-  form-reads.Asked,
-  form-reads.Learnt,
-  condition-below t,
-  condition.Post,
-  puts-reads.Asked,
-  puts-reads.Learnt,
-) (operand-at t) operand.Post
+operand-puts-requires : (t : ℕ) → operand-lts.Need-puts-requires (operand-claims t) (operand-at t) operand.Post
 operand-puts-requires t c κs = search needs
 
-operand-condition-requires-2 : (t : ℕ) → operand-lts.Need-condition-requires-2 (
-  form-reads.Asked,
-  form-reads.Learnt,
-  condition-below t,
-  condition.Post,
-  puts-reads.Asked,
-  puts-reads.Learnt,
-) (operand-at t) operand.Post
+operand-condition-requires-2 : (t : ℕ) → operand-lts.Need-condition-requires-2 (operand-claims t) (operand-at t) operand.Post
 operand-condition-requires-2 t c κs = search needs
 
-operand-slice-aggregate-puts-2 : (t : ℕ) → operand-lts.Need-slice-aggregate-puts-2 (
-  form-reads.Asked,
-  form-reads.Learnt,
-  condition-below t,
-  condition.Post,
-  puts-reads.Asked,
-  puts-reads.Learnt,
-) (operand-at t) operand.Post
+operand-slice-aggregate-puts-2 : (t : ℕ) → operand-lts.Need-slice-aggregate-puts-2 (operand-claims t) (operand-at t) operand.Post
 operand-slice-aggregate-puts-2 t c = search needs
 
-operand-puts-requires-2 : (t : ℕ) → operand-lts.Need-puts-requires-2 (
-  form-reads.Asked,
-  form-reads.Learnt,
-  condition-below t,
-  condition.Post,
-  puts-reads.Asked,
-  puts-reads.Learnt,
-) (operand-at t) operand.Post
+operand-puts-requires-2 : (t : ℕ) → operand-lts.Need-puts-requires-2 (operand-claims t) (operand-at t) operand.Post
 operand-puts-requires-2 t c κs = search needs
 
-operand-same-length-2 : (t : ℕ) → operand-lts.Need-same-length-2 (
-  form-reads.Asked,
-  form-reads.Learnt,
-  condition-below t,
-  condition.Post,
-  puts-reads.Asked,
-  puts-reads.Learnt,
-) (operand-at t) operand.Post
+operand-same-length-2 : (t : ℕ) → operand-lts.Need-same-length-2 (operand-claims t) (operand-at t) operand.Post
 operand-same-length-2 t c = search needs
 
-operand-returns-2 : (t : ℕ) → operand-lts.Need-returns-2 (
-  form-reads.Asked,
-  form-reads.Learnt,
-  condition-below t,
-  condition.Post,
-  puts-reads.Asked,
-  puts-reads.Learnt,
-) (operand-at t) operand.Post
+operand-returns-2 : (t : ℕ) → operand-lts.Need-returns-2 (operand-claims t) (operand-at t) operand.Post
 operand-returns-2 t c =
     let last = c .before .before in
     let p = last .before .before .before .before .before in
@@ -863,22 +360,7 @@ operand-returns-2 t c =
     )
 
 pub +condition+negation+operand-spec : {M : Type 1} → statement M
-+condition+negation+operand-spec = close μ-condition μ-negation μ-operand (λ t. condition-lts.spec (
-  whole-word-reads.Asked,
-  whole-word-reads.Learnt,
-  term-reads.Asked,
-  term-reads.Learnt,
-  negation-below t,
-  negation.Post,
-  operator-form-reads.Asked,
-  operator-form-reads.Learnt,
-  operand-below t,
-  operand.Post,
-  operator-reads.Asked,
-  operator-reads.Learnt,
-  form-reads.Asked,
-  form-reads.Learnt,
-)
++condition+negation+operand-spec = close μ-condition μ-negation μ-operand (λ t. condition-lts.spec (condition-claims t)
     (condition-at t)
     condition.Post
     condition-Inv-loop
@@ -908,16 +390,7 @@ pub +condition+negation+operand-spec : {M : Type 1} → statement M
     (condition-loop-again t)
     (condition-same-length-4 t)
     (condition-returns-4 t))
-    (λ t. negation-lts.spec (
-      whole-word-reads.Asked,
-      whole-word-reads.Learnt,
-      term-reads.Asked,
-      term-reads.Learnt,
-      operand-below t,
-      operand.Post,
-      puts-reads.Asked,
-      puts-reads.Learnt,
-    )
+    (λ t. negation-lts.spec (negation-claims t)
     (negation-at t)
     negation.Post
     (negation-returns t)
@@ -931,14 +404,7 @@ pub +condition+negation+operand-spec : {M : Type 1} → statement M
     (negation-puts-requires t)
     (negation-same-length-2 t)
     (negation-returns-3 t))
-    λ t. operand-lts.spec (
-      form-reads.Asked,
-      form-reads.Learnt,
-      condition-below t,
-      condition.Post,
-      puts-reads.Asked,
-      puts-reads.Learnt,
-    )
+    λ t. operand-lts.spec (operand-claims t)
     (operand-at t)
     operand.Post
     (operand-form-requires t)
