@@ -10,7 +10,7 @@ use lib.Dec.{leb}
 use Rattle.model.specs.Basic.{same}
 use Rattle.model.specs.Bounds.{depthLimit}
 use Rattle.model.specs.Block.{Condition, term, neg, two}
-use Rattle.model.specs.Parentheses.{form, bareBehindNot, bareLeft, bareRight, depth}
+use Rattle.model.specs.Parentheses.{OR-FORM, form, bareBehindNot, bareLeft, bareRight, depth}
 use Rattle.model.specs.WellFormed.{termsBelow}
 use Rattle.model.specs.Image.{postfix, treeOf}
 use Rattle.laws.proofs.Tests.{both, and-i, iff}
@@ -21,7 +21,7 @@ use Rattle.condition_words.proofs.Trees.{tree-postfix}
 use Rattle.condition_words.proofs.Room.{form-le, opened-ge}
 use Rattle.condition_words.proofs.Passes.{fold, pass, Allowed, allowed-fine, pass-postfix, pass-one}
 
-module _ (k d : ℕ) (h : k ≤ 4) where
+module _ (k d : ℕ) (h : k ≤ OR-FORM) where
   pub form-shape : formOf (shape k d) ≡ k
   form-shape = omega arith
 

@@ -11,7 +11,7 @@ use lib.ListN.{length, getD, set}
 use Rattle.model.specs.Basic.{tab}
 use Rattle.model.specs.Bounds.{depthLimit}
 use Rattle.model.specs.Block.{Op, and, or}
-use Rattle.model.specs.Parentheses.{rank, negatedForm, bareBehindNot, bareLeft, bareRight, opened}
+use Rattle.model.specs.Parentheses.{OR-FORM, rank, negatedForm, bareBehindNot, bareLeft, bareRight, opened}
 use Rattle.condition_words.specs.Machine.{room, added, unary, binary, stackOf}
 use Rattle.condition_stack.specs.Shapes.{forms, shape, formOf, depthOf, shapes, negatedShape, joinedShape, view}
 use Rattle.condition_stack.specs.Stored.{conditionStored}
@@ -23,7 +23,7 @@ abbrev at′ : List ℕ → ℕ → ℕ
 at′ l i = getD l i 0
 
 -- where forms up to l stand bare, a looser one carries
-pub opening-is : (l s : ℕ) → l ≤ 4 → (s + forms - 1 - l) / forms ≡ opened l (formOf s) (depthOf s)
+pub opening-is : (l s : ℕ) → l ≤ OR-FORM → (s + forms - 1 - l) / forms ≡ opened l (formOf s) (depthOf s)
 opening-is l s h = go (ltb l (formOf s)) refl
   where
     go : (b : Bool) → ltb l (formOf s) ≡ b → (s + forms - 1 - l) / forms ≡ opened l (formOf s) (depthOf s)
@@ -43,7 +43,7 @@ pub unseen : (l : List ℕ) → view l 0 ≡ none
 unfolding view
 unseen l = refl
 
-module _ (m : ℕ) (l : List ℕ) (n k d : ℕ) (h : k ≤ 4) where
+module _ (m : ℕ) (l : List ℕ) (n k d : ℕ) (h : k ≤ OR-FORM) where
   pub pushed : d ≤ depthLimit → n < room → n < length l → view (set l n (shape k d)) (n + 1) ≡ added (shapes m) (shape k d) (stackOf 0 l n)
   unfolding added
   pushed low few fit =

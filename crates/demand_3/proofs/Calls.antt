@@ -1,8 +1,8 @@
 -- A block of two inputs and two outputs, a list of calls on it with every mark and the refusals 12 and 14, and what the
 -- definitions say of each call.
-use mathlib.Core.Bool.{Bool, true, false}
+use mathlib.Core.Bool.{true, false}
 use mathlib.Core.List.{List, [], _∷_, _++_, map, foldl}
-use mathlib.Core.Option.{Option, none, some}
+use mathlib.Core.Option.{none, some}
 use mathlib.Core.Path.{_≡_, refl}
 use Prim.Native.Nat.{ℕ, _-_}
 use Prim.Native.String.{String}
@@ -11,15 +11,14 @@ use lib.IntN.{ℤ, pos, negsuc}
 use lib.ListN.{length, replicate}
 use Rattle.model.specs.Basic.{bytes}
 use Rattle.model.specs.Bounds.{M, inputLimit}
-use Rattle.model.specs.Block.{Point, Singleton, Op, and, or, Condition, term, neg, two, Conclusion, Rule, Block}
-use Rattle.model.specs.Outcome.{Outcome, accepted, refused}
+use Rattle.model.specs.Block.{Point, Singleton, and, or, Condition, term, neg, two, Conclusion, Rule, Block}
+use Rattle.model.specs.Outcome.{accepted, refused}
 use Rattle.model.specs.Evaluation.{heldOf, noAnswer, padded, leaving, starting, freshOf}
 use Rattle.model.specs.declared.InputType.the-variants.{Real as real, Int as int}
 use Rattle.model.specs.declared.Pair.the-variants.{ProdAsum as prod-asum}
 use Rattle.model.specs.declared.Accumulation.the-variants.{Bsum as by-bsum}
 use Rattle.model.specs.declared.Activation.the-variants.{Min as by-min}
 use Rattle.model.specs.declared.Answer.{Answer}
-use Rattle.model.specs.declared.Held.{Held}
 use Rattle.model.specs.declared.Mark.{Mark}
 use Rattle.model.specs.declared.Mark.the-variants.{None, Fired, Default, Held as HeldMark}
 use Rattle.model.specs.declared.Reading.{Reading}

@@ -19,7 +19,6 @@ use Rattle.model.specs.Parse.{Parse, Part, kind, text, refuse, advance, change,
 use Rattle.model.specs.Declarations.{inputOf, isInput, isTerm, addTerm, addPoint, lastPoints, pointsOf, pointPosition, pointDegree, pointBody, point, endOfPoints, termName, inputTerm, fuzzifyOf, fuzzifyVariable}
 use Rattle.laws.proofs.Again.{Again, again-more, again-end, repeats}
 use Rattle.laws.proofs.Lists.{updateLast-snoc, last-points}
-use Rattle.laws.proofs.Positions.{follow-two}
 use Rattle.laws.proofs.Places.{length-tab}
 use Rattle.laws.proofs.Repetition.{turn, no-turn}
 use Rattle.lookup.specs.Names.{nameOf}

@@ -2,17 +2,16 @@
 -- block with these points in the last term of an input; `ReadsShape` ties it to a `Part` of the model, and `position-is` and
 -- `points-end` of proofs/Laws tie the checks to the model's `pointPosition` and `endOfPoints`.
 use mathlib.Core.Path.{_≡_}
-use mathlib.Core.Bool.{Bool, true, false, _&&_}
+use mathlib.Core.Bool.{false}
 use mathlib.Core.List.{List, [], _∷_, _++_, map}
 use Prim.Native.Nat.{ℕ, _+_, _*_, _≤_, _<_}
-use lib.Dec.{eqb, leb}
+use lib.Dec.{leb}
 use lib.IntN.{ℤ}
 use lib.ListN.{length, replicate}
 use lib.Seq.{slice}
-use lib.Signed.{ltZ, leZ}
 use Rattle.model.specs.Basic.{if_then_else_, indexOf, update, tab}
 use Rattle.model.specs.Block as block
-use Rattle.model.specs.Block.{Block, termsOf, mayFollow, withInputs, withTerms}
+use Rattle.model.specs.Block.{Block, termsOf, withInputs, withTerms}
 use Rattle.model.specs.Bounds.{termLimit, pointLeast, pointLimit, variableLimit}
 use Rattle.model.specs.Keywords.{ASSIGN, SEMICOLON, TERM, END-FUZZIFY}
 use Rattle.model.specs.Parse.{Parse, Part, is, advance, judged, expect, repeated, listed, aCrisp, valueHere}

@@ -1,7 +1,7 @@
 // The image of a block, written into a lent buffer word by word once there is room for all of it.
 ghost use mathlib.Core.Path.{_≡_};
 ghost use mathlib.Core.List.{List, _++_};
-ghost use Prim.Native.Nat.{ℕ, _+_, _*_, _≤_};
+ghost use Prim.Native.Nat.{_+_, _*_, _≤_};
 ghost use lib.ListN.{length};
 ghost use lib.Seq.{slice};
 ghost use Rattle.model.specs.Bounds.{inputLimit, outputLimit, pointLimit, ruleLimit, wordLimit, conclusionLimit, inputTermLimit, outputTermLimit, allTermLimit};

@@ -12,7 +12,7 @@ use lib.IntN.{ℤ, pos, negsuc}
 use lib.ListN.{length, take, getD, length-append, length-map}
 use Rattle.model.specs.Basic.{between, total, gather}
 use Rattle.model.specs.Bounds.{M, crispLimit, inputLimit, outputLimit, termLimit, pointLeast, pointLimit, ruleLimit, wordLimit, conclusionLimit, inputTermLimit, outputTermLimit, allTermLimit, ruleNumberLeast, depthLimit}
-use Rattle.model.specs.Block.{Term, Singleton, Input, Range, Output, Op, and, or, Condition, term, neg, two, Conclusion, Rule, Block, inputTerms, outputTerms, conclusions, outputFirst, singletonsOf, size}
+use Rattle.model.specs.Block.{Term, Singleton, Input, Range, Op, and, or, Condition, term, neg, two, Conclusion, Rule, Block, inputTerms, outputTerms, conclusions, outputFirst, singletonsOf, size}
 use Rattle.model.specs.declared.InputType.{InputType}
 use Rattle.model.specs.declared.InputType.the-variants.{Real, Int}
 use Rattle.model.specs.declared.Pair.{Pair}

@@ -22,13 +22,6 @@ follow-two (a ∷ []) p q x = refl
 follow-two (a ∷ c ∷ []) p q x = refl
 follow-two (a ∷ c ∷ d ∷ b) p q x = follow-two (c ∷ d ∷ b) p q x
 
-pub order-two : (b : List ℤ) (p q : ℤ) (xs : List ℤ) → inOrder ((b ++ (p ∷ [])) ++ (q ∷ [])) xs ≡ inOrder (p ∷ q ∷ []) xs
-unfolding inOrder
-order-two b p q [] = refl
-order-two b p q (x ∷ xs) =
-    (λ j. follow-two b p q x j && order-two (b ++ (p ∷ [])) q x xs j)
-    ∙ sym (λ j. follow-two [] p q x j && order-two (p ∷ []) q x xs j)
-
 follow-le : (b : List ℤ) (p x : ℤ) → mayFollow (b ++ (p ∷ [])) x ≡ true → p ≤ℤ x
 unfolding mayFollow
 follow-le [] p x h = at-most p x h

@@ -3,7 +3,6 @@ ghost use mathlib.Core.Path.{_≡_};
 ghost use lib.ListN.{length};
 ghost use Rattle.model.specs.Outcome.{lengthIn, bufferAfter};
 ghost use Rattle.model.specs.Refusals.{writtenOf};
-ghost use Rattle.model.specs.Listing.{listing};
 ghost use Rattle.model.specs.Buffers.{listsInto};
 use block_listing::block;
 use load::Examined;

@@ -1,9 +1,7 @@
 -- Listings: numbers without needless zeros, the lines of an output, and what the listing program prints.
-use mathlib.Core.List.{List, [], _∷_, map}
+use mathlib.Core.List.{[], _∷_, map}
 use mathlib.Core.Option.{Option, none, some}
 use mathlib.Core.Path.{_≡_, refl}
-use Prim.Native.Nat.{ℕ}
-use Prim.Native.String.{String}
 use lib.IntN.{ℤ, pos, negsuc}
 use Rattle.model.specs.Basic.{bytes}
 use Rattle.model.specs.Block.{Range, Output}

@@ -14,15 +14,14 @@ use Rattle.model.specs.Block.{Block}
 use Rattle.model.specs.Image.{wordAt, image, decode, isImageOf, loads}
 use Rattle.model.specs.Listing.{listing}
 use Rattle.model.specs.Outcome.{Outcome, accepted, refused, andThen, into, verdictIn, lengthIn, bufferAfter}
-use Rattle.model.specs.Reader.{reads}
 use Rattle.model.specs.Refusals.{refusalOf}
 use Rattle.model.specs.Buffers.{readsInto, listsInto}
 use Rattle.model.specs.declared.Refusal.{Refusal}
 use Rattle.laws.proofs.Buffers.{fits}
 use Rattle.image_laws.proofs.Loads.{loads-iff}
 use Rattle.listing_laws.proofs.RoundTrip.{listing-reads}
-use Rattle.relisting.specs.Relists.{Relisting, not-accepted, no-room-for-image, no-room-for-listing, again, relistsBy, relists, answerOf, withoutListing, listingAfter, imageAfter}
-use Rattle.relisting.specs.declared.Relisted.the-variants.{Bytes, NotAccepted, ImageTooShort, ListingTooShort}
+use Rattle.relisting.specs.Relists.{Relisting, not-accepted, no-room-for-listing, again, relistsBy, relists, answerOf, withoutListing, listingAfter, imageAfter}
+use Rattle.relisting.specs.declared.Relisted.the-variants.{Bytes, NotAccepted, ImageTooShort}
 
 -- a length is no refusal
 clashing : {A : Type 0} (n : ℕ) (why : Refusal) → refusalOf {A = ℕ} why ≡ accepted n → A

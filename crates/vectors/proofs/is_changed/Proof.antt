@@ -2,9 +2,7 @@ use mathlib.Core.Path.{_≡_, refl, sym, ap, _∙_}
 use mathlib.Core.Bool.{not}
 use Prim.Native.Nat.{_≤_, _-_}
 use native.Mathlib.Omega.{arith}
-use lib.Dec.{eqb}
-use lib.ListN.{length, drop}
-use Rattle.model.specs.Basic.{all}
+use lib.ListN.{length}
 use Rattle.vectors.proofs.Filled.{filled, goes-on, stops, ends}
 use borrow.Author.Needs.{needs}
 use Rattle.vectors.proofs.is_changed.Statement.{statement}
