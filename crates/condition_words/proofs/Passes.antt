@@ -14,7 +14,7 @@ use Rattle.model.specs.Block.{Op, and, or, Condition, term, neg, two}
 use Rattle.model.specs.Parentheses.{depth}
 use Rattle.model.specs.Image.{NOT-WORD, TERM-WORD, postfix, opWord}
 use Rattle.condition_words.specs.Machine.{Meaning, room, added, unary, binary, step, turn}
-use Rattle.condition_words.proofs.Room.{Fits, fits, fits-left, fits-right, fits-neg, fits-one}
+use Rattle.condition_words.proofs.Room.{HasRoom, fits, fits-left, fits-right, fits-neg, fits-one}
 
 pub none-some : {A : Type 0} (x : A) → _≡_ {A = Option A} none (some x) → ⊥
 none-some x e = let z : _≡_ {A = ℕ} 0 1 = cc in omega arith
@@ -63,7 +63,7 @@ module _ {A : Type 0} (g : Meaning A) where
   unfolding step
   step-neg st = refl
 
-  pub pass-on : (c : Condition) (rest : List ℕ) (st : List A) → Allowed c → Fits (g .places) c (length st)
+  pub pass-on : (c : Condition) (rest : List ℕ) (st : List A) → Allowed c → HasRoom (g .places) c (length st)
       → pass g (postfix c ++ rest) (some st) ≡ pass g rest (some (fold g c ∷ st))
   unfolding pass turn postfix fold Allowed unary binary
   pass-on (term t) rest st (k, f) h = ap (pass g rest) (step-term t st k ∙ added-ok (g .leaf t) st f (fits-one (g .places) (term t) _ h))

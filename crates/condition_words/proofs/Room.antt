@@ -62,26 +62,26 @@ module _ (places : ℕ) where
   negated k x u n p h = omega (arith, negated-form k)
 
   -- the condition c has room above n
-  unfoldable pub Fits : Condition → ℕ → Type 0
-  Fits c n = need (form c) (depth c) + n ≤ places
+  unfoldable pub HasRoom : Condition → ℕ → Type 0
+  HasRoom c n = need (form c) (depth c) + n ≤ places
 
-  pub fits-left : (o : Op) (a b : Condition) (n : ℕ) → Fits (two o a b) n → Fits a n
-  unfolding Fits form depth
+  pub fits-left : (o : Op) (a b : Condition) (n : ℕ) → HasRoom (two o a b) n → HasRoom a n
+  unfolding HasRoom form depth
   fits-left o a b n h = left o _ _ (opened (bareRight o) (form b) (depth b)) n (opened-need (bareLeft o) a) h
 
-  pub fits-right : (o : Op) (a b : Condition) (n : ℕ) → Fits (two o a b) n → Fits b (suc n)
-  unfolding Fits form depth
+  pub fits-right : (o : Op) (a b : Condition) (n : ℕ) → HasRoom (two o a b) n → HasRoom b (suc n)
+  unfolding HasRoom form depth
   fits-right o a b n h = right o _ (opened (bareLeft o) (form a) (depth a)) _ n (opened-need (bareRight o) b) h
 
-  pub fits-neg : (c : Condition) (n : ℕ) → Fits (neg c) n → Fits c n
-  unfolding Fits form depth
+  pub fits-neg : (c : Condition) (n : ℕ) → HasRoom (neg c) n → HasRoom c n
+  unfolding HasRoom form depth
   fits-neg c n h = negated (form c) _ _ n (opened-need bareBehindNot c) h
 
-  pub fits-one : (c : Condition) (n : ℕ) → Fits c n → n < places
-  unfolding Fits need
+  pub fits-one : (c : Condition) (n : ℕ) → HasRoom c n → n < places
+  unfolding HasRoom need
   fits-one c n h = omega arith
 
   -- no condition of eight parentheses needs more than `room`
-  pub fits : (c : Condition) (n : ℕ) → depth c ≤ depthLimit → n + room ≤ places → Fits c n
-  unfolding Fits need
+  pub fits : (c : Condition) (n : ℕ) → depth c ≤ depthLimit → n + room ≤ places → HasRoom c n
+  unfolding HasRoom need
   fits c n d h = omega (arith, form-le c)
