@@ -1,16 +1,16 @@
 -- Lists: values of a function from a place on, tests over them, lists joined, sums.
 use mathlib.Core.Path.{_≡_, refl, sym, ap, _∙_}
 use mathlib.Core.List.{List, [], _∷_, _++_, map, append-assoc, append-nil}
-use mathlib.Core.Bool.{Bool, true, _&&_}
+use mathlib.Core.Bool.{Bool, true, false, _&&_}
 use Prim.Native.Nat.{ℕ, zero, suc, _+_, _*_, _<_}
 use native.Mathlib.Nat.{suc-mul, zero-mul}
 use native.Mathlib.Omega.{arith}
-use lib.ListN.{length, set, length-append}
+use lib.ListN.{length, take, set, length-append}
 use lib.Seq.{sets}
-use Rattle.model.specs.Basic.{updateLast, all, total, gather, tab}
+use Rattle.model.specs.Basic.{updateLast, all, run, total, gather, tab}
 use Rattle.model.specs.Block.{Term}
 use Rattle.model.specs.Declarations.{lastPoints}
-use Rattle.laws.proofs.Tests.{both, and-assoc}
+use Rattle.laws.proofs.Tests.{both, and-i, and-assoc}
 
 pub map-tab : {A B : Type 0} (f : A → B) (g : ℕ → A) (n p : ℕ) → map f (tab g n p) ≡ tab (λ i. f (g i)) n p
 unfolding tab
@@ -90,3 +90,13 @@ pub total-append : {A : Type 0} (f : A → ℕ) (xs ys : List A) → total f (xs
 unfolding total
 total-append f [] ys = omega arith
 total-append f (x ∷ xs) ys = let e = total-append f xs ys in omega arith
+
+-- the bytes that a test takes from the start on pass it
+pub run-all : (f : ℕ → Bool) (s : List ℕ) → all f (take (run f s) s) ≡ true
+unfolding run all
+run-all f [] = refl
+run-all f (c ∷ s) = go (f c) refl (run-all f s)
+  where
+    go : (b : Bool) → f c ≡ b → all f (take (run f s) s) ≡ true → all f (take (run f (c ∷ s)) (c ∷ s)) ≡ true
+    go true e h = rw (e, run) (and-i (f c) _ e h)
+    go false e h = rw (e, run) refl

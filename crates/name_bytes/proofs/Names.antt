@@ -13,7 +13,8 @@ use Rattle.model.specs.Bounds.{nameLimit}
 use Rattle.model.specs.Keywords.{keywordAt, isKeyword}
 use Rattle.model.specs.Tokens.{isDigit, startsName, isNameByte, starts, tidy, isName}
 use Rattle.laws.proofs.Tests.{Every, one-fails, both}
-use Rattle.characters.proofs.Laws.{run-in, run-out}
+use Rattle.laws.proofs.Lists.{run-all}
+use Rattle.characters.proofs.Laws.{run-out}
 use Rattle.name_bytes.specs.Names.{nameLength, tidyEnd}
 use Rattle.name_bytes.proofs.Spelling.{tidy-ends, untidy-none}
 
@@ -52,15 +53,6 @@ run-first f (c ∷ s) h = go (f c) refl
     go : (b : Bool) → f c ≡ b → f c ≡ true
     go true e = e
     go false e = absurd (omega (arith, run-out f c s e))
-
-all-run : (f : ℕ → Bool) (s : List ℕ) → all f (take (run f s) s) ≡ true
-unfolding all
-all-run f [] = unfold run in refl
-all-run f (c ∷ s) = go (all-run f s) (f c) refl
-  where
-    go : all f (take (run f s) s) ≡ true → (b : Bool) → f c ≡ b → all f (take (run f (c ∷ s)) (c ∷ s)) ≡ true
-    go ih true e = rw (run-in f c s e) (simp e ih)
-    go ih false e = rw (run-out f c s e) refl
 
 -- n name bytes, tidy, from the start of s on; 0 where they are not
 module _ (s : List ℕ) (n : ℕ) (e : n ≡ tidyEnd false 0 s) where
@@ -106,7 +98,7 @@ module _ (s : List ℕ) (n : ℕ) (e : n ≡ tidyEnd false 0 s) where
         let few : length (take n s) ≤ nameLimit = omega (arith, length-take-le n s l) in (
           starts-take startsName s n h l ∙ first-starts d,
           (
-            ap (λ (k : ℕ). all isNameByte (take k s)) (tidy-ends n s e h .0) ∙ all-run isNameByte s,
+            ap (λ (k : ℕ). all isNameByte (take k s)) (tidy-ends n s e h .0) ∙ run-all isNameByte s,
             (tidy-ends n s e h .1, (le-leb _ _ few, tt)),
           ),
         )

@@ -11,8 +11,9 @@ use Rattle.model.specs.Basic.{if_then_else_, all, run}
 use Rattle.model.specs.Bounds.{nameLimit}
 use Rattle.model.specs.Keywords.{isKeyword, NAME, BLANK}
 use Rattle.model.specs.Tokens.{isBlank, isDigit, startsName, isNameByte, isSign, isMark, starts, tidy, isName, Token, token, Piece, wordKind, commentPart, commentPiece, wordPiece, pieceAt, scan, tokens}
-use Rattle.laws.proofs.Tests.{and-i, clash}
+use Rattle.laws.proofs.Tests.{clash}
 use Rattle.laws.proofs.Each.{Each}
+use Rattle.laws.proofs.Lists.{run-all}
 
 pub record Spelt (w : List ℕ) : Type 0 where
   pub begun : starts startsName w ≡ true
@@ -26,15 +27,6 @@ Named t = t .kind ≡ NAME → Spelt (t .text)
 pub spelt-name : (w : List ℕ) → Spelt w → leb (length w) nameLimit ≡ true → isName w ≡ true
 unfolding isName
 spelt-name w s l = rw (s .begun, s .bytes, s .tidied, l, s .free)
-
-run-all : (f : ℕ → Bool) (s : List ℕ) → all f (take (run f s) s) ≡ true
-unfolding run all
-run-all f [] = refl
-run-all f (c ∷ s) = go (f c) refl (run-all f s)
-  where
-    go : (b : Bool) → f c ≡ b → all f (take (run f s) s) ≡ true → all f (take (run f (c ∷ s)) (c ∷ s)) ≡ true
-    go true e h = rw (e, run) (and-i (f c) _ e h)
-    go false e h = rw (e, run) refl
 
 module _ (c : ℕ) (s : List ℕ) where
   -- a piece that is a name is spelt as one
