@@ -7,7 +7,7 @@ ghost use Rattle.block_tables.specs.Changes.{Typed};
 use lookup::Names;
 use model::{Crisp, Point};
 
-#[derive(Drop)]
+#[derive(Clone, Copy)]
 pub struct Input {
     pub start: usize,
     pub end: usize,
@@ -16,7 +16,7 @@ pub struct Input {
 }
 
 // ranged, numbered: whether RANGE and a DEFAULT number are given; 0 in what they leave unused.
-#[derive(Drop)]
+#[derive(Clone, Copy)]
 pub struct Output {
     pub start: usize,
     pub end: usize,
@@ -29,7 +29,7 @@ pub struct Output {
 }
 
 // A term of an input: the first `count` of the points are its own.
-#[derive(Drop)]
+#[derive(Clone, Copy)]
 pub struct Term {
     pub start: usize,
     pub end: usize,
@@ -38,7 +38,7 @@ pub struct Term {
 }
 
 // A term of an output.
-#[derive(Drop)]
+#[derive(Clone, Copy)]
 pub struct Singleton {
     pub start: usize,
     pub end: usize,
@@ -46,7 +46,7 @@ pub struct Singleton {
 }
 
 // start, end: the block's name. names: where the names stand, once more, in plain numbers, which can be lent to a lookup.
-#[derive(Drop)]
+#[derive(Clone, Copy)]
 pub struct Tables {
     pub start: usize,
     pub end: usize,
@@ -60,7 +60,7 @@ pub struct Tables {
 }
 
 // What a rule block begins with: the place of its name, and the words of its algorithms.
-#[derive(Drop)]
+#[derive(Clone, Copy)]
 pub struct Heading {
     pub start: usize,
     pub end: usize,
@@ -82,7 +82,7 @@ pub const CONCLUSION_WIDTH: usize = 2;
 pub type Conclusions = [u32; bounds::CONCLUSIONS * CONCLUSION_WIDTH];
 
 // How many rules, condition words and conclusions are kept beside the tables.
-#[derive(Drop)]
+#[derive(Clone, Copy)]
 pub struct Totals {
     pub rules: usize,
     pub words: usize,

@@ -6,7 +6,7 @@ use model::{Answer, Mark, Reading};
 
 // Kind 1 is a REAL, 2 an INT, any other no reading.
 #[repr(C)]
-#[derive(Drop)]
+#[derive(Clone, Copy)]
 pub struct GrillenhelmReading {
     pub kind: u32,
     pub real: f32,
@@ -15,7 +15,7 @@ pub struct GrillenhelmReading {
 
 // Places past the count are not looked at.
 #[repr(C)]
-#[derive(Drop)]
+#[derive(Clone, Copy)]
 pub struct GrillenhelmReadings {
     pub at: [GrillenhelmReading; 8],
     pub count: usize,
@@ -23,7 +23,7 @@ pub struct GrillenhelmReadings {
 
 // Mark 0 is none, 1 fired, 2 default, 3 held.
 #[repr(C)]
-#[derive(Drop)]
+#[derive(Clone, Copy)]
 pub struct GrillenhelmAnswer {
     pub mark: u32,
     pub thousandths: i32,

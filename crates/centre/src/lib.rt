@@ -7,14 +7,14 @@ ghost use Rattle.centre.specs.Centre.{SumsOf, figure_of};
 use model::{Crisp, Degree};
 
 // Of some singletons the sum of their heights, and their moment about the lowest crisp value.
-#[derive(Drop)]
+#[derive(Clone, Copy)]
 pub struct Sums {
     pub heights: u64,
     pub moment: u64,
 }
 
 // The sum of the heights, and the figure: 0 where the sum is 0.
-#[derive(Drop)]
+#[derive(Clone, Copy)]
 pub struct Centre {
     pub sum: u32,
     pub figure: Crisp,

@@ -16,7 +16,7 @@ use subcondition_listing::term;
 use words::whole_word;
 
 // Where a condition that was written starts, in words, and the bytes written so far.
-#[derive(Drop)]
+#[derive(Clone, Copy)]
 pub struct Written {
     pub first: usize,
     pub k: usize,

@@ -22,7 +22,7 @@ const AND_WORD: u32 = condition_words::AND_WORD as u32;
 const OR_WORD: u32 = condition_words::OR_WORD as u32;
 
 // A reading in the midst of a condition: the words that are counted, and how many of them are put.
-#[derive(Drop)]
+#[derive(Clone, Copy)]
 pub struct Pending {
     pub cursor: Cursor,
     pub words: usize,

@@ -7,14 +7,14 @@ use model::{Evaluation, Fresh, Held, Reply};
 use outcome_crossing::{GrillenhelmOutcome, verdict};
 
 #[repr(C)]
-#[derive(Drop)]
+#[derive(Clone, Copy)]
 pub struct GrillenhelmFresh {
     pub outcome: GrillenhelmOutcome,
     pub held: Held,
 }
 
 #[repr(C)]
-#[derive(Drop)]
+#[derive(Clone, Copy)]
 pub struct GrillenhelmEvaluation {
     pub outcome: GrillenhelmOutcome,
     pub answers: [GrillenhelmAnswer; 6],
@@ -22,7 +22,7 @@ pub struct GrillenhelmEvaluation {
 }
 
 #[repr(C)]
-#[derive(Drop)]
+#[derive(Clone, Copy)]
 pub struct GrillenhelmReply {
     pub outcome: GrillenhelmOutcome,
     pub answers: [GrillenhelmAnswer; 6],

@@ -8,7 +8,7 @@ ghost use Rattle.model.specs.Tokens.{tokens};
 ghost use Rattle.cursor.specs.View.{seen, Fits, left, Step, Moves, fault, refused_at, name_fault};
 
 // The bytes stand last: a padding between the fields would be copied with them in pieces.
-#[derive(Drop)]
+#[derive(Clone, Copy)]
 pub struct Cursor {
     pub start: usize,
     pub end: usize,

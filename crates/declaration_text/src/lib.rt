@@ -16,7 +16,7 @@ use lookup::Names;
 use model::Crisp;
 
 // A reading among inputs: how many there are, and their rows, beside the tables' names.
-#[derive(Drop)]
+#[derive(Clone, Copy)]
 pub struct DeclaredInputs {
     pub cursor: Cursor,
     pub count: usize,
@@ -24,7 +24,7 @@ pub struct DeclaredInputs {
 }
 
 // A reading among outputs, likewise.
-#[derive(Drop)]
+#[derive(Clone, Copy)]
 pub struct DeclaredOutputs {
     pub cursor: Cursor,
     pub count: usize,
@@ -32,7 +32,7 @@ pub struct DeclaredOutputs {
 }
 
 // The cursor behind the block's name, and the place of the name; 0 where it is refused.
-#[derive(Drop)]
+#[derive(Clone, Copy)]
 pub struct BlockName {
     pub cursor: Cursor,
     pub start: usize,

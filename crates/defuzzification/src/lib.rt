@@ -23,7 +23,7 @@ fn position(img: &[u8], h: Header, t: usize) -> Crisp
 }
 
 // The answers of all outputs, and the held record that stores their figures.
-#[derive(Drop)]
+#[derive(Clone, Copy)]
 pub struct Answered {
     pub answers: [Answer; bounds::OUTPUTS],
     pub held: Held,

@@ -20,7 +20,7 @@ use model::Crisp;
 use number_tokens::CrispHere;
 
 // A reading among outputs: what DEFUZZIFY changes of the tables, beside their names.
-#[derive(Drop)]
+#[derive(Clone, Copy)]
 pub struct Outputs {
     pub cursor: Cursor,
     pub count: usize,
@@ -29,7 +29,7 @@ pub struct Outputs {
 }
 
 // The cursor behind a term, and the term where it is read as far as its number.
-#[derive(Drop)]
+#[derive(Clone, Copy)]
 struct SingletonRead {
     cursor: Cursor,
     read: bool,

@@ -19,14 +19,14 @@ use model::{Crisp, Degree, Point};
 use term_rules::LastTwo;
 
 // The cursor behind a position, and its value where it is not refused.
-#[derive(Drop)]
+#[derive(Clone, Copy)]
 struct At {
     cursor: Cursor,
     value: Crisp,
 }
 
 // The cursor behind a point, and the point, where it is read as far as its degree.
-#[derive(Drop)]
+#[derive(Clone, Copy)]
 struct PointRead {
     cursor: Cursor,
     read: bool,
@@ -34,7 +34,7 @@ struct PointRead {
 }
 
 // The points of a term so far.
-#[derive(Drop)]
+#[derive(Clone, Copy)]
 struct Shape {
     cursor: Cursor,
     count: usize,
@@ -42,7 +42,7 @@ struct Shape {
 }
 
 // A reading among inputs: what FUZZIFY changes of the tables, beside their names.
-#[derive(Drop)]
+#[derive(Clone, Copy)]
 pub struct Inputs {
     pub cursor: Cursor,
     pub count: usize,
@@ -51,7 +51,7 @@ pub struct Inputs {
 }
 
 // The cursor behind the name of a term, and the place of the name.
-#[derive(Drop)]
+#[derive(Clone, Copy)]
 struct TermName {
     cursor: Cursor,
     start: usize,
@@ -59,7 +59,7 @@ struct TermName {
 }
 
 // The cursor behind the name of an input, and which one it is.
-#[derive(Drop)]
+#[derive(Clone, Copy)]
 struct Found {
     cursor: Cursor,
     input: usize,

@@ -6,7 +6,7 @@ ghost use Rattle.header.specs.Header.{Heads};
 use words::whole_word;
 
 // How many rows each table has, and where it starts, in words.
-#[derive(Drop)]
+#[derive(Clone, Copy)]
 pub struct Header {
     pub inputs: usize,
     pub outputs: usize,

@@ -34,7 +34,7 @@ const RULE_WIDTH: u32 = header::RULE_WIDTH as u32;
 const CONCLUSION_ROW_WIDTH: u32 = header::CONCLUSION_WIDTH as u32;
 
 // How many entries the tables of the image have.
-#[derive(Drop)]
+#[derive(Clone, Copy)]
 struct Counts {
     pub inputs: u32,
     pub outputs: u32,

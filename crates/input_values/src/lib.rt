@@ -12,7 +12,7 @@ use words::whole_word;
 
 // What the readings of a call are to the inputs: the first input whose reading is wrong, else their number; and the
 // values before it, then 0.
-#[derive(Drop)]
+#[derive(Clone, Copy)]
 pub struct Values {
     pub wrong: usize,
     pub at: [Crisp; bounds::INPUTS],

@@ -35,7 +35,7 @@ fn is_word(w: &[u8], t: &[u8]) -> bool
 
 // The keyword of a slot, where it begins in the text of its group, and how long it is. Where no keyword has the slot, it
 // is COUNT, which has no bytes.
-#[derive(Drop)]
+#[derive(Clone, Copy)]
 struct Row {
     keyword: u8,
     start: u8,

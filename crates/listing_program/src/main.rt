@@ -7,7 +7,7 @@ ghost use Rattle.model.specs.Bounds.{listing_limit};
 use libc::{STDERR_FILENO, STDIN_FILENO, STDOUT_FILENO};
 
 // What was read: how many bytes, and whether the input ended or the buffer was full, and no read failed.
-#[derive(Drop)]
+#[derive(Clone, Copy)]
 struct Input {
     ok: bool,
     len: usize,

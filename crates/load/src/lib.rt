@@ -12,13 +12,13 @@ use model::{Refusal, Verdict};
 const WORD: usize = 4;
 
 // What evaluation and listing need of an accepted image: its header, and how many of its terms are inputs'.
-#[derive(Drop)]
+#[derive(Clone, Copy)]
 pub struct Loaded {
     pub input_terms: usize,
     pub header: Header,
 }
 
-#[derive(Drop)]
+#[derive(Clone, Copy)]
 pub enum Examined {
     Refused,
     Accepted(Loaded),

@@ -2,29 +2,29 @@
 
 // A crisp value, in thousandths.
 #[repr(C)]
-#[derive(Drop)]
+#[derive(Clone, Copy)]
 pub struct Crisp(pub i32);
 
 // A degree, in millionths.
-#[derive(Drop)]
+#[derive(Clone, Copy)]
 pub struct Degree(pub u32);
 
 // A point of a term.
-#[derive(Drop)]
+#[derive(Clone, Copy)]
 pub struct Point {
     pub at: Crisp,
     pub degree: Degree,
 }
 
 // The declared type of an input.
-#[derive(Drop)]
+#[derive(Clone, Copy)]
 pub enum InputType {
     Real,
     Int,
 }
 
 // The algorithms for AND and OR: MIN/MAX, PROD/ASUM, BDIF/BSUM.
-#[derive(Drop)]
+#[derive(Clone, Copy)]
 pub enum Pair {
     MinMax,
     ProdAsum,
@@ -32,21 +32,21 @@ pub enum Pair {
 }
 
 // How the degrees that rules give a term become its height: ACCU.
-#[derive(Drop)]
+#[derive(Clone, Copy)]
 pub enum Accumulation {
     Max,
     Bsum,
 }
 
 // ACT: singletons make it without effect.
-#[derive(Drop)]
+#[derive(Clone, Copy)]
 pub enum Activation {
     Min,
     Prod,
 }
 
 // One reading of an input.
-#[derive(Drop)]
+#[derive(Clone, Copy)]
 pub enum Reading {
     Real(f32),
     Int(i16),
@@ -54,7 +54,7 @@ pub enum Reading {
 }
 
 // What a reading is to an input of a declared type.
-#[derive(Drop)]
+#[derive(Clone, Copy)]
 pub enum Taken {
     Value(Crisp),
     Absent,
@@ -63,7 +63,7 @@ pub enum Taken {
 }
 
 // What an output's figure rests on.
-#[derive(Drop)]
+#[derive(Clone, Copy)]
 pub enum Mark {
     None,
     Fired,
@@ -72,7 +72,7 @@ pub enum Mark {
 }
 
 // The answer of one output: its figure in thousandths and as a float, and the sum of its heights.
-#[derive(Drop)]
+#[derive(Clone, Copy)]
 pub struct Answer {
     pub mark: Mark,
     pub thousandths: Crisp,
@@ -82,13 +82,13 @@ pub struct Answer {
 
 // The held record: a figure for each output, 0 in the places past the last. Hosts lend it.
 #[repr(C)]
-#[derive(Drop)]
+#[derive(Clone, Copy)]
 pub struct Held {
     pub figures: [Crisp; 6],
 }
 
 // The refusals, in the order of their numbers; each holds its place where it has one of its own.
-#[derive(Drop)]
+#[derive(Clone, Copy)]
 pub enum Refusal {
     TextTooLong,
     WrongToken(usize),
@@ -108,28 +108,28 @@ pub enum Refusal {
 }
 
 // What the reader and the lister answer: how many bytes they wrote, or the refusal.
-#[derive(Drop)]
+#[derive(Clone, Copy)]
 pub enum Written {
     Bytes(usize),
     Refused(Refusal),
 }
 
 // What the load check and each evaluation answer.
-#[derive(Drop)]
+#[derive(Clone, Copy)]
 pub enum Verdict {
     Accepted,
     Refused(Refusal),
 }
 
 // The fresh held record of an image.
-#[derive(Drop)]
+#[derive(Clone, Copy)]
 pub struct Fresh {
     pub verdict: Verdict,
     pub held: Held,
 }
 
 // One evaluation: the answers of all outputs, and the held record after it.
-#[derive(Drop)]
+#[derive(Clone, Copy)]
 pub struct Evaluation {
     pub verdict: Verdict,
     pub answers: [Answer; 6],
@@ -137,7 +137,7 @@ pub struct Evaluation {
 }
 
 // One call for daily use: the answers of all outputs; the held record is brought up to date where it stands.
-#[derive(Drop)]
+#[derive(Clone, Copy)]
 pub struct Reply {
     pub verdict: Verdict,
     pub answers: [Answer; 6],

@@ -11,19 +11,19 @@ use cursor::Cursor;
 use model::{Crisp, Degree};
 
 // fault: 0, or the number of the refusal; the value is 0 then.
-#[derive(Drop)]
+#[derive(Clone, Copy)]
 pub struct CrispHere {
     pub fault: u8,
     pub value: Crisp,
 }
 
-#[derive(Drop)]
+#[derive(Clone, Copy)]
 pub struct UnitHere {
     pub fault: u8,
     pub value: Degree,
 }
 
-#[derive(Drop)]
+#[derive(Clone, Copy)]
 pub struct NumberHere {
     pub fault: u8,
     pub value: u32,

@@ -8,21 +8,21 @@ ghost use Rattle.numerals.specs.Written.{magnitude_written, crisp_written, unit_
 use model::{Crisp, Degree};
 
 // Whether a text is a crisp value, and which.
-#[derive(Drop)]
+#[derive(Clone, Copy)]
 pub struct CrispText {
     pub ok: bool,
     pub value: Crisp,
 }
 
 // Whether a text is a degree or a weight, and which.
-#[derive(Drop)]
+#[derive(Clone, Copy)]
 pub struct UnitText {
     pub ok: bool,
     pub value: Degree,
 }
 
 // The digits of a number without its sign: whether there are few enough, and the thousandths, 0 for too many.
-#[derive(Drop)]
+#[derive(Clone, Copy)]
 struct Amount {
     fits: bool,
     thousandths: u64,

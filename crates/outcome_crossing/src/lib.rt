@@ -8,7 +8,7 @@ use model::{Refusal, Verdict, Written};
 
 // 0, or the number of the refusal; its place, where it has one; how many bytes were written.
 #[repr(C)]
-#[derive(Drop)]
+#[derive(Clone, Copy)]
 pub struct GrillenhelmOutcome {
     pub refusal: u32,
     pub has_place: u32,

@@ -2,7 +2,7 @@
 use block_tables::Tables;
 use cursor::Cursor;
 
-#[derive(Drop)]
+#[derive(Clone, Copy)]
 pub struct ParseState {
     pub cursor: Cursor,
     pub tables: Tables,

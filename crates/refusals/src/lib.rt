@@ -25,7 +25,7 @@ pub fn refusal_of(why: u8, place: usize) -> Refusal
 }
 
 // The number of a refusal, and its place if it has one; else place is 0.
-#[derive(Drop)]
+#[derive(Clone, Copy)]
 pub struct Told {
     pub number: u8,
     pub placed: bool,

@@ -6,7 +6,7 @@ ghost use Rattle.relisting.specs.Relists.{relists, answer_of, without_listing, l
 use model::{Refusal, Verdict, Written};
 
 // The length of the listing; or that the image is not accepted, or which buffer is too short and what it needs.
-#[derive(Drop)]
+#[derive(Clone, Copy)]
 pub enum Relisted {
     Bytes(usize),
     NotAccepted,

@@ -13,7 +13,7 @@ use block_tables::Heading;
 use cursor::Cursor;
 
 // A reading in a heading, beside what it says so far.
-#[derive(Drop)]
+#[derive(Clone, Copy)]
 pub struct Opened {
     pub cursor: Cursor,
     pub heading: Heading,

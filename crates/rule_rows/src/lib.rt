@@ -14,7 +14,7 @@ use model::Degree;
 use words::whole_word;
 
 // Which condition words and which conclusions of all are a rule's.
-#[derive(Drop)]
+#[derive(Clone, Copy)]
 pub struct Parts {
     pub word_first: usize,
     pub words: usize,

@@ -24,26 +24,26 @@ use symbol_table::SymbolTable;
 const ONE: u32 = bounds::M as u32;
 
 // A reading among rules, beside how many are kept.
-#[derive(Drop)]
+#[derive(Clone, Copy)]
 pub struct Progress {
     pub cursor: Cursor,
     pub totals: Totals,
 }
 
-#[derive(Drop)]
+#[derive(Clone, Copy)]
 struct Numbered {
     cursor: Cursor,
     number: u32,
 }
 
 // A reading among conclusions, beside how many are kept.
-#[derive(Drop)]
+#[derive(Clone, Copy)]
 struct Concluded {
     cursor: Cursor,
     count: usize,
 }
 
-#[derive(Drop)]
+#[derive(Clone, Copy)]
 struct Weighed {
     cursor: Cursor,
     weight: Degree,

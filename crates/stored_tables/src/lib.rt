@@ -14,14 +14,14 @@ use stored_rows::{input_ok, output_ok, singleton_ok, term_ok};
 use words::whole_word;
 
 // The terms of inputs stand before those of outputs.
-#[derive(Drop)]
+#[derive(Clone, Copy)]
 pub struct Laid {
     pub ok: bool,
     pub input_terms: usize,
 }
 
 // next is the first that one row more would have.
-#[derive(Drop)]
+#[derive(Clone, Copy)]
 struct Rows {
     ok: bool,
     next: usize,

@@ -9,7 +9,7 @@ ghost use Rattle.term_rules.specs.Positions.{may_stand};
 use model::{Crisp, Degree};
 
 // The last two positions so far; where there are fewer, those that are missing are not looked at.
-#[derive(Drop)]
+#[derive(Clone, Copy)]
 pub struct LastTwo {
     pub earlier: Crisp,
     pub later: Crisp,

@@ -5,7 +5,7 @@ ghost use Rattle.model.specs.Tokens.{is_blank, is_digit, starts_name, is_name_by
 ghost use Rattle.tokens.specs.Tokens.{goes_on, tidy_word, piece_of, token_of, after};
 
 // A token of a text: its kind, and where it starts and ends.
-#[derive(Drop)]
+#[derive(Clone, Copy)]
 pub struct Token {
     pub kind: u8,
     pub start: usize,
@@ -13,7 +13,7 @@ pub struct Token {
 }
 
 // What begins at a byte: its kind, and how many more bytes belong to it.
-#[derive(Drop)]
+#[derive(Clone, Copy)]
 struct Piece {
     kind: u8,
     more: usize,
@@ -69,7 +69,7 @@ fn goes_on(s: &[u8], i: usize) -> bool
 }
 
 // A word at the start of a text: where it ends, and whether it is tidy.
-#[derive(Drop)]
+#[derive(Clone, Copy)]
 struct Word {
     end: usize,
     tidy: bool,

@@ -11,7 +11,7 @@ use model::{Answer, Crisp, Evaluation, Fresh, Held, Mark, Refusal, Verdict, Writ
 pub const FILL: u8 = 165;
 
 // The bytes of a case at the start of a buffer, or that no case is left for it.
-#[derive(Drop)]
+#[derive(Clone, Copy)]
 pub enum Case {
     End,
     Bytes(usize),

@@ -1,0 +1,13 @@
+use borrow.Author.Rules.{rules}
+use mathlib.Core.Path.{sym, ◌∙◌}
+use Rattle.characters.proofs.starts_name.Goals as goal
+
+pub returns-then-is_between : goal.returns-then-is_between
+returns-then-is_between c = simp (c.if-is_between.true, sym c.is_between.ensures ∙ c.if-is_between.true)
+
+pub returns-then-is_between-2 : goal.returns-then-is_between-2
+returns-then-is_between-2 c =
+    simp (c.if-is_between-2.true, sym c.is_between.ensures ∙ c.if-is_between.false, sym c.is_between-else-is_between.ensures ∙ c.if-is_between-2.true)
+
+pub returns-else-is_between-2 : goal.returns-else-is_between-2
+returns-else-is_between-2 c = simp (sym c.is_between.ensures ∙ c.if-is_between.false, sym c.is_between-else-is_between.ensures ∙ c.if-is_between-2.false)
