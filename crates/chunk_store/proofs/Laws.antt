@@ -17,15 +17,9 @@ use Rattle.model.specs.Chunks.{TextCall, chunk, finish, answer, TextState, is_op
 use Rattle.laws.proofs.Tests.{both}
 
 -- bytes put into a part of a store that is as long
-pub put_behind : (n : ℕ) (d l ys : List ℕ) → n + length d ≤ length l
-    → ys ≡ take (length d) d ++ drop (length d) (mid_of n (n + length d - n) l)
+pub put_behind : (n : ℕ) (d l ys : List ℕ) → n + length d ≤ length l → ys ≡ d
     → put_mid n (n + length d - n) l ys ≡ take n l ++ (d ++ drop (n + length d) l)
-put_behind n d l ys h e =
-    let k = n + length d - n in
-    let few : length (mid_of n k l) ≤ length d = omega (arith, length-take k (drop n l), length-drop n l) in
-    let none_left : drop (length d) (mid_of n k l) ≡ [] = drop_of_length-le (mid_of n k l) few in
-    let front : ys ≡ d = e ∙ (λ i. take-length d i ++ none_left i) ∙ append-nil d in
-    λ i. take n l ++ (front i ++ Post-is n (n + length d) l (omega arith) i)
+put_behind n d l ys h e = λ i. take n l ++ (e i ++ Post-is n (n + length d) l (omega arith) i)
 
 not_least : (a b : ℕ) → not (leb a b) ≡ ltb b a
 not_least a b = go (leb a b) refl

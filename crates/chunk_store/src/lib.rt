@@ -21,7 +21,7 @@ fn put(store: &mut [u8], n: usize, chunk: &[u8])
         ++ (chunk.now ++ drop (n + length chunk.now) store.old) }
 {
     let e = n + chunk.len();
-    bytes::copy(chunk, &mut store[n..e]);
+    store[n..e].copy_from_slice(chunk);
 }
 
 // Bytes that have come, perhaps none.

@@ -24,6 +24,6 @@ pub fn list(img: &[u8], out: &mut [u8]) -> Written
         return Written::Refused(Refusal::BufferTooShort(n));
     }
     let first = bounds::LISTING - n;
-    bytes::copy(&text[first..], out);
+    out[..n].copy_from_slice(&text[first..]);
     Written::Bytes(n)
 }

@@ -48,7 +48,7 @@ fn refused(why: Refusal, out: &mut [u8]) -> usize
     let mut line = [0u8; LINE];
     let n = refused_line(&mut line, 0, t);
     let first = LINE - n;
-    bytes::copy(&line[first..], out);
+    out[..n].copy_from_slice(&line[first..]);
     n
 }
 
