@@ -15,7 +15,7 @@ use Rattle.model.specs.Bounds.{term_limit}
 use Rattle.model.specs.Keywords.{CLOSE, DOTS, ASSIGN, COLON, SEMICOLON, CoGS, DEFAULT, DEFUZZIFY, END_DEFUZZIFY, METHOD, RANGE, TERM}
 use Rattle.model.specs.Tokens.{is_name, in_crisp, value_of}
 use Rattle.model.specs.Block.{Singleton, Range, Output, Block, Input, singletons_of, range_of, in_range, with_singleton, with_range, with_default}
-use Rattle.model.specs.Parse.{Parse, Part, kind, text, is, advance, change, expect, repeated}
+use Rattle.model.specs.Parse.{Parse, Part, kind, text, advance, change, expect, repeated}
 use Rattle.model.specs.Declarations.{output_of, is_output, singleton_of, is_singleton, change_output, lower_end, upper_end, range_body, range_part, figure, singleton_body, output_term, default_value, defuzzify_of, defuzzify_variable, defuzzify}
 use Rattle.model.specs.Listing.{crisp_text}
 use Rattle.model.specs.WellFormed.{range_ok, figure_ok, default_ok, singleton_ok}

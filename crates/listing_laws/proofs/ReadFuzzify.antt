@@ -13,7 +13,7 @@ use Rattle.model.specs.Bounds.{term_limit, point_least, point_limit}
 use Rattle.model.specs.Keywords.{CLOSE, COMMA, ASSIGN, FUZZIFY, END_FUZZIFY, TERM}
 use Rattle.model.specs.Tokens.{in_crisp, value_of}
 use Rattle.model.specs.Block.{Point, Term, Input, Output, Block, terms_of, may_follow, with_terms, with_point}
-use Rattle.model.specs.Parse.{Parse, Part, kind, text, is, advance, change, expect, repeated, listed}
+use Rattle.model.specs.Parse.{Parse, Part, kind, text, advance, change, expect, repeated, listed}
 use Rattle.model.specs.Declarations.{input_of, is_input, term_of, is_term, add_term, add_point, last_points, points_of, point_position, point_degree, point_body, point, end_of_points, term_name, input_term, fuzzify_of, fuzzify_variable, fuzzify}
 use Rattle.model.specs.Listing.{crisp_text, unit_text}
 use Rattle.model.specs.WellFormed.{unit_ok, point_ok, in_order, term_ok}

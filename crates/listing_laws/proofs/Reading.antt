@@ -2,7 +2,7 @@
 use mathlib.Core.Path.{◌≡◌, refl, sym, ap, ◌∙◌}
 use mathlib.Core.Bool.{true, false}
 use mathlib.Core.List.{List, [], ◌∷◌, ◌++◌, map, append-nil, append_assoc}
-use Prim.Native.Nat.{ℕ, zero, suc, ◌+◌, ◌<◌, ◌≤◌}
+use Prim.Native.Nat.{ℕ, zero, suc, ◌<◌, ◌≤◌}
 use native.Mathlib.Omega.{arith}
 use borrow.Author.Tests.{eq-eqb, ne_eqb}
 use lib.Dec.{leb, eqb}
@@ -193,4 +193,4 @@ laid_back (t ∷ ts) = λ j. token t.kind t.text (here j) ∷ (later ∙ laid_ba
     here = rw (n, eq-eqb (length ts) (length ts) refl)
 
     later : laid (places_of (t ∷ ts)) (map item_of ts) ≡ laid (places_of ts) (map item_of ts)
-    later = laid_agree _ _ (map item_of ts) (λ m l. rw (ne_eqb m (length ts) (λ e. omega (arith, n))))
+    later = laid_agree (places_of (t ∷ ts)) (places_of ts) (map item_of ts) (λ m l. rw (ne_eqb m (length ts) (λ e. omega (arith, n))))
