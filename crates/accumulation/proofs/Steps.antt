@@ -1,4 +1,5 @@
 -- Heights conclusion by conclusion and rule by rule: they end at the block's, and each step changes one entry of an array.
+use Rattle.std.specs.Prelude.{if◌then◌else◌}
 use mathlib.Core.Path.{◌≡◌, refl, sym, ap, ◌∙◌}
 use mathlib.Core.List.{List, [], ◌∷◌, ◌++◌}
 use mathlib.Core.Bool.{Bool, true, false}
@@ -8,7 +9,7 @@ use borrow.Author.Tests.{eqb-true, eqb-false}
 use lib.Dec.{eqb}
 use lib.ListN.{length, get_or, set, replicate, length-map}
 use lib.Seq.{get_or-set_same, get_or-set_other}
-use Rattle.model.specs.Basic.{if◌then◌else◌, gather, tab}
+use Rattle.model.specs.Basic.{gather, tab}
 use Rattle.model.specs.declared.Accumulation.{Accumulation}
 use Rattle.model.specs.Block.{Conclusion, Rule, Block}
 use Rattle.model.specs.Evaluation.{rule_degree, accumulated, accumulate_all, subconclusions, height}

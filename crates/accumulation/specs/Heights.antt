@@ -1,7 +1,6 @@
 -- A helper: the height of a term t after the conclusions of one rule, from the height h that it has. `height_is` and
 -- `rule_turn` of proofs/Steps tie it to model's `height`.
-use Rattle.std.specs.Prelude.{List, [], ◌∷◌, ℕ, eqb}
-use Rattle.model.specs.Basic.{if◌then◌else◌}
+use Rattle.std.specs.Prelude.{List, [], ◌∷◌, ℕ, eqb, if◌then◌else◌}
 use Rattle.model.specs.declared.Accumulation.{Accumulation}
 use Rattle.model.specs.Block.{Conclusion}
 use Rattle.model.specs.Evaluation.{accumulated}

@@ -1,4 +1,5 @@
 -- What one call comes to, check by check; and that heights depend on the degrees of the input terms alone.
+use Rattle.std.specs.Prelude.{if◌then◌else◌}
 use mathlib.Core.Path.{◌≡◌, refl, sym, ap, ◌∙◌, subst, fun_ext}
 use mathlib.Core.List.{List, [], ◌∷◌}
 use mathlib.Core.Bool.{true, false}
@@ -9,7 +10,7 @@ use lib.IntN.{ℤ, pos}
 use lib.ListN.{length, get_or}
 use borrow.Author.Tests.{eq-eqb, ne_eqb}
 use lib.Dec.{eqb}
-use Rattle.model.specs.Basic.{if◌then◌else◌, gather}
+use Rattle.model.specs.Basic.{gather}
 use Rattle.model.specs.Bounds.{input_limit, input_term_limit}
 use Rattle.model.specs.Block.{Condition, term, neg, two, Output, Rule, Block, input_terms, output_first}
 use Rattle.model.specs.Degrees.{not_of, pairs, prod_of, condition_degree}

@@ -1,4 +1,5 @@
 -- The block's name, and an input more.
+use Rattle.std.specs.Prelude.{if◌then◌else◌}
 use mathlib.Core.Path.{◌≡◌, refl}
 use mathlib.Core.Bool.{false}
 use mathlib.Core.List.{List, []}
@@ -7,7 +8,7 @@ use native.Mathlib.Omega.{arith}
 use lib.ListN.{length, set, length-set}
 use lib.Seq.{slice, get_or-set_same, get_or-set_other}
 use Rattle.model.specs.Block.{with_name}
-use Rattle.model.specs.Basic.{if◌then◌else◌, tab}
+use Rattle.model.specs.Basic.{tab}
 use Rattle.model.specs.Bounds.{input_limit, output_limit, term_limit, input_term_limit, output_term_limit, variable_limit}
 use Rattle.model.specs.Declarations.{add_input}
 use Rattle.model.specs.declared.InputType.TheVariants.{Real as real, Int as int}

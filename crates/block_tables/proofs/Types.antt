@@ -1,4 +1,5 @@
 -- INT for the inputs from some on.
+use Rattle.std.specs.Prelude.{if◌then◌else◌}
 use mathlib.Core.Path.{◌≡◌, refl, sym, ap, ◌∙◌}
 use mathlib.Core.Bool.{Bool, true, false}
 use mathlib.Core.List.{List}
@@ -11,7 +12,7 @@ use lib.Arith.{lt_of_le-ne}
 use lib.ListN.{length, get_or, set, length-set}
 use lib.Seq.{slice, get_or-set_same, get_or-set_other}
 use Rattle.model.specs.Block.{as_int}
-use Rattle.model.specs.Basic.{if◌then◌else◌, tab}
+use Rattle.model.specs.Basic.{tab}
 use Rattle.model.specs.Bounds.{input_limit, term_limit}
 use Rattle.model.specs.Declarations.{int_from}
 use Rattle.model.specs.declared.InputType.TheVariants.{Real as real, Int as int}

@@ -1,9 +1,10 @@
 -- What stands for a variable or a term stays where the rows that it looks at stay.
+use Rattle.std.specs.Prelude.{if◌then◌else◌}
 use mathlib.Core.Path.{◌≡◌, ap, ◌∙◌}
 use mathlib.Core.List.{List}
 use Prim.Native.Nat.{ℕ, ◌+◌, ◌*◌, ◌<◌}
 use lib.Seq.{slice}
-use Rattle.model.specs.Basic.{if◌then◌else◌, tab}
+use Rattle.model.specs.Basic.{tab}
 use Rattle.model.specs.Bounds.{term_limit}
 use Rattle.model.specs.declared.InputType.TheVariants.{Real as real, Int as int}
 use Rattle.block_tables.specs.declared.Input.{Input}

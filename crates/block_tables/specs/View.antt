@@ -1,9 +1,9 @@
 -- A helper: the block that the tables stand for, a `Block` of the model. `Reads` of parse_state ties it to the model's
 -- rules, the contract of `image::store` to its `image`.
-use Rattle.std.specs.Prelude.{◌≡◌, false, List, [], ℕ, ◌+◌, ◌*◌, ◌≤◌, ◌<◌, ℤ, pos, length, get_or}
+use Rattle.std.specs.Prelude.{◌≡◌, false, List, [], ℕ, ◌+◌, ◌*◌, ◌≤◌, ◌<◌, ℤ, pos, length, get_or, if◌then◌else◌}
 use Rattle.std.proofs.Math.Option.{Option, none, some}
 use Rattle.std.proofs.Math.Seq.{slice}
-use Rattle.model.specs.Basic.{if◌then◌else◌, tab}
+use Rattle.model.specs.Basic.{tab}
 use Rattle.model.specs.Bounds.{input_limit, output_limit, term_limit, point_limit, variable_limit, input_term_limit, output_term_limit, symbol_limit}
 use Rattle.model.specs.Block as block
 use Rattle.model.specs.Block.{Block, Range, Rule}

@@ -1,8 +1,8 @@
 -- A helper: the text of a function block before its rule block and behind it. `parts` of reader/proofs/Laws ties
 -- `front_text` and `back_text` to the model's `function_block`, `back_ends` of proofs/Laws ties `back_to` to `back_text`, and
 -- `parts_there_lem` there ties `all_have_terms` to the model's `parts_there`.
-use Rattle.std.specs.Prelude.{◌≡◌, Bool, ◌&&◌, List, [], ◌∷◌, ℕ, ◌+◌, ltb, replicate}
-use Rattle.model.specs.Basic.{◌▸◌, if◌then◌else◌, all, tab}
+use Rattle.std.specs.Prelude.{◌≡◌, Bool, ◌&&◌, List, [], ◌∷◌, ℕ, ◌+◌, ltb, replicate, if◌then◌else◌}
+use Rattle.model.specs.Basic.{◌▸◌, all, tab}
 use Rattle.model.specs.Bounds.{input_limit, output_limit, point_limit, input_term_limit, output_term_limit}
 use Rattle.model.specs.Block.{with_name}
 use Rattle.model.specs.Keywords.{END, NAME, DEFUZZIFY, END_FUNCTION_BLOCK, END_RULEBLOCK, END_VAR, FUNCTION_BLOCK, FUZZIFY, VAR_INPUT, VAR_OUTPUT}

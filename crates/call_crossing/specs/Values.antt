@@ -1,7 +1,6 @@
 -- A helper: how the readings and answers of a call cross to a host, as numbers. `unknown_refused` of proofs/Readings says
 -- what model makes of an unknown kind; crossing_back has that nothing of an answer is lost.
-use Rattle.std.specs.Prelude.{ℕ, eqb}
-use Rattle.model.specs.Basic.{if◌then◌else◌}
+use Rattle.std.specs.Prelude.{ℕ, eqb, if◌then◌else◌}
 use Rattle.model.specs.declared.Answer.{Answer}
 use Rattle.model.specs.declared.Mark.{Mark}
 use Rattle.model.specs.declared.Mark.TheVariants.{None, Fired, Default, Held as HeldMark}

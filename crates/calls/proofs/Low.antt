@@ -1,4 +1,5 @@
 -- Every degree of a well-formed block is at most 1: points and weights, and of any call input terms, conditions, rules, heights.
+use Rattle.std.specs.Prelude.{if◌then◌else◌}
 use mathlib.Core.Path.{◌≡◌}
 use mathlib.Core.Bool.{Bool, true, false}
 use mathlib.Core.List.{List, [], ◌∷◌, map}
@@ -8,7 +9,7 @@ use borrow.Author.Tests.{leb-true}
 use lib.Dec.{leb, eqb}
 use lib.IntN.{ℤ, pos}
 use lib.ListN.{get_or}
-use Rattle.model.specs.Basic.{if◌then◌else◌, all, gather}
+use Rattle.model.specs.Basic.{all, gather}
 use Rattle.model.specs.Bounds.{M}
 use Rattle.model.specs.Tokens.{in_crisp}
 use Rattle.model.specs.Block.{Point, Term, Input, Condition, term, neg, two, Conclusion, Rule, Block, input_terms, output_terms}

@@ -1,4 +1,5 @@
 -- The answer of an output: fired, default or held, each with its figure; and all of them, with the record that they make.
+use Rattle.std.specs.Prelude.{if◌then◌else◌}
 use mathlib.Core.Path.{◌≡◌, refl, sym, ap, ◌∙◌}
 use mathlib.Core.Bool.{Bool, true, false, ◌&&◌, not}
 use mathlib.Core.List.{List, [], ◌∷◌, ◌++◌, map}
@@ -11,7 +12,7 @@ use lib.Dec.{ltb, eqb}
 use lib.IntN.{ℤ, pos, nat_abs}
 use lib.ListN.{length, replicate}
 use lib.Signed.{le_z, lt_z, ≤ℤ_refl}
-use Rattle.model.specs.Basic.{if◌then◌else◌, all, is_empty, tab}
+use Rattle.model.specs.Basic.{all, is_empty, tab}
 use Rattle.model.specs.Bounds.{output_limit}
 use Rattle.model.specs.Block.{Range, Output, Block, output_first, in_range}
 use Rattle.model.specs.Tokens.{is_name, in_crisp}

@@ -1,4 +1,5 @@
 -- The singletons whose height is above zero: there are some exactly where the sum is above zero, and the figure lies between them.
+use Rattle.std.specs.Prelude.{if◌then◌else◌}
 use mathlib.Core.Path.{◌≡◌, refl, sym, ap, ◌∙◌}
 use mathlib.Core.Bool.{Bool, true, false, ◌&&◌, not}
 use mathlib.Core.List.{List, [], ◌∷◌, map}
@@ -10,7 +11,7 @@ use lib.Dec.{ltb}
 use lib.IntN.{ℤ, pos, negsuc}
 use lib.ListN.{length, get_or, length-map}
 use lib.Signed.{le_z, ◌≤ℤ◌, ≤ℤ_refl}
-use Rattle.model.specs.Basic.{if◌then◌else◌, is_empty, total}
+use Rattle.model.specs.Basic.{is_empty, total}
 use Rattle.model.specs.Block.{Singleton, Range, in_range}
 use Rattle.model.specs.Tokens.{in_crisp}
 use Rattle.model.specs.WellFormed.{figure_ok}

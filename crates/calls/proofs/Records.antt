@@ -1,4 +1,5 @@
 -- What the papers leave free: calls on a record that no call returned, and calls on an image that is not accepted.
+use Rattle.std.specs.Prelude.{if◌then◌else◌}
 use mathlib.Core.Path.{◌≡◌, refl, sym, ap, ◌∙◌, subst}
 use mathlib.Core.Bool.{Bool, true, false, not}
 use mathlib.Core.List.{List, [], ◌∷◌}
@@ -7,7 +8,7 @@ use Prim.Native.Nat.{ℕ}
 use lib.Dec.{eqb}
 use lib.IntN.{ℤ}
 use lib.ListN.{length}
-use Rattle.model.specs.Basic.{if◌then◌else◌, Each}
+use Rattle.model.specs.Basic.{Each}
 use Rattle.model.specs.Block.{Block}
 use Rattle.model.specs.Outcome.{Outcome, accepted, refused, and_then, verdict_in}
 use Rattle.model.specs.Refusals.{verdict_of}

@@ -1,4 +1,5 @@
 -- A call is right exactly where its readings have crisp values and their number is the inputs'.
+use Rattle.std.specs.Prelude.{if◌then◌else◌}
 use mathlib.Core.Path.{◌≡◌, refl, ap, ◌∙◌}
 use mathlib.Core.Bool.{Bool, true, false, ◌&&◌, not}
 use mathlib.Core.List.{List, [], ◌∷◌}
@@ -8,7 +9,6 @@ use lib.Dec.{eqb}
 use lib.Ieee.{nan, inf, fin}
 use lib.IntN.{ℤ}
 use lib.ListN.{length}
-use Rattle.model.specs.Basic.{if◌then◌else◌}
 use Rattle.model.specs.Block.{Input, Block}
 use Rattle.model.specs.Outcome.{Outcome, accepted, refused, and_then, verdict_in}
 use Rattle.model.specs.Readings.{real_of, taken, value_in}

@@ -1,4 +1,5 @@
 -- One call on a record whose figures fit, by whether it is right: the record after it fits too, so that 13 never comes.
+use Rattle.std.specs.Prelude.{if◌then◌else◌}
 use mathlib.Core.Path.{◌≡◌, refl, sym, ap, ◌∙◌, subst}
 use mathlib.Core.Bool.{Bool, true, false}
 use mathlib.Core.List.{List, []}
@@ -6,7 +7,6 @@ use Prim.Native.Nat.{ℕ, ◌-◌}
 use lib.IntN.{ℤ, pos}
 use lib.ListN.{length, replicate, take}
 use lib.Seq.{take_at}
-use Rattle.model.specs.Basic.{if◌then◌else◌}
 use Rattle.model.specs.Bounds.{output_limit}
 use Rattle.model.specs.Block.{Block}
 use Rattle.model.specs.Outcome.{Outcome, accepted, refused, and_then}

@@ -1,4 +1,5 @@
 -- A text reads to an image exactly when the reader, given room, answers its length and leaves it at the front of the buffer.
+use Rattle.std.specs.Prelude.{if◌then◌else◌}
 use mathlib.Core.Path.{◌≡◌, refl, sym, ap, ◌∙◌, subst}
 use mathlib.Core.Bool.{Bool, true, false}
 use mathlib.Core.List.{List}
@@ -9,7 +10,7 @@ use native.Mathlib.Omega.{arith}
 use lib.Dec.{ltb}
 use lib.ListN.{length, take, drop}
 use lib.Seq.{take_at}
-use Rattle.model.specs.Basic.{if◌then◌else◌, all}
+use Rattle.model.specs.Basic.{all}
 use Rattle.model.specs.Block.{Block}
 use Rattle.model.specs.Outcome.{Outcome, accepted, refused, and_then, into, length_in, buffer_after}
 use Rattle.model.specs.Reader.{reads}

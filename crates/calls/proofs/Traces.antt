@@ -1,5 +1,6 @@
 -- Every list of calls has a trace: for every image, record and list of calls, by value or for daily use as the caller chooses, there are results that
 -- make it one.
+use Rattle.std.specs.Prelude.{if◌then◌else◌}
 use mathlib.Core.Path.{◌≡◌, refl}
 use mathlib.Core.Bool.{Bool, true, false, not}
 use mathlib.Core.List.{List, [], ◌∷◌, map}
@@ -8,7 +9,6 @@ use Prim.Native.Nat.{ℕ, suc}
 use lib.Dec.{eqb}
 use lib.IntN.{ℤ}
 use lib.ListN.{length}
-use Rattle.model.specs.Basic.{if◌then◌else◌}
 use Rattle.model.specs.Block.{Block, Input}
 use Rattle.model.specs.Outcome.{Outcome, accepted, refused, and_then, verdict_in}
 use Rattle.model.specs.Refusals.{verdict_of}

@@ -1,4 +1,5 @@
 -- Bytes and words in capitals: every class of bytes, the spelling of a name and the kind of a word are as before.
+use Rattle.std.specs.Prelude.{if◌then◌else◌}
 use mathlib.Core.Path.{◌≡◌, refl, sym, ap, ◌∙◌}
 use mathlib.Core.Bool.{Bool, true, false, ◌&&◌, ◌||◌, not, and-false}
 use mathlib.Core.List.{List, [], ◌∷◌, map}
@@ -7,7 +8,7 @@ use native.Mathlib.Omega.{arith}
 use borrow.Author.Tests.{le-leb, lt-leb, ne_eqb}
 use lib.Dec.{leb, eqb}
 use lib.ListN.{take, drop}
-use Rattle.model.specs.Basic.{if◌then◌else◌, run, same, index_of, capital, capitals, alike}
+use Rattle.model.specs.Basic.{run, same, index_of, capital, capitals, alike}
 use Rattle.model.specs.Keywords.{keywords, keyword_at, is_keyword, WRONG, NAME}
 use Rattle.model.specs.Tokens.{is_blank, is_digit, is_underscore, starts_name, is_name_byte, is_sign, is_mark, starts, tidy, word_kind}
 use Rattle.laws.proofs.Tests.{clash}

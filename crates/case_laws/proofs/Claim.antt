@@ -1,5 +1,6 @@
 -- Case has no meaning: a text in capitals reads to what the text reads to, with names in capitals. So two texts that are
 -- the same but for case read to the same but for the case of names.
+use Rattle.std.specs.Prelude.{if◌then◌else◌}
 use mathlib.Core.Path.{◌≡◌, refl, sym, ap, ◌∙◌}
 use mathlib.Core.Bool.{Bool, true, false}
 use mathlib.Core.List.{List}
@@ -7,7 +8,7 @@ use mathlib.Core.Option.{some}
 use Prim.Native.Nat.{ℕ}
 use lib.Dec.{ltb, eqb}
 use lib.ListN.{length}
-use Rattle.model.specs.Basic.{if◌then◌else◌, capitals}
+use Rattle.model.specs.Basic.{capitals}
 use Rattle.model.specs.Bounds.{text_limit}
 use Rattle.model.specs.Keywords.{END, NAME, DEFUZZIFY, END_FUNCTION_BLOCK, END_VAR, FUNCTION_BLOCK, FUZZIFY, VAR_INPUT, VAR_OUTPUT}
 use Rattle.model.specs.Block.{Block, with_name, empty_block}

@@ -1,11 +1,12 @@
 -- Conditions know no case: where names differ by it alone, the tree is the same.
+use Rattle.std.specs.Prelude.{if◌then◌else◌}
 use mathlib.Core.Path.{◌≡◌, refl, sym, ap, ◌∙◌}
 use mathlib.Core.Bool.{Bool, true, false}
 use mathlib.Core.List.{List, [], ◌∷◌}
 use Prim.Native.Nat.{ℕ, zero, suc, ◌+◌}
 use lib.Dec.{ltb}
 use lib.ListN.{length, length-map}
-use Rattle.model.specs.Basic.{if◌then◌else◌, capitals}
+use Rattle.model.specs.Basic.{capitals}
 use Rattle.model.specs.Bounds.{word_limit, depth_limit}
 use Rattle.model.specs.Keywords.{OPEN, CLOSE, AND, IS, NOT, OR}
 use Rattle.model.specs.Block.{Block, Op, Condition, and, or, term, two}

@@ -1,4 +1,5 @@
 -- How far a text is read, with every name in capitals: a step from there leads to where the step leads, with every name in capitals.
+use Rattle.std.specs.Prelude.{if◌then◌else◌}
 use mathlib.Core.Path.{◌≡◌, refl, sym, ap, ◌∙◌}
 use mathlib.Core.Bool.{Bool, true, false}
 use mathlib.Core.List.{List, [], ◌∷◌, map}
@@ -6,7 +7,7 @@ use Prim.Native.Nat.{ℕ, zero, suc}
 use borrow.Author.Tests.{eqb-true}
 use lib.Dec.{leb, eqb}
 use lib.ListN.{length, length-map}
-use Rattle.model.specs.Basic.{if◌then◌else◌, capitals}
+use Rattle.model.specs.Basic.{capitals}
 use Rattle.model.specs.Bounds.{name_limit}
 use Rattle.model.specs.Keywords.{NAME, NUMBER, DOTS, COMMA}
 use Rattle.model.specs.Tokens.{is_crisp, is_unit, Token}

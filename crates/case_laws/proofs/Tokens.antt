@@ -1,5 +1,6 @@
 -- The tokens of a text in capitals: each of the same kind and at the same place, its text in capitals. The text of a number
 -- and of `..` has no letters, and stays as it is.
+use Rattle.std.specs.Prelude.{if◌then◌else◌}
 use mathlib.Core.Path.{◌≡◌, refl, sym, ap, ◌∙◌}
 use mathlib.Core.Bool.{Bool, true, false, ◌&&◌, ◌||◌}
 use mathlib.Core.List.{List, [], ◌∷◌, map}
@@ -9,7 +10,7 @@ use native.Mathlib.Omega.{arith}
 use borrow.Author.Tests.{eqb-true, eq-eqb, ne_eqb}
 use lib.Dec.{eqb}
 use lib.ListN.{take, drop}
-use Rattle.model.specs.Basic.{if◌then◌else◌, run, capital, capitals}
+use Rattle.model.specs.Basic.{run, capital, capitals}
 use Rattle.model.specs.Keywords.{keyword_at, is_keyword, NUMBER, DOTS, BLANK}
 use Rattle.model.specs.Tokens.{is_blank, is_digit, starts_name, is_name_byte, is_sign, is_mark, starts, tidy, Token, token, Piece, piece, word_kind, point_part, number_part, comment_part, comment_piece, word_piece, piece_at, placed, scan, tokens}
 use Rattle.laws.proofs.Tests.{both, clash}

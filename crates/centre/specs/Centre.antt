@@ -1,7 +1,6 @@
 -- A helper: what the code sums of some singletons, by their positions and heights, and their figure, which is that of
 -- model's `output_answer` where the sum of heights is above 0 (`defuzzification/proofs/Answers`).
-use Rattle.std.specs.Prelude.{◌≡◌, List, [], ◌∷◌, ℕ, ◌+◌, ◌*◌, ltb, ℤ, pos, length}
-use Rattle.model.specs.Basic.{if◌then◌else◌}
+use Rattle.std.specs.Prelude.{◌≡◌, List, [], ◌∷◌, ℕ, ◌+◌, ◌*◌, ltb, ℤ, pos, length, if◌then◌else◌}
 use Rattle.model.specs.Degrees.{nearestℤ}
 use Rattle.model.specs.Evaluation.{moment, sum_of}
 use Rattle.crisp.specs.Crisp.{above}

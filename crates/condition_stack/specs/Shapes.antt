@@ -1,8 +1,7 @@
 -- A helper: the machine that keeps of each subtree its form and depth, in one number, and the code's stack as that
 -- machine's. The law `accepts_is` of proofs/Accepted ties what it accepts to model's `tree_of`, `terms_below` and `depth`.
-use Rattle.std.specs.Prelude.{List, ℕ, ◌+◌, ◌*◌, ◌/◌, ◌%◌, max, leb, ltb, eqb}
+use Rattle.std.specs.Prelude.{List, ℕ, ◌+◌, ◌*◌, ◌/◌, ◌%◌, max, leb, ltb, eqb, if◌then◌else◌}
 use Rattle.std.proofs.Math.Option.{Option, none, some}
-use Rattle.model.specs.Basic.{if◌then◌else◌}
 use Rattle.model.specs.Bounds.{depth_limit}
 use Rattle.model.specs.Block.{Op}
 use Rattle.model.specs.Parentheses.{rank, negated_form, bare_behind_not, bare_left, bare_right, opened}

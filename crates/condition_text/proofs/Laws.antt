@@ -1,4 +1,5 @@
 -- The laws of reading a condition.
+use Rattle.std.specs.Prelude.{if◌then◌else◌}
 use mathlib.Core.Path.{◌≡◌, refl, sym, ap, ◌∙◌, subst}
 use mathlib.Core.Bool.{Bool, true, false}
 use mathlib.Core.List.{List, [], ◌∷◌, ◌++◌}
@@ -8,7 +9,6 @@ use native.Mathlib.Numerals.{sub-one}
 use borrow.Author.Tests.{eq-eqb, ne_eqb, lt-ltb, le-ltb}
 use lib.ListN.{length, take, drop, length-append}
 use lib.Seq.{take-take, take_at, length-take-le, sets, sets-eq}
-use Rattle.model.specs.Basic.{if◌then◌else◌}
 use Rattle.model.specs.Bounds.{word_limit, variable_limit, term_limit}
 use Rattle.model.specs.Block.{Block, Op, Condition, term, two, empty_block}
 use Rattle.model.specs.Image.{postfix, op_word}

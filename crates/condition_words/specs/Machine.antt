@@ -1,8 +1,7 @@
 -- A helper: one word of a pass over postfix words with a stack, for any meaning of a term, NOT and the operators.
 -- `pass_postfix` and `pass_one` of proofs/Passes tie the whole pass to model's `postfix`.
-use Rattle.std.specs.Prelude.{List, [], ◌∷◌, Bool, ℕ, zero, suc, ◌+◌, ◌*◌, ◌-◌, leb, ltb, eqb, length, get_or}
+use Rattle.std.specs.Prelude.{List, [], ◌∷◌, Bool, ℕ, zero, suc, ◌+◌, ◌*◌, ◌-◌, leb, ltb, eqb, length, get_or, if◌then◌else◌}
 use Rattle.std.proofs.Math.Option.{Option, none, some}
-use Rattle.model.specs.Basic.{if◌then◌else◌}
 use Rattle.model.specs.Bounds.{depth_limit}
 use Rattle.model.specs.Block.{Op, and, or}
 use Rattle.model.specs.Image.{NOT_WORD, TERM_WORD, op_word}

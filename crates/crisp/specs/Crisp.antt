@@ -1,8 +1,7 @@
 -- A helper: the crisp bounds as a fact (model's `in_crisp` as a test: `crisp/proofs/Laws.bounds`), distances above the
 -- lowest crisp value, and RANGE as three values (model's `Option Range`).
-use Rattle.std.specs.Prelude.{Bool, ℕ, ◌≤◌, ℤ, pos, nat_abs, ◌+ℤ◌}
+use Rattle.std.specs.Prelude.{Bool, ℕ, ◌≤◌, ℤ, pos, nat_abs, ◌+ℤ◌, if◌then◌else◌}
 use Rattle.std.proofs.Math.Option.{Option, none, some}
-use Rattle.model.specs.Basic.{if◌then◌else◌}
 use Rattle.model.specs.Block.{Range}
 use Rattle.model.specs.Bounds.{crisp_limit}
 

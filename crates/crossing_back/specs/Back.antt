@@ -1,6 +1,5 @@
 -- What a host's numbers say: outcomes, marks, answers and evaluations crossed back. `proofs/Back` has that nothing is lost.
-use Rattle.std.specs.Prelude.{map, ℕ, eqb}
-use Rattle.model.specs.Basic.{if◌then◌else◌}
+use Rattle.std.specs.Prelude.{map, ℕ, eqb, if◌then◌else◌}
 use Rattle.model.specs.Outcome.{Outcome, accepted, refused}
 use Rattle.model.specs.declared.Answer.{Answer}
 use Rattle.model.specs.declared.Evaluation.{Evaluation}

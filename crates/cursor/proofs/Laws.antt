@@ -1,4 +1,5 @@
 -- The laws of the view.
+use Rattle.std.specs.Prelude.{if◌then◌else◌}
 use mathlib.Core.Path.{◌≡◌, refl, sym, ap, ◌∙◌}
 use mathlib.Core.Bool.{Bool, true, false}
 use mathlib.Core.List.{List, [], ◌∷◌, ◌++◌}
@@ -8,7 +9,6 @@ use borrow.Author.Tests.{eq-eqb, ne_eqb, eqb-true, eqb-false}
 use lib.Dec.{eqb}
 use lib.ListN.{length}
 use lib.Seq.{length-slice}
-use Rattle.model.specs.Basic.{if◌then◌else◌}
 use Rattle.model.specs.Keywords.{END}
 use Rattle.model.specs.Block.{Block}
 use Rattle.model.specs.Parse.{Parse, Part, Checks, kind, text, here, is, refuse, advance, change, judged, expect, repeat_on, repeated}

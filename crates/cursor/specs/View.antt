@@ -1,8 +1,7 @@
 -- A helper: what a cursor stands for: how far the text is read, beside a block and a number of condition words. `Step`
 -- ties a move of the cursor to a part of the rules, a `Part` of the model.
-use Rattle.std.specs.Prelude.{◌≡◌, List, [], ◌∷◌, ℕ, suc, ◌-◌, ◌≤◌, ◌<◌, eqb, leb, length}
+use Rattle.std.specs.Prelude.{◌≡◌, List, [], ◌∷◌, ℕ, suc, ◌-◌, ◌≤◌, ◌<◌, eqb, leb, length, if◌then◌else◌}
 use Rattle.std.proofs.Math.Seq.{slice}
-use Rattle.model.specs.Basic.{if◌then◌else◌}
 use Rattle.model.specs.Bounds.{name_limit}
 use Rattle.model.specs.Keywords.{END, NAME}
 use Rattle.model.specs.Block.{Block}

@@ -1,4 +1,5 @@
 -- What a new variable is judged by, and what it changes.
+use Rattle.std.specs.Prelude.{if◌then◌else◌}
 use mathlib.Core.Path.{◌≡◌, refl, sym, ap, ◌∙◌}
 use mathlib.Core.Bool.{Bool, ◌||◌, not}
 use mathlib.Core.List.{List, [], ◌∷◌}
@@ -6,7 +7,6 @@ use Prim.Native.Nat.{ℕ, ◌≤◌, ◌<◌}
 use native.Mathlib.Omega.{arith}
 use borrow.Author.Tests.{eq-eqb, ne_eqb, lt-ltb, le-ltb}
 use lib.Dec.{ltb}
-use Rattle.model.specs.Basic.{if◌then◌else◌}
 use Rattle.model.specs.Block.{Block, with_name}
 use Rattle.model.specs.Bounds.{input_limit}
 use Rattle.model.specs.Keywords.{COLON, SEMICOLON, REAL, END, INT}

@@ -1,4 +1,5 @@
 -- What a RANGE, a singleton, a default and a whole part are judged by, and what they change.
+use Rattle.std.specs.Prelude.{if◌then◌else◌}
 use mathlib.Core.Path.{◌≡◌, refl, sym, ap, ◌∙◌}
 use mathlib.Core.Bool.{Bool, true, false, not}
 use mathlib.Core.List.{List, [], ◌∷◌}
@@ -10,7 +11,7 @@ use lib.Dec.{ltb, eqb}
 use lib.IntN.{ℤ}
 use lib.ListN.{length}
 use lib.Signed.{lt_z}
-use Rattle.model.specs.Basic.{if◌then◌else◌, is_empty, index_of, tab}
+use Rattle.model.specs.Basic.{is_empty, index_of, tab}
 use Rattle.model.specs.Bounds.{input_limit, term_limit, variable_limit, input_term_limit}
 use Rattle.model.specs.Block.{Block, Output, in_range, singletons_of, range_of, with_range, with_singleton, with_default}
 use Rattle.model.specs.Keywords.{NUMBER, ASSIGN, DOTS, OPEN, CLOSE, SEMICOLON, TERM, END, NC, RANGE}

@@ -1,10 +1,10 @@
 -- Demand 3: lists of evaluation calls on one image, and what holds of them, sentence by sentence.
-use Rattle.std.specs.Prelude.{Bool, true, false, ◌&&◌, not, ◌↔◌, ◌≡◌, ℕ, suc, ◌≤◌, ltb, eqb, Float, ℤ, pos, length, take, drop, get_or, ◌≤ℤ◌}
+use Rattle.std.specs.Prelude.{Bool, true, false, ◌&&◌, not, ◌↔◌, ◌≡◌, ℕ, suc, ◌≤◌, ltb, eqb, Float, ℤ, pos, length, take, drop, get_or, ◌≤ℤ◌, if◌then◌else◌}
 use mathlib.Core.List.{List, [], ◌∷◌, ◌++◌, map, foldl}
 use Rattle.std.proofs.Math.Option.{none, some}
 use Rattle.std.specs.Float.{nan, inf, fin}
 use Rattle.std.specs.Int.Signed.{le_z}
-use Rattle.model.specs.Basic.{if◌then◌else◌, is_empty, gather, Each, tab}
+use Rattle.model.specs.Basic.{is_empty, gather, Each, tab}
 use Rattle.model.specs.Bounds.{M}
 use Rattle.model.specs.Block.{Input, Singleton, Output, Condition, term, neg, two, Block, input_terms, output_terms, output_first}
 use Rattle.model.specs.declared.InputType.{InputType}

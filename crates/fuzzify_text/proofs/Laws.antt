@@ -1,4 +1,5 @@
 -- What each part of FUZZIFY comes to, by the tests that the code makes.
+use Rattle.std.specs.Prelude.{if◌then◌else◌}
 use mathlib.Core.Path.{◌≡◌, refl, sym, ap, ◌∙◌}
 use mathlib.Core.Bool.{Bool, true, false, not, true≢false}
 use mathlib.Core.List.{List, [], ◌∷◌, ◌++◌, map, map-append}
@@ -9,7 +10,7 @@ use lib.Dec.{ltb}
 use lib.IntN.{ℤ}
 use lib.ListN.{length, get_or, set, length-set, length-map}
 use lib.Seq.{slice, get_or-set_same, get_or-set_other}
-use Rattle.model.specs.Basic.{if◌then◌else◌, is_empty, index_of, update, update_last, tab}
+use Rattle.model.specs.Basic.{is_empty, index_of, update, update_last, tab}
 use Rattle.model.specs.Block as block
 use Rattle.model.specs.Block.{Block, terms_of, may_follow, with_inputs, with_terms, with_point}
 use Rattle.model.specs.Bounds.{term_limit, point_least, point_limit, variable_limit}

@@ -1,4 +1,5 @@
 -- A term more for an input, stored in the tables.
+use Rattle.std.specs.Prelude.{if◌then◌else◌}
 use mathlib.Core.Path.{◌≡◌, refl, sym, ap, ◌∙◌}
 use mathlib.Core.List.{List, [], ◌∷◌, ◌++◌}
 use Prim.Native.Nat.{ℕ, ◌+◌, ◌*◌, ◌≤◌, ◌<◌}
@@ -6,7 +7,7 @@ use native.Mathlib.Nat.{zero-add}
 use native.Mathlib.Omega.{arith}
 use lib.ListN.{length, set, length-set}
 use lib.Seq.{slice, get_or-set_same, get_or-set_other}
-use Rattle.model.specs.Basic.{if◌then◌else◌, tab}
+use Rattle.model.specs.Basic.{tab}
 use Rattle.model.specs.Block.{with_terms}
 use Rattle.model.specs.Bounds.{input_limit, output_limit, term_limit, point_limit, variable_limit, input_term_limit, output_term_limit}
 use Rattle.model.specs.declared.InputType.TheVariants.{Real as real, Int as int}

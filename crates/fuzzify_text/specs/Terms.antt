@@ -1,9 +1,9 @@
 -- A helper: the points of a term as they are read, and what they are checked for in numbers. A reading stands for any
 -- block with these points in the last term of an input; `ReadsShape` ties it to a `Part` of the model, and `position_is` and
 -- `points_end` of proofs/Laws tie the checks to the model's `point_position` and `end_of_points`.
-use Rattle.std.specs.Prelude.{◌≡◌, false, List, [], ◌∷◌, ◌++◌, map, ℕ, ◌+◌, ◌*◌, ◌≤◌, ◌<◌, leb, ℤ, length, replicate}
+use Rattle.std.specs.Prelude.{◌≡◌, false, List, [], ◌∷◌, ◌++◌, map, ℕ, ◌+◌, ◌*◌, ◌≤◌, ◌<◌, leb, ℤ, length, replicate, if◌then◌else◌}
 use Rattle.std.proofs.Math.Seq.{slice}
-use Rattle.model.specs.Basic.{if◌then◌else◌, index_of, update, tab}
+use Rattle.model.specs.Basic.{index_of, update, tab}
 use Rattle.model.specs.Block as block
 use Rattle.model.specs.Block.{Block, terms_of, with_inputs, with_terms}
 use Rattle.model.specs.Bounds.{term_limit, point_least, point_limit, variable_limit}

@@ -1,4 +1,5 @@
 -- Demand 3 of every image and every list of calls that a host makes on it: such a list, crossed back, is a trace.
+use Rattle.std.specs.Prelude.{if◌then◌else◌}
 use mathlib.Core.Path.{◌≡◌, refl, sym, ap, ◌∙◌, subst}
 use mathlib.Core.Bool.{Bool, true, false}
 use mathlib.Core.List.{List, [], ◌∷◌, map}
@@ -6,7 +7,7 @@ use mathlib.Core.Logic.{◌↔◌}
 use mathlib.Core.Option.{none}
 use Prim.Native.Nat.{ℕ}
 use native.Mathlib.Omega.{arith}
-use Rattle.model.specs.Basic.{if◌then◌else◌, Each}
+use Rattle.model.specs.Basic.{Each}
 use Rattle.model.specs.Block.{Block}
 use Rattle.model.specs.Outcome.{Outcome, accepted, refused, verdict_in}
 use Rattle.model.specs.Refusals.{verdict_of}

@@ -1,4 +1,5 @@
 -- A text reads to an image exactly when `grillenhelm_read`, given room, tells a host 0 and its length and leaves it at the front of the buffer.
+use Rattle.std.specs.Prelude.{if◌then◌else◌}
 use mathlib.Core.Path.{◌≡◌, refl, sym, ap, ◌∙◌}
 use mathlib.Core.Bool.{Bool, true, false}
 use mathlib.Core.List.{List}
@@ -9,7 +10,7 @@ use native.Mathlib.Omega.{arith}
 use borrow.Author.Tests.{eqb-false}
 use lib.Dec.{ltb, eqb}
 use lib.ListN.{length, take}
-use Rattle.model.specs.Basic.{if◌then◌else◌, all}
+use Rattle.model.specs.Basic.{all}
 use Rattle.model.specs.Bounds.{text_limit}
 use Rattle.model.specs.Outcome.{Outcome, accepted, refused, and_then, into, length_in, buffer_after}
 use Rattle.model.specs.Reader.{function_block, start, reads}

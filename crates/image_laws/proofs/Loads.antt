@@ -1,4 +1,5 @@
 -- The load check accepts a list of bytes, and as the block b, exactly when b is well-formed and the bytes are its image.
+use Rattle.std.specs.Prelude.{if◌then◌else◌}
 use mathlib.Core.Path.{◌≡◌, refl, ap, ◌∙◌, subst}
 use mathlib.Core.Bool.{Bool, true, false, ◌&&◌}
 use mathlib.Core.List.{List, map}
@@ -10,7 +11,7 @@ use borrow.Author.Tests.{leb-true}
 use lib.Dec.{leb, eqb}
 use lib.IntN.{ℤ}
 use lib.Signed.{lt_z}
-use Rattle.model.specs.Basic.{if◌then◌else◌, gather, same, tab}
+use Rattle.model.specs.Basic.{gather, same, tab}
 use Rattle.model.specs.Outcome.{accepted, refused}
 use Rattle.model.specs.Bounds.{M}
 use Rattle.model.specs.Block.{Point, Term, Input, Range, Output, Block, input_terms, output_terms, in_range}

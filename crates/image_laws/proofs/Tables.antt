@@ -1,4 +1,5 @@
 -- The tables of a well-formed block, read back from the words that it is laid out as.
+use Rattle.std.specs.Prelude.{if◌then◌else◌}
 use mathlib.Core.Path.{◌≡◌, refl, ap, ◌∙◌, subst}
 use mathlib.Core.Bool.{true}
 use mathlib.Core.List.{List, [], ◌∷◌, ◌++◌, map}
@@ -9,7 +10,7 @@ use native.Mathlib.Nat.{suc-mul}
 use lib.Dec.{eqb}
 use lib.IntN.{ℤ}
 use lib.ListN.{length}
-use Rattle.model.specs.Basic.{if◌then◌else◌, gather, tab}
+use Rattle.model.specs.Basic.{gather, tab}
 use Rattle.model.specs.Bounds.{M}
 use Rattle.model.specs.Block.{Point, Term, Singleton, Input, Range, Output, Conclusion, Rule, Block, input_terms, output_terms, conclusions, size}
 use Rattle.model.specs.declared.InputType.{InputType}

@@ -1,7 +1,7 @@
 -- Helpers: the numbers by which keywords are told apart. Case does not count in them. The contract of `keyword_at` ties
 -- them to the model's `keyword_at`; `may_not` of proofs/Laws says that a word which may be no keyword is none.
-use Rattle.std.specs.Prelude.{◌≡◌, Bool, List, [], ◌∷◌, ◌++◌, ℕ, ◌+◌, ◌-◌, ◌*◌, ◌/◌, ◌%◌, ◌^◌, eqb, length, take, get_or}
-use Rattle.model.specs.Basic.{if◌then◌else◌, index_of}
+use Rattle.std.specs.Prelude.{◌≡◌, Bool, List, [], ◌∷◌, ◌++◌, ℕ, ◌+◌, ◌-◌, ◌*◌, ◌/◌, ◌%◌, ◌^◌, eqb, length, take, get_or, if◌then◌else◌}
+use Rattle.model.specs.Basic.{index_of}
 use Rattle.model.specs.Keywords.{keywords}
 use Rattle.keywords.specs.declared.Row.{Row}
 

@@ -1,5 +1,6 @@
 -- The tree that `parenthesis` answers where no more parentheses may be open is never used: that reading is refused, and with any other
 -- tree in its place every rule is read the same.
+use Rattle.std.specs.Prelude.{if◌then◌else◌}
 use mathlib.Core.Path.{◌≡◌, refl, sym, ap, ◌∙◌, subst}
 use mathlib.Core.Bool.{Bool, true, false}
 use Prim.Native.Nat.{ℕ, zero, suc}
@@ -7,7 +8,7 @@ use native.Mathlib.Omega.{arith}
 use borrow.Author.Tests.{eqb-true, eqb-false}
 use lib.Dec.{eqb}
 use lib.ListN.{length}
-use Rattle.model.specs.Basic.{if◌then◌else◌, ◌▸◌}
+use Rattle.model.specs.Basic.{◌▸◌}
 use Rattle.model.specs.Bounds.{depth_limit}
 use Rattle.model.specs.Block.{Block, Op, and, or, Condition, neg, two}
 use Rattle.model.specs.Keywords.{OPEN, CLOSE, COLON, SEMICOLON, AND, IF, NOT, OR, THEN}

@@ -1,4 +1,5 @@
 -- A text is cut into pieces, tokens and blanks, one after the other: put together they are the text, and `scan` keeps the tokens of them.
+use Rattle.std.specs.Prelude.{if◌then◌else◌}
 use mathlib.Core.Path.{◌≡◌, refl, sym, ap, ◌∙◌, subst}
 use mathlib.Core.Bool.{Bool, true, false}
 use mathlib.Core.List.{List, [], ◌∷◌, ◌++◌}
@@ -7,7 +8,7 @@ use native.Mathlib.Decide.{dec_le}
 use native.Mathlib.Omega.{arith}
 use lib.Dec.{eqb}
 use lib.ListN.{length, take, drop, length-take, take-append-drop}
-use Rattle.model.specs.Basic.{if◌then◌else◌, gather}
+use Rattle.model.specs.Basic.{gather}
 use Rattle.model.specs.Keywords.{END, BLANK}
 use Rattle.model.specs.Tokens.{Token, token, piece_at, scan, tokens}
 use Rattle.laws.proofs.Each.{Each}

@@ -1,10 +1,10 @@
 -- A refused reading stays refused, by the same number and at the same place, whatever part of the reader's rules comes next.
+use Rattle.std.specs.Prelude.{if◌then◌else◌}
 use mathlib.Core.Path.{◌≡◌, refl, sym, ◌∙◌}
 use mathlib.Core.Bool.{Bool, true, false}
 use Prim.Native.Nat.{ℕ}
 use borrow.Author.Tests.{ne_eqb}
 use lib.Dec.{ltb}
-use Rattle.model.specs.Basic.{if◌then◌else◌}
 use Rattle.model.specs.Bounds.{word_limit}
 use Rattle.model.specs.Block.{Block}
 use Rattle.model.specs.Parse.{Parse, Part, refuse, advance, change}

@@ -1,4 +1,5 @@
 -- The fuel of repetitions and of chains never runs out: in the reader's rules a repetition ends because its token does not follow.
+use Rattle.std.specs.Prelude.{if◌then◌else◌}
 use mathlib.Core.Path.{◌≡◌, refl, sym, ap, ◌∙◌}
 use mathlib.Core.Bool.{Bool, true, false}
 use mathlib.Core.List.{List, [], ◌∷◌}
@@ -6,7 +7,6 @@ use Prim.Native.Nat.{ℕ, zero, suc, ◌≤◌}
 use native.Mathlib.Omega.{arith}
 use lib.Dec.{eqb, ltb}
 use lib.ListN.{length}
-use Rattle.model.specs.Basic.{if◌then◌else◌}
 use Rattle.model.specs.Bounds.{word_limit, input_limit, output_limit}
 use Rattle.model.specs.Block.{Block, Op, and, or, two}
 use Rattle.model.specs.Keywords.{END, NAME, ASSIGN, COMMA, COLON, SEMICOLON, REAL, AND, DEFUZZIFY, FUZZIFY, OR, RULE, TERM}

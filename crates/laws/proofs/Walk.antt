@@ -1,5 +1,6 @@
 -- A fact of a reading that is kept by the four steps that change it (a refusal, a token on, a change of the block, a condition word)
 -- is kept by every part of the reader's rules, and by the reading of the whole text.
+use Rattle.std.specs.Prelude.{if◌then◌else◌}
 use mathlib.Core.Path.{◌≡◌, refl}
 use mathlib.Core.Bool.{Bool, true, false, ◌&&◌}
 use mathlib.Core.List.{List, [], ◌∷◌}
@@ -7,7 +8,6 @@ use mathlib.Core.Option.{Option, none, some}
 use Prim.Native.Nat.{ℕ, zero, suc, ◌+◌}
 use lib.IntN.{ℤ}
 use lib.ListN.{length}
-use Rattle.model.specs.Basic.{if◌then◌else◌}
 use Rattle.model.specs.Bounds.{depth_limit}
 use Rattle.model.specs.Refusals.{reader_number}
 use Rattle.model.specs.Block.{Block, Op, Output, and, or}

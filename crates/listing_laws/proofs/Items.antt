@@ -1,4 +1,5 @@
 -- The tokens of a listing, without their places: what stands between its text and the block that it reads to.
+use Rattle.std.specs.Prelude.{if◌then◌else◌}
 use mathlib.Core.List.{List, [], ◌∷◌, ◌++◌, map}
 use mathlib.Core.Option.{Option, none, some}
 use Prim.Native.Nat.{ℕ, ◌+◌}
@@ -6,7 +7,7 @@ use Prim.Native.String.{String}
 use lib.Dec.{ltb, eqb}
 use lib.IntN.{ℤ}
 use lib.ListN.{get_or}
-use Rattle.model.specs.Basic.{if◌then◌else◌, bytes, gather}
+use Rattle.model.specs.Basic.{bytes, gather}
 use Rattle.model.specs.Bounds.{M}
 use Rattle.model.specs.Keywords
 use Rattle.model.specs.Tokens.{Token}

@@ -1,4 +1,5 @@
 -- A block with the longest listing: 31,421 bytes, the bound of `listing_short`.
+use Rattle.std.specs.Prelude.{if◌then◌else◌}
 use mathlib.Core.Path.{◌≡◌, refl}
 use mathlib.Core.List.{List, [], ◌∷◌, ◌++◌}
 use mathlib.Core.Bool.{true}
@@ -8,7 +9,7 @@ use lib.Dec.{ltb}
 use lib.IntN.{ℤ, negsuc}
 use lib.ListN.{length}
 use Rattle.model.specs.Bounds.{listing_limit}
-use Rattle.model.specs.Basic.{if◌then◌else◌, bytes, tab}
+use Rattle.model.specs.Basic.{bytes, tab}
 use Rattle.model.specs.Block.{Term, Input, Output, and, Condition, term, two, Rule, Block, block_of}
 use Rattle.model.specs.declared.InputType.TheVariants.{Real as real}
 use Rattle.model.specs.declared.Pair.TheVariants.{ProdAsum as prod-asum}

@@ -1,4 +1,5 @@
 -- Parentheses stand only where the tree needs them: an operand that the listing wraps, unwrapped, reads to another tree.
+use Rattle.std.specs.Prelude.{if◌then◌else◌}
 use mathlib.Core.Path.{◌≡◌, refl, sym, ap, ◌∙◌, subst}
 use mathlib.Core.Bool.{Bool, true, false}
 use mathlib.Core.List.{List, [], ◌∷◌, ◌++◌, append_assoc, append-nil}
@@ -7,7 +8,7 @@ use native.Mathlib.Omega.{arith}
 use borrow.Author.Tests.{ltb-true}
 use lib.Dec.{ltb, eqb}
 use lib.ListN.{length}
-use Rattle.model.specs.Basic.{if◌then◌else◌, bytes}
+use Rattle.model.specs.Basic.{bytes}
 use Rattle.model.specs.Bounds.{word_limit, depth_limit}
 use Rattle.model.specs.Keywords.{AND, OR, NOT, OPEN}
 use Rattle.model.specs.Tokens.{Token, tokens}

@@ -1,4 +1,5 @@
 -- Names and numbers in front of a text, cut off as tokens; places are left out.
+use Rattle.std.specs.Prelude.{if◌then◌else◌}
 use mathlib.Core.Path.{◌≡◌, refl, ap}
 use mathlib.Core.List.{List, [], ◌∷◌, ◌++◌, map, append-nil, append_assoc}
 use mathlib.Core.Bool.{Bool, true, false, ◌&&◌, ◌||◌}
@@ -9,7 +10,7 @@ use lib.IntN.{ℤ, pos, negsuc}
 use lib.ListN.{length, take, length-append}
 use lib.Seq.{take-append_seam, drop-append_seam}
 use borrow.Author.Tests.{leb-true, leb-false, not-true, lt-leb, ne_eqb}
-use Rattle.model.specs.Basic.{if◌then◌else◌, all, run}
+use Rattle.model.specs.Basic.{all, run}
 use Rattle.model.specs.Bounds.{name_limit}
 use Rattle.model.specs.Keywords.{END, NAME, NUMBER, BLANK, OPEN, keyword_at, is_keyword}
 use Rattle.model.specs.Tokens.{is_blank, is_digit, starts_name, is_name_byte, starts, tidy, is_name, Piece, piece, word_kind, point_part, number_part, word_piece, piece_at, placed, scan}

@@ -1,4 +1,5 @@
 -- The items of a condition read back to the condition, with its words counted.
+use Rattle.std.specs.Prelude.{if◌then◌else◌}
 use mathlib.Core.Path.{◌≡◌, refl, sym, ap, ◌∙◌}
 use mathlib.Core.Bool.{Bool, true, false}
 use mathlib.Core.List.{List, [], ◌∷◌, ◌++◌, append_assoc}
@@ -7,7 +8,6 @@ use native.Mathlib.Omega.{arith}
 use borrow.Author.Tests.{eq-eqb, lt-ltb, ltb-true}
 use lib.Dec.{leb, ltb, eqb}
 use lib.ListN.{length, length-append}
-use Rattle.model.specs.Basic.{if◌then◌else◌}
 use Rattle.model.specs.Bounds.{name_limit, word_limit, depth_limit}
 use Rattle.model.specs.Keywords.{AND, OR, NOT, IS, CLOSE}
 use Rattle.model.specs.Block.{Block, Op, and, or, Condition, term, neg, two, size, input_first}

@@ -1,4 +1,5 @@
 -- The items of a rule block read back to its rules.
+use Rattle.std.specs.Prelude.{if◌then◌else◌}
 use mathlib.Core.Path.{◌≡◌, refl, sym, ap, ◌∙◌}
 use mathlib.Core.Bool.{Bool, true, false, not}
 use mathlib.Core.List.{List, [], ◌∷◌, ◌++◌, map, append_assoc, map-append}
@@ -7,7 +8,7 @@ use native.Mathlib.Omega.{arith}
 use borrow.Author.Tests.{lt-ltb, eqb-true}
 use lib.Dec.{eqb}
 use lib.ListN.{length, length-append, get_or}
-use Rattle.model.specs.Basic.{if◌then◌else◌, all, total, gather, distinct}
+use Rattle.model.specs.Basic.{all, total, gather, distinct}
 use Rattle.model.specs.Bounds.{M, rule_limit, conclusion_limit}
 use Rattle.model.specs.Keywords.{AND, OR, COLON, SEMICOLON, COMMA, RULE, IF, IS, THEN, ACCU, RULEBLOCK, END_RULEBLOCK}
 use Rattle.model.specs.Tokens.{decimal}

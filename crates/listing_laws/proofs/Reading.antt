@@ -1,4 +1,5 @@
 -- The reader's rules over items: a state shows the items that are left, and each step says what it does to it.
+use Rattle.std.specs.Prelude.{if◌then◌else◌}
 use mathlib.Core.Path.{◌≡◌, refl, sym, ap, ◌∙◌}
 use mathlib.Core.Bool.{true, false}
 use mathlib.Core.List.{List, [], ◌∷◌, ◌++◌, map, append-nil, append_assoc}
@@ -8,7 +9,7 @@ use borrow.Author.Tests.{eq-eqb, ne_eqb}
 use lib.Dec.{leb, eqb}
 use lib.ListN.{length, length-append, length-map}
 use lib.Seq.{append_snoc}
-use Rattle.model.specs.Basic.{if◌then◌else◌, gather}
+use Rattle.model.specs.Basic.{gather}
 use Rattle.model.specs.Bounds.{name_limit}
 use Rattle.model.specs.Keywords
 use Rattle.model.specs.Tokens.{Token, token}

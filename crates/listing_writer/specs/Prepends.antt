@@ -1,7 +1,6 @@
 -- A helper: a text written from the end of a buffer to its front. `listing_writer/proofs/Prepends.stands` ties it to the
 -- text: where there is room, the buffer ends with it.
-use Rattle.std.specs.Prelude.{◌≡◌, List, [], ◌∷◌, ℕ, suc, ◌-◌, ltb, length, set}
-use Rattle.model.specs.Basic.{if◌then◌else◌}
+use Rattle.std.specs.Prelude.{◌≡◌, List, [], ◌∷◌, ℕ, suc, ◌-◌, ltb, length, set, if◌then◌else◌}
 
 -- the greatest number of bytes that is counted
 abbrev pub top : ℕ

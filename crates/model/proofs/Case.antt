@@ -1,5 +1,6 @@
 -- Names and keywords without case: the bytes that have one, words that are alike, keywords, and a text with names and
 -- keywords in any case.
+use Rattle.std.specs.Prelude.{if◌then◌else◌}
 use mathlib.Core.Bool.{true, false}
 use mathlib.Core.List.{List, [], ◌∷◌, ◌++◌, map}
 use mathlib.Core.Option.{none}
@@ -7,7 +8,7 @@ use mathlib.Core.Path.{◌≡◌, refl}
 use Prim.Native.Nat.{ℕ, ◌+◌}
 use Prim.Native.String.{String}
 use lib.IntN.{pos}
-use Rattle.model.specs.Basic.{if◌then◌else◌, bytes, between, capital, capitals}
+use Rattle.model.specs.Basic.{bytes, between, capital, capitals}
 use Rattle.model.specs.Keywords
 use Rattle.model.specs.Keywords.{keywords, NAME}
 use Rattle.model.specs.Tokens.{same_name, is_name, word_kind}

@@ -1,11 +1,12 @@
 -- Words, names, numbers and tokens: every byte by its class, the keywords, and texts with their tokens.
+use Rattle.std.specs.Prelude.{if◌then◌else◌}
 use mathlib.Core.Bool.{Bool, true}
 use mathlib.Core.List.{List, [], ◌∷◌, ◌++◌, map}
 use mathlib.Core.Path.{◌≡◌, refl}
 use Prim.Native.Nat.{ℕ}
 use Prim.Native.String.{String}
 use lib.IntN.{pos, negsuc}
-use Rattle.model.specs.Basic.{if◌then◌else◌, bytes, gather}
+use Rattle.model.specs.Basic.{bytes, gather}
 use Rattle.model.specs.Keywords
 use Rattle.model.specs.Keywords.{keywords, END, WRONG, NAME, NUMBER, ASSIGN, DOTS, OPEN, CLOSE, COLON, SEMICOLON}
 use Rattle.model.specs.Tokens.{is_blank, is_digit, starts_name, is_name_byte, is_sign, is_mark, same_name, is_name, value_of, is_crisp, is_unit, unit_of, is_rule_number, word_kind, Token, token, tokens}

@@ -1,12 +1,7 @@
 -- The vocabulary of the other files: choice, bytes of a quoted text, and a few functions on lists.
-use Rattle.std.specs.Prelude.{Bool, true, false, ◌&&◌, not, List, [], ◌∷◌, ◌++◌, map, ℕ, zero, suc, ◌+◌, ◌-◌, leb, eqb}
+use Rattle.std.specs.Prelude.{Bool, true, false, ◌&&◌, not, List, [], ◌∷◌, ◌++◌, map, ℕ, zero, suc, ◌+◌, ◌-◌, leb, eqb, if◌then◌else◌}
 use Prim.Native.String.{String, [] as nil, ◌∷◌ as ◌::◌}
 use Prim.Native.Char.{code}
-
-infix 5 if◌then◌else◌
-abbrev pub if◌then◌else◌ : {A : Type 0} → Bool → A → A → A
-if true then a else b = a
-if false then a else b = b
 
 -- a value handed on to the next step
 infixl 10 ◌▸◌

@@ -1,8 +1,7 @@
 -- W-201 of document 02: a text that comes in chunks, what each call is answered and leaves, and the claim on every list of
 -- calls.
-use Rattle.std.specs.Prelude.{Bool, true, false, ◌&&◌, ◌||◌, not, List, [], ◌∷◌, ◌++◌, ◌≡◌, ℕ, suc, ◌+◌, ◌≤◌, ltb, leb, length, take, drop}
+use Rattle.std.specs.Prelude.{Bool, true, false, ◌&&◌, ◌||◌, not, List, [], ◌∷◌, ◌++◌, ◌≡◌, ℕ, suc, ◌+◌, ◌≤◌, ltb, leb, length, take, drop, if◌then◌else◌}
 use Rattle.std.proofs.Math.Option.{none, some}
-use Rattle.model.specs.Basic.{if◌then◌else◌}
 use Rattle.model.specs.Bounds.{text_limit}
 use Rattle.model.specs.Outcome.{Outcome, accepted, refused, verdict_in, length_in, buffer_after}
 use Rattle.model.specs.Refusals.{written_of, verdict_of}

@@ -1,8 +1,8 @@
 -- The reader's rules for VAR_INPUT, VAR_OUTPUT, FUZZIFY and DEFUZZIFY.
-use Rattle.std.specs.Prelude.{Bool, ◌||◌, not, List, [], ◌∷◌, ◌++◌, map, ℕ, leb, ltb, ℤ, length, take, drop}
+use Rattle.std.specs.Prelude.{Bool, ◌||◌, not, List, [], ◌∷◌, ◌++◌, map, ℕ, leb, ltb, ℤ, length, take, drop, if◌then◌else◌}
 use Rattle.std.proofs.Math.Option.{none}
 use Rattle.std.specs.Int.Signed.{lt_z}
-use Rattle.model.specs.Basic.{if◌then◌else◌, ◌▸◌, is_empty, index_of, update, update_last}
+use Rattle.model.specs.Basic.{◌▸◌, is_empty, index_of, update, update_last}
 use Rattle.model.specs.Bounds.{input_limit, output_limit, term_limit, point_least, point_limit}
 use Rattle.model.specs.Keywords.{ASSIGN, DOTS, OPEN, CLOSE, COMMA, COLON, SEMICOLON, CoGS, DEFAULT, DEFUZZIFY, END_DEFUZZIFY, END_FUZZIFY, FUZZIFY, METHOD, NC, RANGE, TERM, REAL, INT}
 use Rattle.model.specs.Tokens.{same_name, unit_of}

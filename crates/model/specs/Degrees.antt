@@ -1,7 +1,6 @@
 -- Degrees: nearest, the operators, the pairs, and the degree of a term and of a condition.
-use Rattle.std.specs.Prelude.{List, [], ◌∷◌, ℕ, ◌+◌, ◌*◌, ◌-◌, ◌/◌, min, max, ℤ, pos, nat_abs, ◌+ℤ◌, ◌-ℤ◌, ◌*ℤ◌, get_or}
+use Rattle.std.specs.Prelude.{List, [], ◌∷◌, ℕ, ◌+◌, ◌*◌, ◌-◌, ◌/◌, min, max, ℤ, pos, nat_abs, ◌+ℤ◌, ◌-ℤ◌, ◌*ℤ◌, get_or, if◌then◌else◌}
 use Rattle.std.specs.Int.Signed.{lt_z, shr_z}
-use Rattle.model.specs.Basic.{if◌then◌else◌}
 use Rattle.model.specs.Bounds.{M}
 use Rattle.model.specs.Block.{Point, Op, and, or, Condition, term, neg, two, Pair, min-max, prod-asum, bdif-bsum}
 

@@ -1,9 +1,9 @@
 -- Evaluation: rules, heights, the answer of each output; the held record; one call with its checks.
-use Rattle.std.specs.Prelude.{Bool, false, ◌&&◌, not, List, [], ◌∷◌, ◌++◌, map, ◌≡◌, ℕ, suc, ◌-◌, max, ltb, eqb, ℤ, pos, nat_abs, ◌+ℤ◌, ◌*ℤ◌, length, replicate}
+use Rattle.std.specs.Prelude.{Bool, false, ◌&&◌, not, List, [], ◌∷◌, ◌++◌, map, ◌≡◌, ℕ, suc, ◌-◌, max, ltb, eqb, ℤ, pos, nat_abs, ◌+ℤ◌, ◌*ℤ◌, length, replicate, if◌then◌else◌}
 use Rattle.std.proofs.Math.Option.{Option, none, some}
 use Rattle.std.specs.Float.{fin}
 use Rattle.std.specs.Int.Signed.{lt_z}
-use Rattle.model.specs.Basic.{if◌then◌else◌, all, total, gather, tab}
+use Rattle.model.specs.Basic.{all, total, gather, tab}
 use Rattle.model.specs.Bounds.{output_limit}
 use Rattle.model.specs.Tokens.{in_crisp}
 use Rattle.model.specs.Block.{Input, Range, Output, Rule, Accumulation, by-max, by-bsum, Block, output_first, in_range}

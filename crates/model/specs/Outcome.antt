@@ -1,7 +1,6 @@
 -- What every part of document 01 answers: a result, or a refusal's number and its place where it has one.
-use Rattle.std.specs.Prelude.{List, ◌++◌, ℕ, ltb, length, drop}
+use Rattle.std.specs.Prelude.{List, ◌++◌, ℕ, ltb, length, drop, if◌then◌else◌}
 use Rattle.std.proofs.Math.Option.{Option, some}
-use Rattle.model.specs.Basic.{if◌then◌else◌}
 
 pub data Outcome (A : Type 0) : Type 0 where
   accepted : A → Outcome A

@@ -1,6 +1,5 @@
 -- Which parentheses a condition needs: its forms in one order, from tight to loose, and which of them stand bare where.
-use Rattle.std.specs.Prelude.{ℕ, suc, max, ltb, eqb}
-use Rattle.model.specs.Basic.{if◌then◌else◌}
+use Rattle.std.specs.Prelude.{ℕ, suc, max, ltb, eqb, if◌then◌else◌}
 use Rattle.model.specs.Block.{Op, and, or, Condition, term, neg, two}
 
 -- THE FORMS: `x IS t`, `x IS NOT t`, a NOT in front, AND, OR

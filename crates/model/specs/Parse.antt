@@ -1,7 +1,7 @@
 -- How far a text is read, and the steps that every part of the reader's rules is made of.
 -- A refusal drops the tokens that are left, so no later step finds what it asks for.
-use Rattle.std.specs.Prelude.{Bool, true, false, List, [], ◌∷◌, ℕ, zero, suc, leb, eqb, ℤ, length}
-use Rattle.model.specs.Basic.{if◌then◌else◌, ◌▸◌}
+use Rattle.std.specs.Prelude.{Bool, true, false, List, [], ◌∷◌, ℕ, zero, suc, leb, eqb, ℤ, length, if◌then◌else◌}
+use Rattle.model.specs.Basic.{◌▸◌}
 use Rattle.model.specs.Bounds.{name_limit}
 use Rattle.model.specs.Keywords.{END, NAME, NUMBER, COMMA}
 use Rattle.model.specs.Tokens.{is_crisp, is_unit, value_of, Token, token}

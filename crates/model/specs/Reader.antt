@@ -1,7 +1,7 @@
 -- What a text reads to: a block, or the number and place of its first refusal.
-use Rattle.std.specs.Prelude.{Bool, ◌&&◌, not, List, [], ◌∷◌, ℕ, ltb, eqb, length}
+use Rattle.std.specs.Prelude.{Bool, ◌&&◌, not, List, [], ◌∷◌, ℕ, ltb, eqb, length, if◌then◌else◌}
 use Rattle.std.proofs.Math.Option.{some}
-use Rattle.model.specs.Basic.{if◌then◌else◌, ◌▸◌, is_empty, all}
+use Rattle.model.specs.Basic.{◌▸◌, is_empty, all}
 use Rattle.model.specs.Bounds.{text_limit}
 use Rattle.model.specs.Outcome.{Outcome, accepted, refused}
 use Rattle.model.specs.Keywords.{END, NAME, DEFUZZIFY, END_FUNCTION_BLOCK, END_VAR, FUNCTION_BLOCK, FUZZIFY, VAR_INPUT, VAR_OUTPUT}

@@ -1,10 +1,9 @@
 -- Readings: what a REAL, an INT or no reading at all is as a crisp value; and a crisp value as a 64-bit float.
-use Rattle.std.specs.Prelude.{Bool, ℕ, ◌*◌, Float, ℤ, pos, neg_ℤ, ◌*ℤ◌}
+use Rattle.std.specs.Prelude.{Bool, ℕ, ◌*◌, Float, ℤ, pos, neg_ℤ, ◌*ℤ◌, if◌then◌else◌}
 use Rattle.std.proofs.Math.Option.{Option, none, some}
 use Rattle.std.specs.Float.{nan, inf, fin, binary64}
 use Rattle.std.specs.Float.Ieee.{up, down, of_int, div}
 use Rattle.std.specs.Int.Signed.{lt_z}
-use Rattle.model.specs.Basic.{if◌then◌else◌}
 use Rattle.model.specs.Bounds.{crisp_limit}
 use Rattle.model.specs.Block.{InputType, real, int}
 use Rattle.model.specs.Degrees.{nearestℤ}

@@ -1,7 +1,7 @@
 -- The reader's rules for conditions and RULEBLOCK.
-use Rattle.std.specs.Prelude.{Bool, true, false, ◌||◌, not, [], ◌∷◌, ◌++◌, ℕ, zero, suc, ◌+◌, ltb, eqb, length}
+use Rattle.std.specs.Prelude.{Bool, true, false, ◌||◌, not, [], ◌∷◌, ◌++◌, ℕ, zero, suc, ◌+◌, ltb, eqb, length, if◌then◌else◌}
 use Rattle.std.proofs.Math.Option.{Option, none, some}
-use Rattle.model.specs.Basic.{if◌then◌else◌, ◌▸◌, all, update_last}
+use Rattle.model.specs.Basic.{◌▸◌, all, update_last}
 use Rattle.model.specs.Bounds.{M, rule_limit, word_limit, conclusion_limit, depth_limit}
 use Rattle.model.specs.Keywords.{NUMBER, OPEN, CLOSE, COLON, SEMICOLON, ACCU, ACT, AND, ASUM, BDIF, BSUM, END_RULEBLOCK, IF, IS, MAX, MIN, NOT, OR, PROD, RULE, RULEBLOCK, THEN, WITH}
 use Rattle.model.specs.Tokens.{decimal, unit_of, is_rule_number}

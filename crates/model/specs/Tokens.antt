@@ -1,8 +1,8 @@
 -- Text: blanks, comments, names, numbers, and the tokens of a text, each with its place, the longest possible.
-use Rattle.std.specs.Prelude.{Bool, true, false, ◌&&◌, ◌||◌, not, List, [], ◌∷◌, ◌++◌, ℕ, zero, suc, ◌+◌, ◌*◌, ◌-◌, leb, eqb, ℤ, pos, neg_ℤ, nat_abs, length, take, drop}
+use Rattle.std.specs.Prelude.{Bool, true, false, ◌&&◌, ◌||◌, not, List, [], ◌∷◌, ◌++◌, ℕ, zero, suc, ◌+◌, ◌*◌, ◌-◌, leb, eqb, ℤ, pos, neg_ℤ, nat_abs, length, take, drop, if◌then◌else◌}
 use Rattle.std.proofs.Math.Option.{Option, none, some}
 use Rattle.std.specs.Int.Signed.{le_z}
-use Rattle.model.specs.Basic.{if◌then◌else◌, bytes, between, all, run, alike}
+use Rattle.model.specs.Basic.{bytes, between, all, run, alike}
 use Rattle.model.specs.Bounds.{crisp_limit, name_limit, digit_limit, fraction_limit, rule_number_least, rule_number_limit}
 use Rattle.model.specs.Keywords.{keyword_at, is_keyword, END, WRONG, NAME, NUMBER, ASSIGN, DOTS, BLANK, OPEN, CLOSE, COMMA, COLON, SEMICOLON}
 

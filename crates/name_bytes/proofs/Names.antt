@@ -1,4 +1,5 @@
 -- What makes bytes a name.
+use Rattle.std.specs.Prelude.{if◌then◌else◌}
 use mathlib.Core.Path.{◌≡◌, refl, sym, ap, ◌∙◌}
 use mathlib.Core.List.{List, [], ◌∷◌}
 use mathlib.Core.Bool.{Bool, true, false, ◌&&◌, ◌||◌, not, and-true, or-false}
@@ -8,7 +9,7 @@ use borrow.Author.Tests.{ne_eqb, eqb-true, eqb-false, leb-true, le-leb, lt-leb, 
 use lib.Dec.{leb, ltb, eqb}
 use lib.ListN.{length, take, get_or}
 use lib.Seq.{length-take-le}
-use Rattle.model.specs.Basic.{if◌then◌else◌, every, all, run}
+use Rattle.model.specs.Basic.{every, all, run}
 use Rattle.model.specs.Bounds.{name_limit}
 use Rattle.model.specs.Keywords.{keyword_at, is_keyword}
 use Rattle.model.specs.Tokens.{is_digit, starts_name, is_name_byte, starts, tidy, is_name}

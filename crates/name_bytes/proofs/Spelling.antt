@@ -1,4 +1,5 @@
 -- The bytes of a name, read once: where they end, and whether they are tidy.
+use Rattle.std.specs.Prelude.{if◌then◌else◌}
 use mathlib.Core.Path.{◌≡◌, refl, sym, ap, ◌∙◌}
 use mathlib.Core.List.{List, [], ◌∷◌}
 use mathlib.Core.Bool.{Bool, true, false, ◌||◌, not}
@@ -8,7 +9,7 @@ use native.Mathlib.Omega.{arith}
 use borrow.Author.Tests.{eqb-true}
 use lib.ListN.{length, take, drop, get_or, drop_of_length-le}
 use lib.Seq.{drop-cons}
-use Rattle.model.specs.Basic.{if◌then◌else◌, between, run}
+use Rattle.model.specs.Basic.{between, run}
 use Rattle.model.specs.Tokens.{is_digit, is_underscore, is_name_byte, tidy}
 use Rattle.laws.proofs.Tests.{clash}
 use Rattle.characters.proofs.Laws.{tidy_cons, run_in, run_out}

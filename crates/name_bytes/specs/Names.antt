@@ -1,7 +1,7 @@
 -- A helper: the name that bytes start with, in model's own definitions, and its bytes read once; `tidy_ends` of
 -- proofs/Spelling ties that to model's `run` and `tidy`.
-use Rattle.std.specs.Prelude.{Bool, not, List, [], ◌∷◌, ℕ, suc, take}
-use Rattle.model.specs.Basic.{if◌then◌else◌, run}
+use Rattle.std.specs.Prelude.{Bool, not, List, [], ◌∷◌, ℕ, suc, take, if◌then◌else◌}
+use Rattle.model.specs.Basic.{run}
 use Rattle.model.specs.Tokens.{is_underscore, is_name_byte, is_name}
 
 -- how many bytes the name has that s starts with; 0 where its name bytes are no name

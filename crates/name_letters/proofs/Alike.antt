@@ -1,4 +1,5 @@
 -- Two names by their words without case: bytes without bit 5 tell the bytes of names apart as their capitals do.
+use Rattle.std.specs.Prelude.{if◌then◌else◌}
 use mathlib.Core.Path.{◌≡◌, refl, sym, ap, ◌∙◌, subst}
 use mathlib.Core.List.{List, [], ◌∷◌, map}
 use mathlib.Core.Bool.{Bool, true, false, ◌||◌, not, and-false}
@@ -9,7 +10,7 @@ use borrow.Author.Tests.{ne_eqb, eqb-true, lt-leb, ltb-true, ltb-false}
 use lib.Dec.{leb, ltb, eqb}
 use lib.ListN.{length, get_or}
 use lib.Seq.{ext_get_or}
-use Rattle.model.specs.Basic.{if◌then◌else◌, between, all, run, gather, capital, capitals, same, tab}
+use Rattle.model.specs.Basic.{between, all, run, gather, capital, capitals, same, tab}
 use Rattle.model.specs.Tokens.{starts_name, is_name_byte, starts, is_name, same_name}
 use Rattle.model.specs.Image.{bytes_of, name_at}
 use Rattle.laws.proofs.Tests.{iff, both, and_i, clash}

@@ -1,4 +1,5 @@
 -- What a number at the cursor is judged by.
+use Rattle.std.specs.Prelude.{if◌then◌else◌}
 use mathlib.Core.Path.{◌≡◌, refl, sym, ap, ◌∙◌}
 use mathlib.Core.Bool.{Bool, true, false, ◌&&◌}
 use mathlib.Core.List.{List, [], ◌∷◌}
@@ -8,7 +9,7 @@ use borrow.Author.Tests.{eq-eqb, ne_eqb, leb-true}
 use lib.Dec.{eqb, leb}
 use lib.IntN.{ℤ, pos}
 use lib.ListN.{length, take, drop}
-use Rattle.model.specs.Basic.{if◌then◌else◌, all}
+use Rattle.model.specs.Basic.{all}
 use Rattle.model.specs.Block.{Block}
 use Rattle.model.specs.Keywords.{NUMBER}
 use Rattle.model.specs.Parse.{is, text, a_crisp, a_unit}

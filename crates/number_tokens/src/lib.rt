@@ -1,6 +1,5 @@
 // The number at the cursor: a crisp value, a degree or weight, a rule number; or by which refusal it is none.
-ghost use Rattle.std.specs.Prelude.{◌≡◌, [], ◌∷◌, ℕ, eqb, pos};
-ghost use Rattle.model.specs.Basic.{if◌then◌else◌};
+ghost use Rattle.std.specs.Prelude.{◌≡◌, [], ◌∷◌, ℕ, eqb, pos, if◌then◌else◌};
 ghost use Rattle.model.specs.Block.{Block};
 ghost use Rattle.model.specs.Keywords.{NUMBER};
 ghost use Rattle.model.specs.Tokens.{value_of, unit_of, decimal, is_rule_number};

@@ -1,4 +1,5 @@
 -- Which texts are crisp values, degrees and weights, and rule numbers, by their digits and their sign.
+use Rattle.std.specs.Prelude.{if◌then◌else◌}
 use mathlib.Core.Path.{◌≡◌, refl, sym}
 use mathlib.Core.List.{List, [], ◌∷◌}
 use mathlib.Core.Bool.{Bool, true, false, ◌&&◌, and-false}
@@ -12,7 +13,7 @@ use lib.ListN.{length}
 use mir.Syntax.{w32}
 use mir.Val.{SFits, to_z}
 use mir.ValLaws.{to_z_pos}
-use Rattle.model.specs.Basic.{if◌then◌else◌, all, run, between}
+use Rattle.model.specs.Basic.{all, run, between}
 use Rattle.model.specs.Bounds.{crisp_limit, rule_number_limit}
 use Rattle.model.specs.Tokens.{is_digit, starts, decimal, magnitude, value_of, digits_fit, is_crisp, is_unit, unit_of, is_rule_number}
 use Rattle.laws.proofs.Signed as laws-signed

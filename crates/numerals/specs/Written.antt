@@ -1,7 +1,7 @@
 -- A helper: what a number's text stands for where it is one; 0 where it is none. Each is a value of the model's
 -- `Tokens` behind the model's own test.
-use Rattle.std.specs.Prelude.{List, ◌++◌, ℕ, eqb, take, ℤ, pos}
-use Rattle.model.specs.Basic.{bytes, if◌then◌else◌}
+use Rattle.std.specs.Prelude.{List, ◌++◌, ℕ, eqb, take, ℤ, pos, if◌then◌else◌}
+use Rattle.model.specs.Basic.{bytes}
 use Rattle.model.specs.Tokens.{starts, decimal, magnitude, value_of, digits_fit, is_crisp, is_unit, unit_of, is_rule_number}
 
 -- digits behind a point, at most 3 of them

@@ -1,4 +1,5 @@
 -- A condition that was read: its terms are there, it needs no more parentheses than were allowed, and each word of it was counted.
+use Rattle.std.specs.Prelude.{if◌then◌else◌}
 use mathlib.Core.Path.{◌≡◌, refl, sym, ap, ◌∙◌, subst}
 use mathlib.Core.Bool.{Bool, true, false}
 use Prim.Native.Nat.{ℕ, zero, suc, ◌+◌, ◌≤◌}
@@ -6,7 +7,6 @@ use native.Mathlib.Omega.{arith}
 use borrow.Author.Tests.{ltb-true, ltb-false, lt-ltb}
 use lib.Dec.{ltb, eqb}
 use lib.ListN.{length}
-use Rattle.model.specs.Basic.{if◌then◌else◌}
 use Rattle.model.specs.Bounds.{word_limit, depth_limit}
 use Rattle.model.specs.Block.{Block, Op, and, or, Condition, term, neg, two, size, input_terms, input_first, terms_of}
 use Rattle.model.specs.Parentheses.{form, depth, opened, negated_form, rank, bare_left, bare_right, bare_behind_not, NOT_TERM_FORM, NOT_FORM, OR_FORM}

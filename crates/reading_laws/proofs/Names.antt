@@ -1,4 +1,5 @@
 -- Every token of kind NAME is spelt as a name has to be: of its rules only that on its length is left.
+use Rattle.std.specs.Prelude.{if◌then◌else◌}
 use mathlib.Core.Path.{◌≡◌, refl, sym, ap, ◌∙◌}
 use mathlib.Core.Bool.{Bool, true, false, ◌&&◌, not}
 use mathlib.Core.List.{List, [], ◌∷◌}
@@ -7,7 +8,7 @@ use Prim.Native.Nat.{ℕ, zero, suc}
 use native.Mathlib.Omega.{arith}
 use lib.Dec.{leb, eqb}
 use lib.ListN.{length, take, drop}
-use Rattle.model.specs.Basic.{if◌then◌else◌, all, run}
+use Rattle.model.specs.Basic.{all, run}
 use Rattle.model.specs.Bounds.{name_limit}
 use Rattle.model.specs.Keywords.{is_keyword, NAME, BLANK}
 use Rattle.model.specs.Tokens.{is_blank, is_digit, starts_name, is_name_byte, is_sign, is_mark, starts, tidy, is_name, Token, token, Piece, word_kind, comment_part, comment_piece, word_piece, piece_at, scan, tokens}

@@ -1,4 +1,5 @@
 -- What the checks of a number say of its value.
+use Rattle.std.specs.Prelude.{if◌then◌else◌}
 use mathlib.Core.Path.{◌≡◌, refl}
 use mathlib.Core.Bool.{Bool, true, false, ◌&&◌}
 use mathlib.Core.List.{List, [], ◌∷◌, ◌++◌, append-nil, append_assoc}
@@ -9,7 +10,7 @@ use lib.Dec.{leb, eqb}
 use lib.IntN.{ℤ, pos, neg_ℤ}
 use lib.ListN.{length}
 use lib.Signed.{le_z}
-use Rattle.model.specs.Basic.{if◌then◌else◌, between, all}
+use Rattle.model.specs.Basic.{between, all}
 use Rattle.model.specs.Bounds.{M, digit_limit, rule_number_least, rule_number_limit}
 use Rattle.model.specs.Tokens.{is_digit, starts, decimal, magnitude, value_of, digits_fit, in_crisp, is_crisp, is_unit, unit_of, is_rule_number}
 use Rattle.model.specs.Block.{may_follow}

@@ -1,4 +1,5 @@
 -- What a text reads to is well formed.
+use Rattle.std.specs.Prelude.{if◌then◌else◌}
 use mathlib.Core.Path.{◌≡◌, refl, sym, ap, ◌∙◌, subst}
 use mathlib.Core.Bool.{Bool, true, false, not}
 use mathlib.Core.List.{List, [], ◌∷◌}
@@ -8,7 +9,7 @@ use native.Mathlib.Omega.{arith}
 use borrow.Author.Tests.{eqb-true, le-leb}
 use lib.Dec.{ltb, eqb}
 use lib.ListN.{length}
-use Rattle.model.specs.Basic.{if◌then◌else◌, between, is_empty, all, total, distinct}
+use Rattle.model.specs.Basic.{between, is_empty, all, total, distinct}
 use Rattle.model.specs.Bounds.{text_limit, term_limit, input_limit, output_limit, rule_limit, word_limit, conclusion_limit}
 use Rattle.model.specs.Outcome.{accepted, refused}
 use Rattle.model.specs.Keywords.{END, NAME, DEFUZZIFY, END_VAR, FUNCTION_BLOCK, FUZZIFY, VAR_INPUT, VAR_OUTPUT}

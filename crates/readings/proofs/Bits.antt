@@ -1,4 +1,5 @@
 -- What `real_of` gives of a float, from the fields of its bits.
+use Rattle.std.specs.Prelude.{if◌then◌else◌}
 use mathlib.Core.Path.{◌≡◌, refl, sym, ap, ◌∙◌, subst}
 use mathlib.Core.Bool.{Bool, true, false, not, cond}
 use Prim.Native.Nat.{ℕ, zero, suc, ◌+◌, ◌*◌, ◌-◌, ◌/◌, ◌%◌, ◌^◌, ◌<◌, min}
@@ -14,7 +15,6 @@ use lib.Ieee.Compare.{differs_from_itself}
 use lib.Ieee.Fits.{down_pos}
 use borrow.Author.Tests.{ne_eqb}
 use Rattle.model.specs.Bounds.{crisp_limit}
-use Rattle.model.specs.Basic.{if◌then◌else◌}
 use Rattle.model.specs.Degrees.{nearestℤ}
 use Rattle.model.specs.Readings.{clamped, real_of}
 use Rattle.model.specs.declared.Taken.{Taken}

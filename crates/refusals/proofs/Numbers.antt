@@ -1,10 +1,10 @@
 -- Whatever the text, the reader refuses by one of its numbers: the steps of reading keep to them, and so does every part.
+use Rattle.std.specs.Prelude.{if◌then◌else◌}
 use mathlib.Core.Path.{◌≡◌, refl}
 use mathlib.Core.Bool.{Bool, true, false}
 use mathlib.Core.List.{List}
 use Prim.Native.Nat.{ℕ}
 use lib.Dec.{ltb, eqb}
-use Rattle.model.specs.Basic.{if◌then◌else◌}
 use Rattle.model.specs.Bounds.{word_limit}
 use Rattle.model.specs.Block.{Block}
 use Rattle.model.specs.Refusals.{number_and_place, reader_number}

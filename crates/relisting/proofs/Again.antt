@@ -1,4 +1,5 @@
 -- An accepted image, listed and read again, is that image; and what the two functions' answers come to together.
+use Rattle.std.specs.Prelude.{if◌then◌else◌}
 use mathlib.Core.Path.{◌≡◌, refl, sym, ap, ◌∙◌}
 use mathlib.Core.Bool.{Bool, true, false}
 use mathlib.Core.List.{List, ◌++◌}
@@ -9,7 +10,6 @@ use borrow.Author.Tests.{lt-ltb, le-ltb}
 use lib.Dec.{ltb}
 use lib.ListN.{length, take, drop, length-append}
 use lib.Seq.{take-append_seam}
-use Rattle.model.specs.Basic.{if◌then◌else◌}
 use Rattle.model.specs.Block.{Block}
 use Rattle.model.specs.Image.{word_at, image, decode, is_image_of, loads}
 use Rattle.model.specs.Listing.{listing}

@@ -1,7 +1,6 @@
 -- A helper: an image listed and read again. `relisting/proofs/Again.reads-again` ties it to the reader's rules.
-use Rattle.std.specs.Prelude.{List, ◌++◌, ℕ, ltb, length, drop}
+use Rattle.std.specs.Prelude.{List, ◌++◌, ℕ, ltb, length, drop, if◌then◌else◌}
 use Rattle.std.proofs.Math.Option.{none, some}
-use Rattle.model.specs.Basic.{if◌then◌else◌}
 use Rattle.model.specs.Block.{Block}
 use Rattle.model.specs.Image.{loads}
 use Rattle.model.specs.Listing.{listing}

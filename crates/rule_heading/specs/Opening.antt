@@ -1,9 +1,9 @@
 -- A helper: what a rule block begins with, as the rules read it and as it is kept. `parts` of reader/proofs/Laws ties
 -- `opening` to the model's `rule_block`.
-use Rattle.std.specs.Prelude.{◌≡◌, List, [], ℕ, ◌≤◌, eqb}
+use Rattle.std.specs.Prelude.{◌≡◌, List, [], ℕ, ◌≤◌, eqb, if◌then◌else◌}
 use Rattle.std.proofs.Math.Option.{Option, none, some}
 use Rattle.std.proofs.Math.Seq.{slice}
-use Rattle.model.specs.Basic.{if◌then◌else◌, ◌▸◌}
+use Rattle.model.specs.Basic.{◌▸◌}
 use Rattle.model.specs.Block.{Block, with_rule_block}
 use Rattle.model.specs.declared.Pair.{Pair}
 use Rattle.model.specs.declared.Pair.TheVariants.{MinMax as min-max}

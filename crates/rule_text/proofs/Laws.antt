@@ -1,4 +1,5 @@
 -- The laws of reading rules.
+use Rattle.std.specs.Prelude.{if◌then◌else◌}
 use mathlib.Core.Path.{◌≡◌, refl, sym, ap, ◌∙◌, subst}
 use mathlib.Core.Bool.{Bool, true, false, ◌&&◌, not}
 use mathlib.Core.List.{List, [], ◌∷◌, ◌++◌, append_assoc, append-nil}
@@ -8,7 +9,7 @@ use borrow.Author.Tests.{eq-eqb, ne_eqb, lt-ltb, le-ltb}
 use lib.Dec.{ltb, eqb}
 use lib.ListN.{length, drop, get_or, set, length-append, drop_of_length-le}
 use lib.Seq.{get_or-take, drop-cons, sets, length-sets}
-use Rattle.model.specs.Basic.{if◌then◌else◌, all, gather}
+use Rattle.model.specs.Basic.{all, gather}
 use Rattle.model.specs.Block.{Block, Rule, Condition, Conclusion, size, term, input_first, output_first, terms_of, singletons_of, conclusions, with_conclusion, with_weight}
 use Rattle.model.specs.Bounds.{M, rule_limit, conclusion_limit, depth_limit, input_limit, variable_limit, term_limit}
 use Rattle.model.specs.Image.{postfix, conclusion_words}

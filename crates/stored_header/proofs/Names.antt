@@ -1,4 +1,5 @@
 -- A name's words are those of its bytes before the first zero exactly when no other byte follows it.
+use Rattle.std.specs.Prelude.{if◌then◌else◌}
 use mathlib.Core.Path.{◌≡◌, refl, sym, ap, ◌∙◌}
 use mathlib.Core.List.{List, [], ◌∷◌}
 use mathlib.Core.Bool.{Bool, true, false}
@@ -7,7 +8,7 @@ use native.Mathlib.Omega.{arith}
 use lib.Dec.{leb, ltb, eqb}
 use lib.ListN.{length, get_or}
 use borrow.Author.Tests.{eq-eqb, ne_eqb, eqb-true, ltb-true, ltb-false}
-use Rattle.model.specs.Basic.{if◌then◌else◌, run, gather, tab}
+use Rattle.model.specs.Basic.{run, gather, tab}
 use Rattle.model.specs.Image.{word_at, word_bytes, bytes_of, name_words, name_at}
 use Rattle.laws.proofs.Tests.{iff, clash}
 use Rattle.words.proofs.Bytes.{words_at}

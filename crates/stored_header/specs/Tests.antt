@@ -1,7 +1,6 @@
 -- A helper: what is tested of a name and of the header. `name_tests` of proofs/Names ties the one to `name_exact`,
 -- `header_spelt` of proofs/Lists the other to `header_ok`.
-use Rattle.std.specs.Prelude.{Bool, List, [], ◌∷◌, ℕ, ◌+◌, ◌*◌, leb, eqb}
-use Rattle.model.specs.Basic.{if◌then◌else◌}
+use Rattle.std.specs.Prelude.{Bool, List, [], ◌∷◌, ℕ, ◌+◌, ◌*◌, leb, eqb, if◌then◌else◌}
 use Rattle.model.specs.Image.{layout_word, input_width, output_width, term_width, point_width, rule_width, word_width, conclusion_width, header_size, LAYOUT, TOTAL, PAIR_WORD, ACCU_WORD, ACT_WORD, SPARE, BLOCK_NAME, RULE_BLOCK_NAME}
 use Rattle.header.specs.declared.Header.{Header}
 use Rattle.layout.specs.Tables.{name_exact}

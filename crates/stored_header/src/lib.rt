@@ -1,6 +1,6 @@
 // The header of a stored image, and its names: whether they are laid out as a block's.
-ghost use Rattle.std.specs.Prelude.{◌≡◌, ◌+◌, ◌*◌, ◌≤◌, ltb, eqb, length};
-ghost use Rattle.model.specs.Basic.{if◌then◌else◌, every};
+ghost use Rattle.std.specs.Prelude.{◌≡◌, ◌+◌, ◌*◌, ◌≤◌, ltb, eqb, length, if◌then◌else◌};
+ghost use Rattle.model.specs.Basic.{every};
 ghost use Rattle.model.specs.Image.{word_at, word_bytes, header_size};
 ghost use Rattle.layout.specs.Tables.{name_exact, header_ok};
 ghost use Rattle.header.specs.Header.{Heads};

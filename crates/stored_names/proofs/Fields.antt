@@ -1,4 +1,5 @@
 -- The bytes of a field before the first zero, and the name that the field starts with.
+use Rattle.std.specs.Prelude.{if◌then◌else◌}
 use mathlib.Core.Path.{◌≡◌, refl, sym, ap, ◌∙◌}
 use mathlib.Core.List.{List, [], ◌∷◌}
 use mathlib.Core.Bool.{Bool, true, false, ◌&&◌, not}
@@ -7,7 +8,7 @@ use native.Mathlib.Omega.{arith}
 use borrow.Author.Tests.{eqb-true, eqb-false, eq-eqb, ltb-true, ltb-false}
 use lib.Dec.{ltb, eqb}
 use lib.ListN.{take, get_or}
-use Rattle.model.specs.Basic.{if◌then◌else◌, all, run}
+use Rattle.model.specs.Basic.{all, run}
 use Rattle.model.specs.Tokens.{starts_name, is_name_byte, starts, is_name}
 use Rattle.laws.proofs.Tests.{clash}
 use Rattle.characters.proofs.Laws.{run_in, run_out}

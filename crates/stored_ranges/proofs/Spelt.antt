@@ -1,4 +1,5 @@
 -- The tests of a stored RANGE and DEFAULT in the numbers that were read from them.
+use Rattle.std.specs.Prelude.{if◌then◌else◌}
 use mathlib.Core.Path.{◌≡◌, refl, sym, ap, ◌∙◌}
 use mathlib.Core.Bool.{Bool, true, false, ◌&&◌, not}
 use mathlib.Core.Option.{Option, none, some}
@@ -7,7 +8,6 @@ use lib.Dec.{eqb}
 use lib.IntN.{ℤ}
 use lib.Signed.{lt_z}
 use borrow.Author.Tests.{eq-eqb, ne_eqb}
-use Rattle.model.specs.Basic.{if◌then◌else◌}
 use Rattle.model.specs.Block.{Range, in_range}
 use Rattle.model.specs.Tokens.{in_crisp}
 use Rattle.model.specs.WellFormed.{range_ok, figure_ok, default_ok}

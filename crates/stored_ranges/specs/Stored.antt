@@ -1,7 +1,6 @@
 -- A helper: RANGE and DEFAULT as model's `output_at` has them, of a row that starts anywhere.
 use Rattle.std.proofs.Math.Option.{Option, none, some}
-use Rattle.std.specs.Prelude.{ℕ, ◌+◌, eqb, ℤ}
-use Rattle.model.specs.Basic.{if◌then◌else◌}
+use Rattle.std.specs.Prelude.{ℕ, ◌+◌, eqb, ℤ, if◌then◌else◌}
 use Rattle.model.specs.Block.{Range}
 use Rattle.model.specs.Image.{crisp_of}
 

@@ -1,4 +1,5 @@
 -- What it takes for a row's words to be those that its entry is laid out us.
+use Rattle.std.specs.Prelude.{if◌then◌else◌}
 use mathlib.Core.Path.{◌≡◌, refl, sym, ap, ◌∙◌}
 use mathlib.Core.List.{List, [], ◌∷◌, ◌++◌}
 use mathlib.Core.Option.{Option, none, some}
@@ -8,7 +9,7 @@ use native.Mathlib.Omega.{arith}
 use lib.Dec.{leb, eqb}
 use lib.ListN.{length}
 use borrow.Author.Tests.{eq-eqb, ne_eqb, lt-leb}
-use Rattle.model.specs.Basic.{if◌then◌else◌, every, same, tab}
+use Rattle.model.specs.Basic.{every, same, tab}
 use Rattle.model.specs.Bounds.{M}
 use Rattle.model.specs.Block.{Range}
 use Rattle.model.specs.declared.InputType.TheVariants.{Real, Int}

@@ -1,7 +1,7 @@
 -- A helper: what is tested of a row of each table that starts at o, p being its first. `RowTests` ties them to the words
 -- that a block's row is laid out as.
-use Rattle.std.specs.Prelude.{Bool, ◌&&◌, [], ◌∷◌, ℕ, ◌+◌, leb, eqb}
-use Rattle.model.specs.Basic.{if◌then◌else◌, every}
+use Rattle.std.specs.Prelude.{Bool, ◌&&◌, [], ◌∷◌, ℕ, ◌+◌, leb, eqb, if◌then◌else◌}
+use Rattle.model.specs.Basic.{every}
 use Rattle.layout.specs.Tables.{name_exact}
 
 -- flag, min, max of an output's row

@@ -1,4 +1,5 @@
 -- What the symbols of some tables say of the block that they stand for.
+use Rattle.std.specs.Prelude.{if◌then◌else◌}
 use mathlib.Core.Path.{◌≡◌, refl, sym, ap, ◌∙◌, subst}
 use mathlib.Core.Bool.{Bool, true, false}
 use mathlib.Core.List.{List, [], ◌∷◌, ◌++◌, append_assoc}
@@ -8,7 +9,7 @@ use borrow.Author.Tests.{lt-ltb, le-ltb}
 use lib.Dec.{ltb}
 use lib.ListN.{length, take, get_or, set, length-set, get_or-append}
 use lib.Seq.{get_or-set_same, get_or-set_other}
-use Rattle.model.specs.Basic.{if◌then◌else◌, total, gather, tab}
+use Rattle.model.specs.Basic.{total, gather, tab}
 use Rattle.model.specs.Block as block
 use Rattle.model.specs.Block.{Block, input_first, output_first}
 use Rattle.model.specs.Bounds.{input_limit, output_limit, term_limit, variable_limit, input_term_limit}

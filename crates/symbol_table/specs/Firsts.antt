@@ -1,7 +1,7 @@
 -- A helper: where the terms of each variable of some tables start, counted over all variables, inputs first.
 -- `described` of proofs/Laws ties the symbols to what they say of a block of the model, `Describes`.
-use Rattle.std.specs.Prelude.{◌≡◌, List, [], ◌∷◌, ◌++◌, ℕ, zero, suc, ◌+◌, ◌-◌, ◌≤◌, ltb, get_or}
-use Rattle.model.specs.Basic.{if◌then◌else◌, tab}
+use Rattle.std.specs.Prelude.{◌≡◌, List, [], ◌∷◌, ◌++◌, ℕ, zero, suc, ◌+◌, ◌-◌, ◌≤◌, ltb, get_or, if◌then◌else◌}
+use Rattle.model.specs.Basic.{tab}
 use Rattle.model.specs.Bounds.{input_limit, variable_limit}
 use Rattle.block_tables.specs.declared.Tables.{Tables}
 use Rattle.block_tables.specs.View.{input_row, output_row}

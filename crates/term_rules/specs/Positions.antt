@@ -1,7 +1,6 @@
 -- A helper: model's `may_follow` of positions of which the last two are known. `Ends` says of which positions that holds,
 -- and `ends_none` and `ends_more` of proofs/Laws that it does of all that are taken up one by one.
-use Rattle.std.specs.Prelude.{◌≡◌, Bool, List, [], ◌∷◌, ◌++◌, ℕ, ◌+◌, eqb, ℤ, length}
-use Rattle.model.specs.Basic.{if◌then◌else◌}
+use Rattle.std.specs.Prelude.{◌≡◌, Bool, List, [], ◌∷◌, ◌++◌, ℕ, ◌+◌, eqb, ℤ, length, if◌then◌else◌}
 use Rattle.model.specs.Block.{may_follow}
 use Rattle.term_rules.specs.declared.LastTwo.{LastTwo}
 

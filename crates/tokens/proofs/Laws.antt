@@ -1,4 +1,5 @@
 -- One step of each definition that walks over a text, at a place of it.
+use Rattle.std.specs.Prelude.{if◌then◌else◌}
 use mathlib.Core.Path.{◌≡◌, refl, sym, ap, ◌∙◌}
 use mathlib.Core.List.{List, [], ◌∷◌, map}
 use mathlib.Core.Bool.{Bool, true, false, ◌&&◌, ◌||◌, not, and-false, false≢true}
@@ -10,7 +11,7 @@ use borrow.Author.Tests.{eq-eqb, ne_eqb, eqb-true, eqb-false}
 use lib.Dec.{eqb}
 use lib.ListN.{length, take, drop, get_or, drop_of_length-le, length-drop}
 use lib.Seq.{drop-cons, drop-drop, slice, slice_empty}
-use Rattle.model.specs.Basic.{if◌then◌else◌, run}
+use Rattle.model.specs.Basic.{run}
 use Rattle.model.specs.Keywords.{END, WRONG, BLANK}
 use Rattle.model.specs.Tokens.{is_underscore, is_digit, starts_name, is_name_byte, is_mark, starts, tidy, word_kind, point_part, number_part, comment_part, comment_piece, piece, word_piece, piece_at, Piece, Token as ModelToken, token, placed, scan, tokens}
 use Rattle.laws.proofs.Slices.{cut}

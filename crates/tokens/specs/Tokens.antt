@@ -1,8 +1,8 @@
 -- Helpers: a word byte by byte; the first token of a text as the scanner gives it, and the tokens from a place on. The
 -- contract of `next` ties both to the model's `tokens`, and the contract of `word_of` a word to its `tidy`.
-use Rattle.std.specs.Prelude.{Bool, false, ◌&&◌, ◌||◌, not, List, [], ◌∷◌, ℕ, ◌+◌, eqb, take, drop}
+use Rattle.std.specs.Prelude.{Bool, false, ◌&&◌, ◌||◌, not, List, [], ◌∷◌, ℕ, ◌+◌, eqb, take, drop, if◌then◌else◌}
 use Rattle.std.proofs.Math.Seq.{slice}
-use Rattle.model.specs.Basic.{if◌then◌else◌, run}
+use Rattle.model.specs.Basic.{run}
 use Rattle.model.specs.Keywords.{END}
 use Rattle.model.specs.Tokens.{is_underscore, is_name_byte, starts, tidy, Token as ModelToken, token, Piece as ModelPiece, piece, scan}
 use Rattle.tokens.specs.declared.Token.{Token}

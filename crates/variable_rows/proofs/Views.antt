@@ -1,4 +1,5 @@
 -- The tables of variables that the arrays are laid out as are those of the block that they stand for.
+use Rattle.std.specs.Prelude.{if◌then◌else◌}
 use mathlib.Core.Path.{◌≡◌, refl, ap, ◌∙◌}
 use mathlib.Core.List.{List, [], ◌∷◌, ◌++◌}
 use mathlib.Core.Bool.{Bool, true, false}
@@ -7,7 +8,7 @@ use Prim.Native.Nat.{ℕ, zero, suc, ◌+◌}
 use native.Mathlib.Omega.{arith}
 use lib.ListN.{get_or}
 use lib.Seq.{slice}
-use Rattle.model.specs.Basic.{if◌then◌else◌, tab}
+use Rattle.model.specs.Basic.{tab}
 use Rattle.model.specs.Bounds.{input_limit}
 use Rattle.model.specs.declared.InputType.TheVariants.{Real as real, Int as int}
 use Rattle.model.specs.Image.{type_word, range_words, default_words, name_words, input_table}

@@ -1,8 +1,8 @@
 -- A helper: the words of the tables of variables from the tables that a text is read into, row by row, and the places of
 -- their terms. `inputs_laid` and `outputs_laid` of proofs/Views tie them to the model's tables.
-use Rattle.std.specs.Prelude.{◌≡◌, Bool, List, [], ◌∷◌, ◌++◌, ℕ, zero, suc, ◌+◌, ◌*◌, ◌≤◌, ◌<◌, ℤ, length, get_or, take}
+use Rattle.std.specs.Prelude.{◌≡◌, Bool, List, [], ◌∷◌, ◌++◌, ℕ, zero, suc, ◌+◌, ◌*◌, ◌≤◌, ◌<◌, ℤ, length, get_or, take, if◌then◌else◌}
 use Rattle.std.proofs.Math.Seq.{slice}
-use Rattle.model.specs.Basic.{if◌then◌else◌, tab}
+use Rattle.model.specs.Basic.{tab}
 use Rattle.model.specs.Bounds.{input_limit, output_limit, term_limit, input_term_limit}
 use Rattle.model.specs.Image.{crisp_word, name_words}
 use Rattle.block_tables.specs.declared.Input.{Input}
