@@ -73,6 +73,6 @@ no_nan nan h = subst T h tt
 no_nan (inf s) h = tt
 no_nan (fin s m e) h = tt
 
-pub is_nan : (x : Float) → ne x x ≡ true → NotFinite ≡ real_of x
+pub is_nan_lem : (x : Float) → ne x x ≡ true → NotFinite ≡ real_of x
 unfolding real_of
-is_nan x h = ap real_of (sym (differs_from_itself x (subst T (sym h) tt)))
+is_nan_lem x h = ap real_of (sym (differs_from_itself x (subst T (sym h) tt)))

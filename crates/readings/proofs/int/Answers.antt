@@ -9,8 +9,7 @@ use mir.ValLaws.{to_z-of_z}
 use Rattle.crisp.specs.Crisp.{InCrisp}
 use Rattle.crisp.proofs.Laws.{crisp_sfits}
 use Rattle.readings.proofs.Rounding.{signed_crisp}
-use Rattle.readings.proofs.int.Statement.{statement}
-use Rattle.readings.proofs.int.Tie as tie
+use Rattle.readings.proofs.int.Goals as goal
 
 wider : (z : ℤ) → SFits w16 z → SFits w32 z
 wider (pos n) h = record { sfits = omega (arith, h.sfits) }
@@ -20,21 +19,18 @@ times_crisp : (z : ℤ) → SFits w16 z → InCrisp (z *ℤ pos 1000)
 times_crisp (pos n) h = omega (arith, h.sfits)
 times_crisp (negsuc n) h = signed_crisp true (suc n * 1000) (omega (arith, h.sfits))
 
-cast-t2 : tie.Need-overflow-cast-t2
-cast-t2 c =
+pub overflow_cast-result : goal.overflow_cast-result
+overflow_cast-result c =
     let n = c.args.n in
     rw (to_z-of_z w16 n c.ranges.n) (wider n c.ranges.n)
 
-mul-t3 : tie.Need-overflow-mul-t3
-mul-t3 c =
+pub overflow_mul-result : goal.overflow_mul-result
+overflow_mul-result c =
     let n = c.args.n in
     rw (to_z-of_z w16 n c.ranges.n, to_z-of_z w32 n (wider n c.ranges.n)) (crisp_sfits (n *ℤ pos 1000) (times_crisp n c.ranges.n))
 
-returns : tie.Need-returns
+pub returns : goal.returns
 returns c =
     let n = c.args.n in
     let i = times_crisp n c.ranges.n in
     rw (to_z-of_z w16 n c.ranges.n, to_z-of_z w32 n (wider n c.ranges.n), to_z-of_z w32 (n *ℤ pos 1000) (crisp_sfits (n *ℤ pos 1000) i)) (refl, i)
-
-pub int-spec : {M : Type 1} → statement M
-int-spec = tie.close (tie.spec cast-t2 mul-t3 returns)
