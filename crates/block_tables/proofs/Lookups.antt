@@ -7,7 +7,6 @@ use native.Mathlib.Omega.{arith}
 use lib.ListN.{length, get_or, length-map, get_or-eq_default}
 use Rattle.model.specs.Basic.{index_of, tab}
 use Rattle.model.specs.Bounds.{input_limit, term_limit, variable_limit}
-use Rattle.model.specs.Block as block
 use Rattle.model.specs.Block.{Block, terms_of, singletons_of, range_of}
 use Rattle.model.specs.Tokens.{same_name}
 use Rattle.model.specs.Declarations.{input_of, output_of, term_of, singleton_of}
