@@ -1,0 +1,36 @@
+use mathlib.Core.Path.{sym, ◌∙◌}
+use Rattle.laws.proofs.Tests.{pass, one_fails}
+use Rattle.stored_rows.specs.Tests.{output_test}
+use Rattle.stored_header.proofs.Lists.{equal, differs}
+use Rattle.stored_rows.proofs.output_ok.Goals as goal
+
+pub returns-then-not-name_exact : goal.returns-then-not-name_exact
+unfolding output_test
+returns-then-not-name_exact c = sym (one_fails _ 0 (sym c.name_exact.ensures ∙ c.if-not-name_exact.true))
+
+pub returns-then-whole_word-p : goal.returns-then-whole_word-p
+unfolding output_test
+returns-then-whole_word-p c = sym (one_fails _ 1 (differs _ _ _ c.whole_word.ensures.0 c.if-whole_word-p.true))
+
+pub returns-then-not-range_ok : goal.returns-then-not-range_ok
+unfolding output_test
+returns-then-not-range_ok c = sym (one_fails _ 2 (sym c.range_ok.ensures ∙ c.if-not-range_ok.true))
+
+pub returns-then-not-default_ok : goal.returns-then-not-default_ok
+unfolding output_test
+returns-then-not-default_ok c = sym (one_fails _ 3 (sym c.default_ok.ensures ∙ c.if-not-default_ok.true))
+
+pub returns : goal.returns
+unfolding output_test
+returns c =
+    sym
+    (pass _ (
+      sym c.name_exact.ensures ∙ c.if-not-name_exact.false,
+      (
+        equal _ _ _ c.whole_word.ensures.0 c.if-whole_word-p.false,
+        (
+          sym c.range_ok.ensures ∙ c.if-not-range_ok.false,
+          (sym c.default_ok.ensures ∙ c.if-not-default_ok.false, tt),
+        ),
+      ),
+    ))
