@@ -1,0 +1,16 @@
+use mathlib.Core.Path.{◌≡◌}
+use mathlib.Core.Bool.{not}
+use Prim.Native.Nat.{◌+◌, ◌-◌}
+use lib.Dec.{eqb}
+use Rattle.model.specs.Basic.{all, tab}
+use Rattle.model.specs.Image.{word_at}
+use Rattle.rule_numbers.specs.Numbers.{rule_number}
+use Rattle.rule_numbers.proofs.differs.Given as goal
+
+abbrev pub invariant-loop-j : goal.invariant-loop-j
+invariant-loop-j l =
+    all (λ n. not (eqb l.number n)) (tab (rule_number (word_at l.img)) (l.e - l.j) l.j)
+    ≡ all (λ n. not (eqb l.number n)) (tab (rule_number (word_at l.img)) (l.e - (l.i + 1)) (l.i + 1))
+
+abbrev pub decreases-loop-j : goal.decreases-loop-j
+decreases-loop-j l = l.e - l.j
