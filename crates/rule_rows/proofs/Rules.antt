@@ -72,7 +72,7 @@ module _ (w : ℕ → ℕ) where
   -- a row by the header and the rule's parts
   abbrev pub row_tests : Header → Parts → ℕ → ℕ → ℕ → List Bool
   row_tests h p i n k =
-      eqb p.word_first_lem n
+      eqb p.word_first n
       ∷ eqb p.conclusion_first k
       ∷ leb (n + p.words) h.words
       ∷ leb (k + p.conclusions) h.conclusions

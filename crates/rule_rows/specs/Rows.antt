@@ -8,11 +8,11 @@ use Rattle.rule_rows.specs.declared.Parts.{Parts}
 
 -- what the code holds of rule i, words of 32 bits
 pub record PartsAt (w : ℕ → ℕ) (i : ℕ) (p : Parts) : Type 0 where
-  pub word_first_lem : p.word_first_lem ≡ w (rule_place w i + 1)
+  pub word_first_lem : p.word_first ≡ w (rule_place w i + 1)
   pub words : p.words ≡ word_count w i
   pub conclusion_first_lem : p.conclusion_first ≡ w (rule_place w i + 3)
   pub conclusions : p.conclusions ≡ conclusion_count w i
-  pub fits : (p.word_first_lem ≤ 4294967295) × (p.words ≤ 4294967295)
+  pub fits : (p.word_first ≤ 4294967295) × (p.words ≤ 4294967295)
       × (p.conclusion_first ≤ 4294967295) × (p.conclusions ≤ 4294967295)
 
 -- rule i
