@@ -1,6 +1,6 @@
 /*
  * Grillenhelm for C and C++ hosts on x86-64: FCL texts to stored images and back, and figures from readings.
- * Link target/staticlib/libgrillenhelm.a, which `rt staticlib grillenhelm` proves and writes.
+ * Link target/staticlib/libgrillenhelm.a, which tools/archive proves and writes.
  *
  * Who owns what: the host owns all memory. Bytes, the held record of grillenhelm_evaluate_held and the number beside a
  * text in chunks are lent for the time of the call; everything else goes by value. No function allocates, keeps a

@@ -1,5 +1,6 @@
 #!/usr/bin/env python3
-"""costs.py: what reading costs, and the frames of reading and of the load check, as docs/READER.md has it. Needs `rt check` before it, and valgrind and objdump.
+"""costs.py: what reading costs, and the frames of reading and of the load check, as docs/READER.md has it. Needs `rt ci` before it,
+and valgrind and objdump.
 
 Growth is counted in instructions (valgrind), less those of the same program on an empty file, as multiples of the smallest size;
 stack is the largest frame of each function, and the peak that valgrind sees over all cases of the vectors."""
@@ -12,7 +13,7 @@ import tempfile
 top = os.path.join(os.path.dirname(os.path.abspath(__file__)), "..")
 
 
-program = os.path.join(top, "target", "bin", "vector_cases")
+program = os.path.join(top, "crates", "vector_cases", "out", "vector_cases")
 
 
 def valgrind(name, data, *options):
@@ -74,7 +75,7 @@ def block(rules, words):
 
 
 if not os.path.exists(program):
-    sys.exit("costs.py: run `rt check` first")
+    sys.exit("costs.py: run `rt ci` first")
 sizes = [8192, 16384, 32768, 65536]
 print("reading, by bytes of text")
 growth("  a short block and blanks", sizes, lambda n: block(1, 1).ljust(n))

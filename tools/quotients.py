@@ -1,16 +1,21 @@
 #!/usr/bin/env python3
 """tools/quotients.py: fails where anything that an evaluation runs divides 64-bit whole numbers, or takes their remainder,
-but by a constant power of two (W-206). It follows the calls in the MIR, from every function that a host can call but
-those for texts; and it looks for a divide instruction in the static library, which host/c/build.sh writes.
-tools/quotients_test.py tests it."""
+but by a constant power of two (W-206). It follows the calls in the MIR of the built libraries, from every function that a
+host can call but those for texts; and it looks for a divide instruction in the static library, and that each function
+which that exports is the library's of the same name. tools/archive builds all of it. tools/quotients_test.py tests this
+tool."""
+import glob
+import json
 import os
 import re
 import subprocess
 import sys
 
-os.environ["PATH"] += os.pathsep + "/opt/rattle/bin"
-
 ARCHIVE = "target/staticlib/libgrillenhelm.a"
+# The MIR of the libraries of this repository, and of the kit's that stand below each crate.
+BUILT = "crates/*/out/rlib/*.rlib/toolchain/mir.json"
+KIT = "/opt/rattle/rlibs/{}.rlib/toolchain/mir.json"
+OF_KIT = ("core", "std", "std_alloc", "std_collections", "std_heap", "std_io")
 EXPORTED = "grillenhelm::grillenhelm_"
 FOR_TEXTS = {EXPORTED + name for name in ("read", "append", "finish", "list")}
 # Evaluations run these: where they are not reached, the calls were not followed rightly.
@@ -31,59 +36,63 @@ def said(*command):
     return run.stdout
 
 
-def parsed(text):
-    """The nested lists of an S-expression."""
-    stack = [[]]
-    for token in re.findall(r'"[^"]*"|[()]|[^\s()"]+', text):
-        if token == "(":
-            stack.append([])
-        elif token == ")":
-            done = stack.pop()
-            stack[-1].append(done)
-        else:
-            stack[-1].append(token.strip('"'))
-    return stack[0]
+def functions_in(*files):
+    """The functions of some libraries by name."""
+    functions = {}
+    for path in files:
+        with open(path, encoding="utf-8") as f:
+            functions.update(json.load(f))
+    return functions
+
+
+def built():
+    """The functions of all libraries: of this repository, as tools/archive built them, and of the kit."""
+    found = sorted(glob.glob(BUILT))
+    if not any(path.endswith("/grillenhelm.rlib/toolchain/mir.json") for path in found):
+        sys.exit("quotients: the libraries are not built: run tools/archive first")
+    return functions_in(*map(KIT.format, OF_KIT), *found)
 
 
 def nodes(tree):
-    """Every list in a tree that is not empty, itself first."""
+    """Every pair of a key and its value in a tree."""
     todo = [tree]
     while todo:
         node = todo.pop()
-        if node:
-            yield node
-        todo += [part for part in node if isinstance(part, list)]
+        if isinstance(node, dict):
+            yield from node.items()
+            todo += node.values()
+        elif isinstance(node, list):
+            todo += node
 
 
-def listed(chain):
-    """The elements of (lcons x (lcons y lnil))."""
-    while isinstance(chain, list):
-        yield chain[1]
-        chain = chain[2]
+def called(function):
+    """What a function may call: what it names, and each method of an implementation that it hands on."""
+    for key, value in nodes(function):
+        if key == "Fn":
+            yield value[0]
+        elif key == "methods":
+            yield from value
 
 
-def functions_of(mir):
-    """The functions of a MIR by name; it holds all that they call."""
-    return {node[1]: node[2] for node in nodes(parsed(mir)) if node[0] == "fn-def"}
-
-
-def harmless(divisor, types):
-    """Of 32 bits or less, or a constant power of two. A part of a local counts as 64 bits."""
-    if divisor[0] == "int":
-        value = int(divisor[2])
-        return int(divisor[1]) <= 32 or value > 0 and value & (value - 1) == 0
-    place = divisor[1]
-    kind = types[int(place[1])] if place[2] == "lnil" else None
-    return isinstance(kind, list) and kind[0] == "tyInt" and int(kind[1]) <= 32
+def harmless(divisor, locals_):
+    """Of 32 bits or less, or a constant power of two. A part of a local counts as 64 bits, as does all else."""
+    kind, what = next(iter(divisor.items()))
+    if kind == "Int":
+        value = what["value"]
+        return what["width"] <= 32 or value > 0 and value & (value - 1) == 0
+    if kind != "Copy" or what["steps"]:
+        return False
+    of = locals_[what["local"]]["ty"]
+    return isinstance(of, dict) and of.get("Int", 64) <= 32
 
 
 def quotients_in(function):
     """The 64-bit quotients and remainders in a function."""
-    types = [local[1] for local in listed(function[4])]
-    for node in nodes(function):
-        if node[0] == "op2" and isinstance(node[1], list) and node[1][0] in ("div", "rem"):
-            if not harmless(node[3], types):
-                yield node[1][0]
+    for key, value in nodes(function["body"]):
+        for part in value if isinstance(value, list) else [value]:
+            kind = next((kind for kind in ("Div", "Rem") if isinstance(part, dict) and kind in part), None)
+            if kind and not (key == "Op2" and harmless(value[2], function["locals"])):
+                yield kind.lower()
 
 
 def followed(functions, entries):
@@ -98,7 +107,7 @@ def followed(functions, entries):
             wrong.append(f"{name}: its code is not there")
             continue
         wrong += [f"{name}: {kind}" for kind in quotients_in(functions[name])]
-        todo += [node[1] for node in nodes(functions[name]) if node[0] == "fnRef"]
+        todo += called(functions[name])
     return reached, sorted(wrong)
 
 
@@ -115,11 +124,15 @@ def instructions_in(disassembly, symbols):
 
 def main():
     os.chdir(os.path.join(os.path.dirname(os.path.abspath(__file__)), ".."))
-    functions = functions_of(said("rt", "mir", "grillenhelm"))
+    functions = built()
     entries = entries_of(functions)
     reached, found = followed(functions, entries)
     wrong = found + [f"{name} is not reached" for name in sorted(REACHED - reached)]
     print(f"quotients: {', '.join(entries)}: {len(reached)} functions, {len(found)} quotients of 64 bits")
+    exports = set(re.findall(r" T (\w+)", said("nm", "--defined-only", "--extern-only", ARCHIVE)))
+    of_library = {name.removeprefix("grillenhelm::") for name in (*entries, *FOR_TEXTS)}
+    wrong += [f"{name} is exported, and the library has none of that name" for name in sorted(exports - of_library)]
+    wrong += [f"{name} is not exported" for name in sorted(of_library - exports)]
     machine = instructions_in(said("objdump", "-d", "--no-show-raw-insn", ARCHIVE), said("nm", "-u", ARCHIVE))
     print(f"quotients: {ARCHIVE}: {len(machine)} divide instructions")
     sys.exit("\n".join(wrong + machine) or None)

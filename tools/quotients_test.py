@@ -10,54 +10,81 @@ import unittest
 sys.dont_write_bytecode = True
 import quotients
 
-# Name, body; what is told of it.
+# Name, what its caller has to see to, body; what is told of it.
 FORMS = [
-    ("divides(a: u64, b: u64) -> u64", "a / b", ["div"]),
-    ("takes_the_remainder(a: u64, b: u64) -> u64", "a % b", ["rem"]),
-    ("divides_lengths(a: usize, b: usize) -> usize", "a / b", ["div"]),
-    ("divides_signed(a: i64, b: i64) -> i64", "a / b", ["div"]),
-    ("by_ten(a: u64) -> u64", "a / 10", ["div"]),
-    ("by_a_shift(a: u64, j: u64) -> u64", "a / (1u64 << j)", ["div"]),
-    ("by_a_field(a: Sizes) -> u64", "1000 / a.wide", ["div"]),
-    ("twice(a: u64, b: u64) -> u64", "a / b + a % b", ["div", "rem"]),
-    ("in_a_loop(a: u64) -> u64", "let mut r = a; let mut i = a; while 0 < i { i -= 1; r /= i + 3; } r", ["div"]),
-    ("in_a_branch(a: u64, b: u64) -> u64", "if a < b { b % (a + 1) } else { a }", ["rem"]),
-    ("by_two_calls(a: u64, b: u64) -> u64", "by_a_call(a, b)", ["div"]),
-    ("by_a_call(a: u64, b: u64) -> u64", "divides(a, b)", ["div"]),
-    ("by_powers_of_two(a: u64) -> u64", "a / 256 + a % 65536 + (a >> 3) + a / 1", []),
-    ("of_32_bits(a: u32, b: u32) -> u32", "a / b + a % 1000", []),
-    ("of_floats(a: f64, b: f64) -> f64", "a / b", []),
-    ("of_nothing(a: u64, b: u64) -> u64", "a * b - a", []),
+    ("divides(a: u64, b: u64) -> u64", "0 < b", "a / b", ["div"]),
+    ("takes_the_remainder(a: u64, b: u64) -> u64", "0 < b", "a % b", ["rem"]),
+    ("divides_lengths(a: usize, b: usize) -> usize", "0 < b", "a / b", ["div"]),
+    ("divides_signed(a: i64, b: i64) -> i64", "", "if 0 < b { a / b } else { a }", ["div"]),
+    ("by_ten(a: u64) -> u64", "", "a / 10", ["div"]),
+    ("by_a_shift(a: u64, j: u64) -> u64", "j < 64", "let d = 1u64 << j; if 0 < d { a / d } else { a }", ["div"]),
+    ("by_a_field(a: Sizes) -> u64", "0 < a.wide", "1000 / a.wide", ["div"]),
+    ("twice(a: u64, b: u64) -> u64", "1 < b", "a / b + a % b", ["div", "rem"]),
+    ("in_a_loop(a: u64) -> u64", "", "let mut r = a; for i in 0..8u64 { r /= i + 3; } r", ["div"]),
+    ("in_a_branch(a: u64, b: u64) -> u64", "", "if a < b { b % (a + 1) } else { a }", ["rem"]),
+    ("by_two_calls(a: u64, b: u64) -> u64", "0 < b", "by_a_call(a, b)", ["div"]),
+    ("by_a_call(a: u64, b: u64) -> u64", "0 < b", "divides(a, b)", ["div"]),
+    ("by_a_method(a: u64, b: u64) -> u64", "0 < b", "Sizes { wide: b }.part_of(a)", ["div"]),
+    ("by_a_bound(a: u64, b: u64) -> u64", "0 < b", "by_whatever(&Sizes { wide: b }, a)", ["div"]),
+    ("by_powers_of_two(a: u64) -> u64", "", "a / 256 / 4 + a % 65536 / 2 + (a >> 3) / 1", []),
+    ("of_32_bits(a: u32, b: u32) -> u32", "0 < b", "if b < 5 { a % 1000 } else { a / b }", []),
+    ("of_floats(a: f64, b: f64) -> f64", "", "a / b", []),
+    ("of_nothing(a: u64, b: u64) -> u64", "a < 65536 × b < 65536", "a * b + a - a", []),
+    # `nearest::nearest_quotient` before W-206.
+    ("before(a: u64, b: u64) -> u64", "0 < b × 2 * a + 2 * b < 2 ^ 64", "(2 * a + b) / (2 * b)", ["div"]),
+    ("calls(a: u64) -> u64", "", "is_called(a)", []),
+    ("is_called(a: u64) -> u64", "", "a", []),
 ]
 
-# `nearest::nearest_quotient` before W-206.
-BEFORE = "pub fn nearest_quotient(a: u64, b: u64) -> u64 { (2 * a + b) / (2 * b) }"
+REST = """#![tactic(auto)]
+ghost use Rattle.std.specs.Prelude.{◌≡◌, ◌<◌, ◌+◌, ◌*◌, ◌^◌};
+#[derive(Clone, Copy)]
+pub struct Sizes { pub wide: u64 }
+impl Sizes {
+    pub fn part_of(self, a: u64) -> u64 requires { 0 < self.wide } { a / self.wide }
+}
+pub trait Part {
+    fn of(&self, a: u64) -> u64;
+}
+impl Part for Sizes {
+    fn of(&self, a: u64) -> u64 { let wide = self.wide; if 0 < wide { a / wide } else { a } }
+}
+pub fn by_whatever<P: Part>(p: &P, a: u64) -> u64 { p.of(a) }
+"""
 
 
-def mir_of(crate, source):
-    """The functions of a crate that stands by itself."""
+def forms():
+    """The functions of a crate that has all forms."""
+    source = REST
+    for head, wanted, body, _ in FORMS:
+        source += f"pub fn {head}{f' requires {{ {wanted} }}' if wanted else ''} {{ {body} }}\n"
     with tempfile.TemporaryDirectory() as folder:
-        os.makedirs(os.path.join(folder, "crates", crate, "src"))
-        for path, text in (("crates.txt", f"{crate}:\n"), (f"crates/{crate}/src/lib.rt", source)):
-            with open(os.path.join(folder, path), "w") as f:
+        crate = os.path.join(folder, "crates", "forms")
+        os.makedirs(os.path.join(crate, "src"))
+        for path, text in (("crates.txt", "forms:\n"), ("crates/forms/src/lib.rt", source)):
+            with open(os.path.join(folder, path), "w", encoding="utf-8") as f:
                 f.write(text)
-        run = subprocess.run(["rt", "mir", crate], cwd=folder, capture_output=True, text=True, check=True)
-        return quotients.functions_of(run.stdout)
+        run = subprocess.run(["rt", "lib"], cwd=crate, capture_output=True, text=True)
+        if run.returncode != 0:
+            sys.exit(f"quotients_test: the forms are not proved\n{run.stdout}{run.stderr}")
+        return quotients.functions_in(os.path.join(crate, "out/rlib/forms.rlib/toolchain/mir.json"))
 
 
 class Quotients(unittest.TestCase):
+    @classmethod
+    def setUpClass(cls):
+        cls.forms = forms()
+
     def test_every_form(self):
-        source = "pub struct Sizes { pub wide: u64 }\n" + "".join(f"pub fn {head} {{ {body} }}\n" for head, body, _ in FORMS)
-        functions = mir_of("forms", source)
-        for head, _, told in FORMS:
+        for head, _, _, told in FORMS:
             name = f"forms::{head.split('(')[0]}"
             with self.subTest(name):
-                _, found = quotients.followed(functions, [name])
+                _, found = quotients.followed(self.forms, [name])
                 self.assertEqual([line.split(": ")[1] for line in found], told)
 
     def test_the_quotient_before(self):
-        functions = quotients.functions_of(quotients.said("rt", "mir", "grillenhelm"))
-        functions.update(mir_of("nearest", BEFORE))
+        functions = quotients.built()
+        functions["nearest::nearest_quotient"] = self.forms["forms::before"]
         entries = quotients.entries_of(functions)
         evaluations = {"grillenhelm::grillenhelm_evaluate", "grillenhelm::grillenhelm_evaluate_held"}
         self.assertLessEqual(evaluations, set(entries))
@@ -65,9 +92,8 @@ class Quotients(unittest.TestCase):
             self.assertEqual(quotients.followed(functions, [entry])[1], ["nearest::nearest_quotient: div"])
 
     def test_code_that_is_not_there(self):
-        functions = mir_of("lone", "pub fn a(x: u64) -> u64 { b(x) } pub fn b(x: u64) -> u64 { x }")
-        del functions["lone::b"]
-        self.assertEqual(quotients.followed(functions, ["lone::a"])[1], ["lone::b: its code is not there"])
+        functions = {name: code for name, code in self.forms.items() if name != "forms::is_called"}
+        self.assertEqual(quotients.followed(functions, ["forms::calls"])[1], ["forms::is_called: its code is not there"])
 
     def test_machine_code(self):
         for code, count in (

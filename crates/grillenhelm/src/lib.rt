@@ -19,8 +19,7 @@ use model::Held;
 use outcome_crossing::{GrillenhelmOutcome, verdict, written};
 
 // `reader::read`.
-#[unsafe(no_mangle)]
-pub extern "C" fn grillenhelm_read(text: &[u8], image: &mut [u8]) -> GrillenhelmOutcome
+pub fn grillenhelm_read(text: &[u8], image: &mut [u8]) -> GrillenhelmOutcome
     ensures value { result ≡ outcome_of length (reads_into (length image.old) text.now) }
     ensures buffer { image.new
         ≡ buffer_after image.old (reads_into (length image.old) text.now) }
@@ -30,12 +29,7 @@ pub extern "C" fn grillenhelm_read(text: &[u8], image: &mut [u8]) -> Grillenhelm
 }
 
 // `chunk_store::append`.
-#[unsafe(no_mangle)]
-pub extern "C" fn grillenhelm_append(
-    chunk: &[u8],
-    store: &mut [u8],
-    count: &mut usize,
-) -> GrillenhelmOutcome
+pub fn grillenhelm_append(chunk: &[u8], store: &mut [u8], count: &mut usize) -> GrillenhelmOutcome
     ensures value { result ≡ bare_outcome (answer_in (record { store = store.entry.now; count = count.old })
         (aChunk chunk.now)) }
     ensures state { record { store = store.exit.now; count = count.new }
@@ -47,12 +41,7 @@ pub extern "C" fn grillenhelm_append(
 }
 
 // `chunked_text::finish`.
-#[unsafe(no_mangle)]
-pub extern "C" fn grillenhelm_finish(
-    store: &[u8],
-    count: &mut usize,
-    image: &mut [u8],
-) -> GrillenhelmOutcome
+pub fn grillenhelm_finish(store: &[u8], count: &mut usize, image: &mut [u8]) -> GrillenhelmOutcome
     ensures value { result ≡ outcome_of length (answer_in
         (record { store = store.entry.now; count = count.old }) (theEnd image.old)) }
     ensures buffer { image.new ≡ buffer_after image.old (answer_in
@@ -66,8 +55,7 @@ pub extern "C" fn grillenhelm_finish(
 }
 
 // `load::check`.
-#[unsafe(no_mangle)]
-pub extern "C" fn grillenhelm_check(image: &[u8]) -> GrillenhelmOutcome
+pub fn grillenhelm_check(image: &[u8]) -> GrillenhelmOutcome
     ensures { result ≡ bare_outcome (loads image.now) }
 {
     let v = load::check(image);
@@ -75,8 +63,7 @@ pub extern "C" fn grillenhelm_check(image: &[u8]) -> GrillenhelmOutcome
 }
 
 // `lister::list`.
-#[unsafe(no_mangle)]
-pub extern "C" fn grillenhelm_list(image: &[u8], text: &mut [u8]) -> GrillenhelmOutcome
+pub fn grillenhelm_list(image: &[u8], text: &mut [u8]) -> GrillenhelmOutcome
     ensures value { result ≡ outcome_of length (lists_into (length text.old) image.now) }
     ensures buffer { text.new
         ≡ buffer_after text.old (lists_into (length text.old) image.now) }
@@ -86,8 +73,7 @@ pub extern "C" fn grillenhelm_list(image: &[u8], text: &mut [u8]) -> Grillenhelm
 }
 
 // `evaluation::fresh_of`.
-#[unsafe(no_mangle)]
-pub extern "C" fn grillenhelm_fresh(image: &[u8]) -> GrillenhelmFresh
+pub fn grillenhelm_fresh(image: &[u8]) -> GrillenhelmFresh
     ensures { result ≡ fresh_in (fresh image.now) }
 {
     let f = evaluation::fresh_of(image);
@@ -95,8 +81,7 @@ pub extern "C" fn grillenhelm_fresh(image: &[u8]) -> GrillenhelmFresh
 }
 
 // `evaluation::evaluate`.
-#[unsafe(no_mangle)]
-pub extern "C" fn grillenhelm_evaluate(
+pub fn grillenhelm_evaluate(
     image: &[u8],
     readings: GrillenhelmReadings,
     held: Held,
@@ -111,8 +96,7 @@ pub extern "C" fn grillenhelm_evaluate(
 }
 
 // `daily::evaluate_held`: the same on a record that is lent.
-#[unsafe(no_mangle)]
-pub extern "C" fn grillenhelm_evaluate_held(
+pub fn grillenhelm_evaluate_held(
     image: &[u8],
     readings: GrillenhelmReadings,
     held: &mut Held,
