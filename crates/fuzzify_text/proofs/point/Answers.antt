@@ -1,0 +1,35 @@
+use mathlib.Core.Path.{sym}
+use mathlib.Core.Bool.{true≢false}
+use Rattle.fuzzify_text.proofs.Laws as laws
+use Rattle.fuzzify_text.proofs.point.Goals as goal
+
+pub returns-then-c-ne-OPEN : goal.returns-then-c-ne-OPEN
+returns-then-c-ne-OPEN c =
+    let a = c.args in
+    let g = c.requires in
+    record {
+      reads_point = laws.point_none a.s.now a.c c.refuse-d.result a.n a.last _ c.if-c-ne-OPEN.true (c.refuse-d.ensures.by_index _ g)
+          c.refuse-d.ensures.halted;
+      few = λ z. absurd (true≢false (sym z));
+    }
+
+pub returns-then-n-ge-POINTS : goal.returns-then-n-ge-POINTS
+returns-then-n-ge-POINTS c =
+    let a = c.args in
+    let g = c.requires in
+    record {
+      reads_point = laws.point-full a.s.now a.c c.refuse-d-then-n-ge-POINTS.result a.n a.last c.if-c-ne-OPEN.false _ c.if-n-ge-POINTS.true
+          (c.refuse-d-then-n-ge-POINTS.ensures.by_index _ g) c.refuse-d-then-n-ge-POINTS.ensures.halted;
+      few = λ z. absurd (true≢false (sym z));
+    }
+
+pub returns : goal.returns
+returns c =
+    let a = c.args in
+    let l = c.if-n-ge-POINTS.false in
+    let d = c.advance-d in
+    record {
+      reads_point = laws.point-good a.s.now a.c d.result a.n a.last c.if-c-ne-OPEN.false c.point_from.result l d.ensures.step
+          c.point_from.ensures;
+      few = λ z. l;
+    }
