@@ -1,11 +1,16 @@
 // What the programs over vectors share: the cases of a file one by one, whether a buffer that was lent changed, and how
 // refusals, images, figures and answers are written. The files, and the lines to expect, are made by tools/vectors.py
 // from vectors worked out elsewhere.
+#![tactic(auto)]
+
 ghost use Rattle.std.specs.Prelude.{◌≡◌, not, eqb, length, drop, replicate};
+ghost use Rattle.std.specs.Counts.{IsPrefixLen};
 ghost use Rattle.model.specs.Basic.{all};
 ghost use Rattle.vectors.specs.Case.{Came};
 
 use model::{Answer, Crisp, Evaluation, Fresh, Held, Mark, Refusal, Verdict, Written};
+use std::io;
+use std::io::{Read, Write};
 
 // What a buffer is filled with before it is lent.
 pub const FILL: u8 = 165;
@@ -17,20 +22,39 @@ pub enum Case {
     Bytes(usize),
 }
 
+// Reads until buf is full, the file ends or a read fails, and says how many bytes it put at the start of buf.
+pub fn read_full<R: Read>(file: &mut R, buf: &mut [u8]) -> usize
+    ensures { IsPrefixLen result buf.new }
+{
+    let mut done = 0;
+    while done < buf.len() {
+        match file.read(&mut buf[done..]) {
+            Ok(n) => {
+                if n == 0 {
+                    return done;
+                }
+                done += n;
+            }
+            Err(_) => return done,
+        }
+    }
+    done
+}
+
 // The next case of a file, read to the start of buf: a word says how many bytes it has, then they follow. No case is
 // left at the end of the file, and where buf has no room for it.
-pub fn next_case(fd: i32, buf: &mut [u8]) -> Case
+pub fn next_case<R: Read>(file: &mut R, buf: &mut [u8]) -> Case
     ensures { Came buf.new result }
 {
     let mut head = [0u8; 4];
-    if io::read_full(fd, &mut head) != 4 {
+    if read_full(file, &mut head) != 4 {
         return Case::End;
     }
     let n = words::word(&head, 0);
     if n > buf.len() {
         return Case::End;
     }
-    if io::read_full(fd, &mut buf[..n]) != n {
+    if read_full(file, &mut buf[..n]) != n {
         return Case::End;
     }
     Case::Bytes(n)
@@ -51,32 +75,31 @@ fn is_changed(buf: &[u8], k: usize) -> bool
 }
 
 // Ends a line on a buffer that was lent: "changed" if a byte from k on did.
-pub fn end_line(buf: &[u8], k: usize) {
+pub fn end_line<W: Write>(to: &mut W, buf: &[u8], k: usize) -> io::Result<()> {
     if is_changed(buf, k) {
-        io::write_all(1, b" changed");
+        to.write_all(b" changed")?;
     }
-    io::write_all(1, b"\n");
+    to.write_all(b"\n")
 }
 
 // The number of a refusal and its place.
-pub fn write_refusal(r: Refusal) {
+pub fn write_refusal<W: Write>(to: &mut W, r: Refusal) -> io::Result<()> {
     let t = refusals::number_and_place(r);
-    io::print_decimal(1, t.number as u64);
+    let number = t.number;
+    write!(to, "{number}")?;
     if t.placed {
-        io::write_all(1, b" ");
-        io::print_decimal(1, t.place as u64);
+        let place = t.place;
+        write!(to, " {place}")
     } else {
-        io::write_all(1, b" -");
+        to.write_all(b" -")
     }
 }
 
 // 0 for accepted.
-pub fn write_verdict(v: Verdict) {
+pub fn write_verdict<W: Write>(to: &mut W, v: Verdict) -> io::Result<()> {
     match v {
-        Verdict::Accepted => {
-            io::write_all(1, b"0 -");
-        }
-        Verdict::Refused(r) => write_refusal(r),
+        Verdict::Accepted => to.write_all(b"0 -"),
+        Verdict::Refused(r) => write_refusal(to, r),
     }
 }
 
@@ -96,139 +119,123 @@ pub fn listing_buffer() -> [u8; 40000]
     [FILL; 40000]
 }
 
-fn wide(b: u8) -> u64 {
-    b as u64
+// A buffer for a case of a file, of zeros.
+pub fn case_buffer() -> [u8; 65536]
+    ensures { 65536 ≡ length result }
+{
+    [0; 65536]
 }
 
-// The first n bytes, if there are as many.
-fn write_bytes(out: &[u8], n: usize) {
+// The first n bytes in hex, if there are as many.
+fn write_bytes<W: Write>(to: &mut W, out: &[u8], n: usize) -> io::Result<()> {
     let mut i = 0;
     while i < n {
         if out.len() <= i {
-            return;
+            return Ok(());
         }
-        io::print_hex(1, wide(out[i]), 2);
+        let b = out[i];
+        write!(to, "{b:02x}")?;
         i += 1;
     }
+    Ok(())
 }
 
 // The line of an image that was to be written to the front of a buffer: in hex, or the refusal.
-pub fn write_image(w: Written, out: &[u8]) {
+pub fn write_image<W: Write>(to: &mut W, w: Written, out: &[u8]) -> io::Result<()> {
     match w {
         Written::Bytes(n) => {
-            write_bytes(out, n);
-            end_line(out, n);
+            write_bytes(to, out, n)?;
+            end_line(to, out, n)
         }
         Written::Refused(r) => {
-            write_refusal(r);
-            end_line(out, 0);
+            write_refusal(to, r)?;
+            end_line(to, out, 0)
         }
     }
 }
 
 // The line of what is to be refused and to leave the buffer as it came.
-pub fn write_refused(w: Written, buf: &[u8]) {
+pub fn write_refused<W: Write>(to: &mut W, w: Written, buf: &[u8]) -> io::Result<()> {
     match w {
-        Written::Bytes(_) => {
-            io::write_all(1, b"0 -");
-        }
-        Written::Refused(r) => write_refusal(r),
+        Written::Bytes(_) => to.write_all(b"0 -")?,
+        Written::Refused(r) => write_refusal(to, r)?,
     }
-    end_line(buf, 0);
+    end_line(to, buf, 0)
 }
 
 // Any 32-bit number in decimal: a held record that is refused may hold each of them.
-pub fn write_signed(x: Crisp) {
+pub fn write_signed<W: Write>(to: &mut W, x: Crisp) -> io::Result<()> {
     let n = x.0;
-    if n < -2147483647 {
-        io::write_all(1, b"-2147483648");
-        return;
-    }
-    if n < 0 {
-        io::write_all(1, b"-");
-        io::print_decimal(1, (0 - n) as u64);
-    } else {
-        io::print_decimal(1, n as u64);
-    }
+    write!(to, "{n}")
 }
 
-fn write_figure(x: Crisp) {
-    io::write_all(1, b" ");
-    write_signed(x);
+fn write_figure<W: Write>(to: &mut W, x: Crisp) -> io::Result<()> {
+    to.write_all(b" ")?;
+    write_signed(to, x)
 }
 
-fn write_held(held: Held) {
+fn write_held<W: Write>(to: &mut W, held: Held) -> io::Result<()> {
     let f = held.figures;
-    write_figure(f[0]);
-    write_figure(f[1]);
-    write_figure(f[2]);
-    write_figure(f[3]);
-    write_figure(f[4]);
-    write_figure(f[5]);
-    io::write_all(1, b"\n");
+    write_figure(to, f[0])?;
+    write_figure(to, f[1])?;
+    write_figure(to, f[2])?;
+    write_figure(to, f[3])?;
+    write_figure(to, f[4])?;
+    write_figure(to, f[5])?;
+    to.write_all(b"\n")
 }
 
-pub fn write_mark(m: Mark) {
+pub fn write_mark<W: Write>(to: &mut W, m: Mark) -> io::Result<()> {
     match m {
-        Mark::None => {
-            io::write_all(1, b"none");
-        }
-        Mark::Fired => {
-            io::write_all(1, b"fired");
-        }
-        Mark::Default => {
-            io::write_all(1, b"default");
-        }
-        Mark::Held => {
-            io::write_all(1, b"held");
-        }
+        Mark::None => to.write_all(b"none"),
+        Mark::Fired => to.write_all(b"fired"),
+        Mark::Default => to.write_all(b"default"),
+        Mark::Held => to.write_all(b"held"),
     }
 }
 
 // The bits of a float, in hex.
-fn write_bits(x: f64) {
+fn write_bits<W: Write>(to: &mut W, x: f64) -> io::Result<()> {
     if x != x {
-        io::write_all(1, b"NaN");
-        return;
+        return to.write_all(b"NaN");
     }
-    io::print_hex(1, f64::to_bits(x), 16);
+    let bits = f64::to_bits(x);
+    write!(to, "{bits:016x}")
 }
 
-fn write_answer(a: Answer) {
-    io::write_all(1, b", ");
+fn write_answer<W: Write>(to: &mut W, a: Answer) -> io::Result<()> {
+    to.write_all(b", ")?;
     let m = a.mark;
-    write_mark(m);
+    write_mark(to, m)?;
     let t = a.thousandths;
-    write_figure(t);
-    io::write_all(1, b" ");
+    write_figure(to, t)?;
     let s = a.sum;
-    io::print_decimal(1, s as u64);
-    io::write_all(1, b" ");
+    write!(to, " {s} ")?;
     let x = a.value;
-    write_bits(x);
+    write_bits(to, x)
 }
 
 // The line of a fresh record.
-pub fn write_fresh(fresh: Fresh) {
+pub fn write_fresh<W: Write>(to: &mut W, fresh: Fresh) -> io::Result<()> {
     let v = fresh.verdict;
-    write_verdict(v);
-    io::write_all(1, b",");
+    write_verdict(to, v)?;
+    to.write_all(b",")?;
     let h = fresh.held;
-    write_held(h);
+    write_held(to, h)
 }
 
 // The line of a call.
-pub fn write_evaluation(e: Evaluation) {
+pub fn write_evaluation<W: Write>(to: &mut W, e: Evaluation) -> io::Result<()> {
     let v = e.verdict;
-    write_verdict(v);
+    write_verdict(to, v)?;
     let a = e.answers;
-    write_answer(a[0]);
-    write_answer(a[1]);
-    write_answer(a[2]);
-    write_answer(a[3]);
-    write_answer(a[4]);
-    write_answer(a[5]);
-    io::write_all(1, b",");
+    write_answer(to, a[0])?;
+    write_answer(to, a[1])?;
+    write_answer(to, a[2])?;
+    write_answer(to, a[3])?;
+    write_answer(to, a[4])?;
+    write_answer(to, a[5])?;
+    to.write_all(b",")?;
     let h = e.held;
-    write_held(h);
+    write_held(to, h)
 }
