@@ -1,0 +1,21 @@
+use Rattle.std.proofs.Common.{◌*◌, ◌≤◌, length, ◌≡◌, ◌+◌}
+use Rattle.model.specs.Image.{word_at, decode}
+use Rattle.model.specs.Listing.{input_term_name}
+use Rattle.condition_listing.proofs.Texts as texts
+use Rattle.condition_listing.proofs.+condition_negation_operand.Given as goal
+
+abbrev pub decreases-condition : goal.decreases-condition
+decreases-condition l = 3 * l.e
+
+abbrev pub decreases-negation : goal.decreases-negation
+decreases-negation l = 3 * l.e + 2
+
+abbrev pub decreases-operand : goal.decreases-operand
+decreases-operand l = 3 * l.e + 1
+
+abbrev pub invariant-condition-loop-d : goal.invariant-condition-loop-d
+invariant-condition-loop-d l =
+    (l.d ≤ l.e) × texts.Left (word_at l.img) (input_term_name (decode (word_at l.img))) l.e l.k l.initial.out l.d l.q l.out × (length l.out ≡ length l.initial.out)
+
+abbrev pub decreases-condition-loop-d : goal.decreases-condition-loop-d
+decreases-condition-loop-d l = l.d
