@@ -14,7 +14,7 @@ use Rattle.model.specs.Block.{Block, Rule, Condition, Conclusion, size, term, in
 use Rattle.model.specs.Bounds.{M, rule_limit, conclusion_limit, depth_limit, input_limit, variable_limit, term_limit}
 use Rattle.model.specs.Image.{postfix, conclusion_words}
 use Rattle.model.specs.Keywords.{NUMBER, NAME, COMMA, SEMICOLON, IS, IF, COLON, RULE, THEN, WITH}
-use Rattle.model.specs.Parse.{Parse, Part, kind, text, is, refuse, advance, change, judged, expect, repeat_on, repeated, listed, a_name, a_unit}
+use Rattle.model.specs.Parse.{Parse, Part, text, is, refuse, advance, change, judged, expect, repeat_on, repeated, listed, a_name, a_unit}
 use Rattle.model.specs.Tokens.{decimal, unit_of, is_rule_number}
 use Rattle.model.specs.Declarations.{input_of, output_of, term_of, singleton_of, is_output, is_singleton}
 use Rattle.model.specs.Rules.{ConditionRead, add_rule, change_rule, rule_number, concluded_term, conclusion, weight, weighted, condition, condition_with, parenthesis, rule_given, rule_from, rule}
