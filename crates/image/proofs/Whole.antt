@@ -4,7 +4,6 @@ use lib.Seq.{slice}
 use Rattle.model.specs.Basic.{gather}
 use Rattle.model.specs.Bounds.{rule_limit, word_limit, conclusion_limit}
 use Rattle.model.specs.Block.{Block, Rule, conclusions}
-use Rattle.model.specs.Block as block
 use Rattle.model.specs.Image.{terms, points, pair_word, pair_of, accu_word, accu_of, act_word, act_of, name_words, input_table, output_table, term_table, point_words, rule_table, postfix, conclusion_words, counts, widths, offsets, end_of, header_size, header, words, image}
 use Rattle.laws.proofs.Conditions.{length_pairs}
 use Rattle.words.proofs.Bytes.{length_bytes}
