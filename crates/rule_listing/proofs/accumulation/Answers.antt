@@ -1,0 +1,10 @@
+use borrow.Author.Tests.{ne_eqb}
+use Rattle.rule_listing.proofs.accumulation.Goals as goal
+
+pub returns-in-0 : goal.returns-in-0
+returns-in-0 c =
+    rw c.in-0.is c.puts.ensures
+
+pub returns-in_default : goal.returns-in_default
+returns-in_default c =
+    rw (ne_eqb _ 0 c.in_default.in_default-own.rest.1) c.puts-in_default.ensures
