@@ -23,7 +23,7 @@ use Rattle.model.specs.declared.Activation.{Activation}
 use Rattle.model.specs.declared.Activation.TheVariants.{Min, Prod}
 use Rattle.model.specs.Tokens.{is_name, in_crisp}
 use Rattle.model.specs.WellFormed.{unit_ok, point_ok, term_ok, input_ok, range_ok, figure_ok, default_ok, singleton_ok, output_ok, well_formed}
-use Rattle.model.specs.Image.{word_at, pair_word, accu_word, act_word, name_words, singleton_term, terms, points, words, image, input_at, output_at, rule_at, pair_of, accu_of, act_of, decode, is_image_of, loads, BLOCK_NAME, RULE_BLOCK_NAME}
+use Rattle.model.specs.Image.{word_at, pair_word, accu_word, act_word, name_words, singleton_term, terms, words, image, input_at, output_at, rule_at, pair_of, accu_of, act_of, decode, is_image_of, loads, BLOCK_NAME, RULE_BLOCK_NAME}
 use Rattle.laws.proofs.Places.{At, at_cut, tab_at, same_eq, same_refl}
 use Rattle.laws.proofs.Tests.{both, and_i, passed}
 use Rattle.words.proofs.Bytes.{words_at}
