@@ -11,9 +11,10 @@ pub fn evaluate_held(img: &[u8], rs: [Reading; bounds::INPUTS], n: usize, held: 
 {
     let e = evaluate(img, rs, n, *held);
     *held = e.held;
+    let answers = e.answers;
     Reply {
         verdict: e.verdict,
-        answers: e.answers,
+        answers: answers,
     }
 }
 
@@ -28,9 +29,10 @@ pub fn evaluate_lending(
 {
     let mut held = before;
     let reply = evaluate_held(img, rs, n, &mut held);
+    let answers = reply.answers;
     Evaluation {
         verdict: reply.verdict,
-        answers: reply.answers,
+        answers: answers,
         held: held,
     }
 }
