@@ -1,7 +1,7 @@
 -- However a text is cut: the state that the calls leave stands for them, whatever the store held at first, so each call is answered
 -- as the calls before it say.
 use mathlib.Core.Path.{◌≡◌, refl, sym, ap, ◌∙◌, subst}
-use mathlib.Core.Bool.{Bool, true, false, ◌||◌, and-false}
+use mathlib.Core.Bool.{Bool, true, false, ◌||◌, not, and-false}
 use mathlib.Core.List.{List, [], ◌∷◌, ◌++◌, append_assoc, append-nil}
 use mathlib.Core.Option.{none}
 use Prim.Native.Nat.{ℕ, ◌+◌, ◌≤◌}
@@ -81,8 +81,11 @@ closed_over t = and-false (leb text_limit (length t.store))
 -- answered as the calls so far say
 same_answer : (cs : List TextCall) (t : TextState) → Stands cs t → (c : TextCall) → answer_in t c ≡ answer_after cs c
 unfolding answer
-same_answer cs t (going live ready same) c = rw (live, ready, same) refl
-same_answer cs t (gone ended shut) c = rw (ended, shut) refl
+same_answer cs t (going live ready same) c =
+    ap (λ (b : Bool). answer (not b) (bytes_in t) c) ready ∙ ap (λ (s : List ℕ). answer false s c) same
+    ∙ ap (λ (b : Bool). answer b (text_of cs) c) (sym live)
+same_answer cs t (gone ended shut) c =
+    ap (λ (b : Bool). answer (not b) (bytes_in t) c) shut ∙ ap (λ (b : Bool). answer b (text_of cs) c) (sym ended)
 
 -- OPEN: what a chunk leaves
 module _ (cs : List TextCall) (t : TextState) (live : is_over cs ≡ false) (ready : is_open t ≡ true)
