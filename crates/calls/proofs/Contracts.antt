@@ -12,6 +12,7 @@ use types.Logic.{Logic}
 use contract.Monad.{Fun, fact}
 use contract.Notation.{connectives}
 use denote.Ref.{Bor}
+use denote.MutBor.{MutBor}
 use denote.Triple.Clauses.{AtExit}
 use lib.ListN.{length}
 use Rattle.model.specs.Outcome.{verdict_in, length_in, buffer_after}
@@ -39,7 +40,7 @@ module _ {M : Type 1} {𝓤 : Ura M} (𝓛 : Logic 𝓤) (at_mem : Memory → SP
   asks_nothing p = p ≡ (connectives 𝓤).⊤ₛ
 
   -- `reader::read`: its answer, and the buffer then
-  read_tells : (κ' : Lft) (s out : Bor (List ℕ)) (r : Written) (e : AtExit read-text.ended (κ, (κ', tt)))
+  read_tells : (κ' : Lft) (s : Bor (List ℕ)) (out : MutBor (List ℕ)) (r : Written) (e : AtExit read-text.ended (κ, (κ', tt)))
       → let c = read-text.clauses 𝓛 at_mem run (κ, (κ', tt)) (s, (out, tt)) in
       let o = reads_into (length out.now) s.now in
       asks_nothing (c.requires tt)
@@ -67,7 +68,7 @@ module _ {M : Type 1} {𝓤 : Ura M} (𝓛 : Logic 𝓤) (at_mem : Memory → SP
   evaluate_links img rs n before r e = (refl, refl)
 
   -- `daily::evaluate_held`: a link with the lent record, as it comes and as it is left
-  held_links : (κ' : Lft) (img : Bor (List ℕ)) (rs : List Reading) (n : ℕ) (held : Bor Held) (r : Reply) (e : AtExit evaluate-held.ended (κ, (κ', tt)))
+  held_links : (κ' : Lft) (img : Bor (List ℕ)) (rs : List Reading) (n : ℕ) (held : MutBor Held) (r : Reply) (e : AtExit evaluate-held.ended (κ, (κ', tt)))
       → let c = evaluate-held.clauses 𝓛 at_mem run (κ, (κ', tt)) (img, (rs, (n, (held, tt)))) in
       asks_nothing (c.requires tt)
       × (c.ensures tt r e ≡ fact 𝓤 (Link img.now held.now (daily (record { readings = rs; count = n }) r e.1.1.1.0.now)))
