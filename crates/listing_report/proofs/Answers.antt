@@ -14,7 +14,7 @@ use Rattle.model.specs.Outcome.{Outcome, accepted, refused, and_then, into, leng
 use Rattle.model.specs.Reader.{reads}
 use Rattle.model.specs.Buffers.{reads_into, lists_into}
 use Rattle.model.specs.Printed.{refused_line, outcome_text, printed}
-use Rattle.io.specs.Counts.{IsPrefixLen}
+use Rattle.std.specs.Counts.{IsPrefixLen}
 use Rattle.laws.proofs.Buffers.{fits}
 use Rattle.image_laws.proofs.Loads.{loads_image, loads_iff}
 use Rattle.listing_laws.proofs.Longest.{listing_short}

@@ -1,15 +1,16 @@
--- How long the image of a well-formed block and the line of a refusal can be.
-use mathlib.Core.Path.{◌≡◌, refl, ap}
+-- How long the image of a well-formed block and the line of a refusal can be; the end of a line.
+use mathlib.Core.Path.{◌≡◌, refl, sym, ap, ◌∙◌}
 use mathlib.Core.Bool.{Bool, true, false}
-use mathlib.Core.List.{List, [], ◌∷◌, map}
-use Prim.Native.Nat.{ℕ, ◌*◌, ◌≤◌, ◌<◌}
+use mathlib.Core.List.{List, [], ◌∷◌, ◌++◌, map}
+use Prim.Native.Nat.{ℕ, ◌*◌, ◌-◌, ◌≤◌, ◌<◌}
 use native.Mathlib.Nat.{suc-mul}
 use native.Mathlib.Omega.{arith}
-use lib.ListN.{length, length-append, length-map}
+use lib.ListN.{length, take, drop, length-append, length-drop, length-map}
+use lib.Seq.{length-take-le, take_all}
 use Rattle.model.specs.Bounds.{image_limit}
 use Rattle.model.specs.Basic.{all, gather}
-use Rattle.model.specs.Block.{Singleton, Input, Block, input_terms, output_terms, conclusions}
-use Rattle.model.specs.Image.{image, words, terms, points, end_of, singleton_term}
+use Rattle.model.specs.Block.{Singleton, Input, Block, input_terms, output_terms}
+use Rattle.model.specs.Image.{image, words, end_of, singleton_term}
 use Rattle.model.specs.Printed.{place_text, refused_line}
 use Rattle.model.specs.WellFormed.{well_formed, input_ok, output_ok, term_ok}
 use Rattle.words.proofs.Bytes.{length_bytes}
@@ -28,6 +29,21 @@ place_short true n h = (digits_room 19 n (omega arith)).short
 pub line_short : (n place : ℕ) (placed : Bool) → n < 256 → place < 18446744073709551616 → length (refused_line n (place_of placed place)) ≤ 64
 unfolding refused_line
 line_short n place placed h k = simp length-append (omega (arith, (digits_room 2 n (omega arith)).short, place_short placed place k))
+
+-- THE END OF A LINE of m bytes: its last n
+module _ (m n : ℕ) (line : List ℕ) (room : length line ≡ m) (short : n ≤ m) where
+  abbrev end : List ℕ
+  end = take (m - (m - n)) (drop (m - n) line)
+
+  pub end_length : length end ≡ n
+  end_length =
+      let e : m - (m - n) ≡ n = omega arith in
+      let d = length-drop (m - n) line in
+      length-take-le (m - (m - n)) (drop (m - n) line) (omega (arith, d)) ∙ e
+
+  -- it is all that is copied
+  pub whole_end : (out : List ℕ) → end ++ drop n out ≡ take (length end) end ++ drop (length end) out
+  whole_end out = (λ i. sym (take_all (length end) end (omega arith)) i ++ drop (sym end_length i) out)
 
 -- THE IMAGE
 gather_few : {A B : Type 0} (g : A → List B) (ok : A → Bool) (m : ℕ) → ((x : A) → ok x ≡ true → length (g x) ≤ m)

@@ -1,6 +1,8 @@
 // What the listing program prints of a text: the listing, or the refusal by number and place.
+#![tactic(auto)]
+
 ghost use Rattle.std.specs.Prelude.{◌≡◌, ◌≤◌, length};
-ghost use Rattle.io.specs.Counts.{IsPrefixLen};
+ghost use Rattle.std.specs.Counts.{IsPrefixLen};
 ghost use Rattle.model.specs.Bounds.{listing_limit};
 ghost use Rattle.model.specs.Block.{Block};
 ghost use Rattle.model.specs.Image.{loads};
