@@ -1,10 +1,13 @@
 // The listing program: reads a text from standard input and prints its listing, or `refused N at P`. It reads one byte
 // more than a text may have, so that a longer text is refused too. What it prints is `listing_report::print`.
+#![tactic(auto)]
+
 ghost use Rattle.std.specs.Prelude.{◌≡◌, length};
-ghost use Rattle.io.specs.Counts.{IsPrefixLen};
+ghost use Rattle.std.specs.Counts.{IsPrefixLen};
 ghost use Rattle.model.specs.Bounds.{listing_limit};
 
-use libc::{STDERR_FILENO, STDIN_FILENO, STDOUT_FILENO};
+use std::io;
+use std::io::{Read, Write};
 
 // What was read: how many bytes, and whether the input ended or the buffer was full, and no read failed.
 #[derive(Clone, Copy)]
@@ -28,35 +31,35 @@ fn listing_buffer() -> [u8; bounds::LISTING]
     [0; bounds::LISTING]
 }
 
-fn read_input(buf: &mut [u8]) -> Input
+fn read_input<R: Read>(stdin: &mut R, buf: &mut [u8]) -> Input
     ensures { IsPrefixLen result.len buf.new }
 {
     let mut n = 0;
     while n < buf.len() {
-        let got = libc::read(STDIN_FILENO, &mut buf[n..]);
-        if got < 0 {
-            return Input { ok: false, len: n };
+        match stdin.read(&mut buf[n..]) {
+            Ok(m) => {
+                if m == 0 {
+                    return Input { ok: true, len: n };
+                }
+                n += m;
+            }
+            Err(_) => return Input { ok: false, len: n },
         }
-        let m = io::count(got, &buf[n..]);
-        if m == 0 {
-            return Input { ok: true, len: n };
-        }
-        n += m;
     }
     Input { ok: true, len: n }
 }
 
-fn main() {
+fn main(rt: HostRuntime) -> io::Result<()> {
     let mut text = text_buffer();
-    let input = read_input(&mut text);
+    let input = read_input(&mut rt.stdin(), &mut text);
     if !input.ok {
-        io::write_all(STDERR_FILENO, b"the input cannot be read\n");
-        return;
+        return rt.eprintln("the input cannot be read");
     }
     let len = input.len;
     let mut out = listing_buffer();
     let n = listing_report::print(&text[..len], &mut out);
-    if !io::write_all(STDOUT_FILENO, &out[..n]) {
-        io::write_all(STDERR_FILENO, b"the listing cannot be written\n");
+    if io::writer(&rt).write_all(&out[..n]).is_err() {
+        return rt.eprintln("the listing cannot be written");
     }
+    Ok(())
 }
