@@ -12,6 +12,7 @@ use prog.Routine.{Routine}
 use types.Logic.{Logic}
 use contract.Monad.{Fun, fact}
 use contract.Notation.{connectives}
+use denote.MutBor.{MutBor}
 use denote.Ref.{Bor}
 use denote.Triple.Clauses.{AtExit}
 use Rattle.model.specs.Outcome.{buffer_after}
@@ -38,7 +39,7 @@ module _ {M : Type 1} {𝓤 : Ura M} (𝓛 : Logic 𝓤) (at_mem : Memory → SP
   asks_nothing p = p ≡ (connectives 𝓤).⊤ₛ
 
   -- `grillenhelm_read`: what `Texts.host_reads_iff` has of a text that reads to an image
-  read_tells : (κ' : Lft) (text image : Bor (List ℕ)) (r : GrillenhelmOutcome) (e : AtExit read.ended (κ, (κ', tt)))
+  read_tells : (κ' : Lft) (text : Bor (List ℕ)) (image : MutBor (List ℕ)) (r : GrillenhelmOutcome) (e : AtExit read.ended (κ, (κ', tt)))
       → let c = read.clauses 𝓛 at_mem run (κ, (κ', tt)) (text, (image, tt)) in
       let o = reads_into (length image.now) text.now in
       asks_nothing (c.requires tt)
@@ -60,7 +61,7 @@ module _ {M : Type 1} {𝓤 : Ura M} (𝓛 : Logic 𝓤) (at_mem : Memory → SP
       asks_nothing (c.requires tt) × (c.ensures tt r e ≡ fact 𝓤 (HostLink image.now held rs r))
   evaluate_links image rs held r e = (refl, refl)
 
-  held_links : (κ' : Lft) (image : Bor (List ℕ)) (rs : GrillenhelmReadings) (held : Bor Held) (r : GrillenhelmReply) (e : AtExit lent.ended (κ, (κ', tt)))
+  held_links : (κ' : Lft) (image : Bor (List ℕ)) (rs : GrillenhelmReadings) (held : MutBor Held) (r : GrillenhelmReply) (e : AtExit lent.ended (κ, (κ', tt)))
       → let c = lent.clauses 𝓛 at_mem run (κ, (κ', tt)) (image, (rs, (held, tt))) in
       asks_nothing (c.requires tt) × (c.ensures tt r e ≡ fact 𝓤 (HostLink image.now held.now rs (leaving r e.1.1.0.now)))
   held_links κ' image rs held r e = (refl, refl)
