@@ -1,4 +1,6 @@
 // The heights of the output terms: the degree of each rule, accumulated into every term that it concludes.
+#![tactic(auto)]
+
 ghost use Rattle.std.specs.Prelude.{◌≡◌, ℕ, ◌+◌, ◌*◌, ◌≤◌, ◌<◌, length, get_or};
 ghost use Rattle.model.specs.Bounds.{M};
 ghost use Rattle.model.specs.Degrees.{prod_of};

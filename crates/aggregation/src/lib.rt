@@ -1,4 +1,6 @@
 // The degrees of the conditions of an accepted image.
+#![tactic(auto)]
+
 ghost use Rattle.std.specs.Prelude.{◌≡◌, ℕ, ◌≤◌, ◌<◌, get_or};
 ghost use Rattle.model.specs.Bounds.{M};
 ghost use Rattle.model.specs.Degrees.{pairs, condition_degree};

@@ -1,4 +1,6 @@
 // One evaluation call on an accepted image: the checks 12, 13, 14 in this order, then the answers.
+#![tactic(auto)]
+
 ghost use Rattle.model.specs.Refusals.{refusal_of};
 ghost use Rattle.model.specs.Image.{word_at, decode};
 ghost use Rattle.model.specs.Evaluation.{evaluate_block, Tells};

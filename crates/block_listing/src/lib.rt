@@ -1,4 +1,6 @@
 // The listing of an accepted image, from its end to its front.
+#![tactic(auto)]
+
 ghost use Rattle.model.specs.Image.{word_at, decode};
 ghost use Rattle.model.specs.Listing.{listing};
 ghost use Rattle.layout.specs.Checked.{Checked};

@@ -1,5 +1,7 @@
 // The fixed tables that a text is read into, by value, and the arrays for its rules. Where a name stands in the text is
 // kept with what it names; term j of a variable stands in place TERMS * v + j among those of its kind.
+#![tactic(auto)]
+
 ghost use Rattle.std.specs.Prelude.{◌≡◌, ◌≤◌, length};
 ghost use Rattle.model.specs.Bounds.{input_limit};
 ghost use Rattle.block_tables.specs.Changes.{Typed};

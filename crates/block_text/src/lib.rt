@@ -1,4 +1,6 @@
 // A function block's text around its rule block: name, variables, FUZZIFY and DEFUZZIFY before it, the end behind it.
+#![tactic(auto)]
+
 ghost use Rattle.std.specs.Prelude.{◌≡◌, ◌+◌, ◌≤◌};
 ghost use Rattle.model.specs.Bounds.{input_limit, output_limit, variable_limit};
 ghost use Rattle.model.specs.Keywords.{FUZZIFY, DEFUZZIFY};

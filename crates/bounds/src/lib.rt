@@ -1,4 +1,6 @@
 // The bounds of document 01 and the lengths of arrays that follow from them.
+#![tactic(auto)]
+
 ghost use Rattle.std.specs.Prelude.{◌≡◌, [], ◌∷◌};
 ghost use Rattle.model.specs.Basic.{between};
 ghost use Rattle.model.specs.Bounds.{M, crisp_limit, text_limit, name_limit, digit_limit, fraction_limit, input_limit, output_limit, term_limit, point_least, point_limit, rule_limit, word_limit, conclusion_limit, rule_number_least, rule_number_limit, depth_limit, variable_limit, input_term_limit, output_term_limit, all_term_limit, symbol_limit, image_limit, listing_limit};

@@ -1,4 +1,6 @@
 // How the readings and answers of a call cross: a reading is a number that says its kind and a field for each kind.
+#![tactic(auto)]
+
 ghost use Rattle.std.specs.Prelude.{◌≡◌, map};
 ghost use Rattle.call_crossing.specs.Values.{reading_of, mark_number, answer_of};
 

@@ -1,1 +1,2 @@
 // Case has no meaning: laws of the definitions. Proofs only.
+#![tactic(auto)]

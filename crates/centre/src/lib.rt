@@ -1,4 +1,6 @@
 // The centre of gravity of up to seven singletons: positions weighed by their heights.
+#![tactic(auto)]
+
 ghost use Rattle.std.specs.Prelude.{◌≡◌, List, [], ◌∷◌, ◌++◌, ℕ, ◌+◌, ◌*◌, ◌≤◌, ◌<◌, ℤ, pos, length, get_or};
 ghost use Rattle.model.specs.Bounds.{M, term_limit};
 ghost use Rattle.crisp.specs.Crisp.{InCrisp};

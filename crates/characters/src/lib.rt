@@ -1,4 +1,6 @@
 // The classes of bytes, and where a run of digits or of name bytes ends.
+#![tactic(auto)]
+
 ghost use Rattle.std.specs.Prelude.{◌≡◌, ◌&&◌, not, ◌+◌, ◌≤◌, length, drop, eqb};
 ghost use Rattle.model.specs.Basic.{between, run, capital};
 ghost use Rattle.model.specs.Tokens.{is_blank, is_digit, is_underscore, starts_name, is_name_byte, is_sign, is_mark, starts};

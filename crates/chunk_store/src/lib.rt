@@ -1,4 +1,6 @@
 // A text that comes in chunks: the host lends a store for its bytes and a number, 0 when a text begins.
+#![tactic(auto)]
+
 ghost use Rattle.std.specs.Prelude.{◌≡◌, not, ◌++◌, ◌+◌, ◌≤◌, length, take, drop};
 ghost use Rattle.model.specs.Chunks.{is_open, appended, Link};
 

@@ -1,4 +1,6 @@
 // The end of a text that came in chunks.
+#![tactic(auto)]
+
 ghost use Rattle.model.specs.Chunks.{finished, Link};
 
 use model::{Refusal, Written};

@@ -1,4 +1,6 @@
 // What a listed rule concludes, and its weight.
+#![tactic(auto)]
+
 ghost use Rattle.std.specs.Prelude.{◌≡◌, true, map, ◌<◌};
 ghost use Rattle.model.specs.WellFormed.{conclusion_ok};
 ghost use Rattle.model.specs.Image.{word_at, decode, rule_at, conclusion_at};

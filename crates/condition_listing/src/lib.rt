@@ -1,5 +1,7 @@
 // The text of a stored condition. Its words are read from the last to the first, each operator before its operands, so
 // parentheses are known before they are written; a chain of equal operators is a loop.
+#![tactic(auto)]
+
 ghost use Rattle.std.specs.Prelude.{◌*◌, ◌≤◌, ◌<◌, length};
 ghost use Rattle.model.specs.Block.{neg};
 ghost use Rattle.model.specs.Parentheses.{form as form_of};

@@ -1,4 +1,6 @@
 // The stack of a pass over a condition's words: of each subtree its form and its depth.
+#![tactic(auto)]
+
 ghost use Rattle.std.specs.Prelude.{◌≡◌, ℕ, ◌≤◌, length};
 ghost use Rattle.model.specs.Block.{Op};
 ghost use Rattle.model.specs.Parentheses.{NOT_FORM, OR_FORM, rank, negated_form, bare_right, opened};

@@ -1,5 +1,7 @@
 // A condition's text to its words: parentheses first, then NOT, AND, OR, equal operators grouped to the left. Each NOT,
 // AND, OR and input name is counted at its token; its word is put when its operands are.
+#![tactic(auto)]
+
 ghost use Rattle.std.specs.Prelude.{◌≡◌, List, ℕ, ◌≤◌, ◌<◌};
 ghost use Rattle.model.specs.Bounds.{word_limit};
 ghost use Rattle.model.specs.Block.{Block, and};

@@ -1,4 +1,6 @@
 // The words of conditions in postfix, the forms of conditions, and passes over such words with a stack.
+#![tactic(auto)]
+
 use bounds::DEPTH;
 
 // Condition words: the operators, and the first input term; the others follow it.

@@ -1,4 +1,6 @@
 // Crisp values as distances above the lowest, which are natural numbers; their order; and a crisp value as a float.
+#![tactic(auto)]
+
 ghost use Rattle.std.specs.Prelude.{◌≡◌, ◌≤◌, pos, ◌-ℤ◌};
 ghost use Rattle.std.specs.Int.Signed.{lt_z, le_z};
 ghost use Rattle.model.specs.Block.{in_range};

@@ -1,4 +1,6 @@
 // How what the public functions hand back crosses to a host in C or Rust; the held record crosses as it is.
+#![tactic(auto)]
+
 ghost use Rattle.std.specs.Prelude.{◌≡◌};
 ghost use Rattle.crossing.specs.Crossing.{fresh_of, evaluation_of, reply_of};
 

@@ -1,5 +1,7 @@
 // Where reading stands: the current token, or the refusal that ended it. A refused reading stands at an end, so that no
 // later step finds what it asks for, and only the first refusal is kept.
+#![tactic(auto)]
+
 ghost use Rattle.std.specs.Prelude.{◌≡◌, List, [], ℕ, ◌≤◌, ◌<◌};
 ghost use Rattle.model.specs.Block.{Block};
 ghost use Rattle.model.specs.Keywords.{NAME, END};

@@ -1,4 +1,6 @@
 // Evaluation for daily use: the host lends one held record and finds it brought up to date.
+#![tactic(auto)]
+
 ghost use Rattle.model.specs.Evaluation.{evaluate, Tells, leaving};
 
 use evaluation::evaluate;

@@ -1,5 +1,7 @@
 // The declarations of an accepted image's variables as a listing prints them. Each text is written from its end to its
 // front.
+#![tactic(auto)]
+
 ghost use Rattle.std.specs.Prelude.{◌≤◌, ◌<◌};
 ghost use Rattle.model.specs.Basic.{gather};
 ghost use Rattle.model.specs.Image.{word_at, input_at, output_at, decode};

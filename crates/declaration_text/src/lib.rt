@@ -1,4 +1,6 @@
 // The block's name, and its variables in VAR_INPUT and VAR_OUTPUT: names with commas, a colon, the type, a semicolon.
+#![tactic(auto)]
+
 ghost use Rattle.std.specs.Prelude.{◌≡◌, true, List, ℕ, ◌≤◌, ◌<◌};
 ghost use Rattle.model.specs.Block.{Block, with_name};
 ghost use Rattle.model.specs.Parse.{own_name, listed, repeated};

@@ -1,4 +1,6 @@
 // From the heights of the output terms to the answer of each output, and the held record after it.
+#![tactic(auto)]
+
 ghost use Rattle.std.specs.Prelude.{◌≡◌, map, ◌≤◌, ◌<◌};
 ghost use Rattle.model.specs.Image.{word_at, singleton_at};
 ghost use Rattle.model.specs.Evaluation.{no_answer, padded, held_of};

@@ -1,4 +1,6 @@
 // The DEFUZZIFY parts of an accepted image as a listing prints them. Each text is written from its end to its front.
+#![tactic(auto)]
+
 ghost use Rattle.std.specs.Prelude.{◌+◌, ◌≤◌, ◌<◌};
 ghost use Rattle.model.specs.Basic.{gather, tab};
 ghost use Rattle.model.specs.Image.{word_at, singleton_at, output_at, decode};

@@ -1,4 +1,6 @@
 // DEFUZZIFY parts: an optional RANGE, the terms with one number each, the method and the default.
+#![tactic(auto)]
+
 ghost use Rattle.std.specs.Prelude.{◌≡◌, List, ℕ, ◌+◌, ◌*◌, ◌≤◌, ◌<◌, length};
 ghost use Rattle.std.proofs.Math.Seq.{slice};
 ghost use Rattle.model.specs.Bounds.{output_limit, term_limit, output_term_limit};

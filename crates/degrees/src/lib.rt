@@ -1,4 +1,6 @@
 // The operators on degrees, the three pairs for AND and OR, and the accumulation of heights.
+#![tactic(auto)]
+
 ghost use Rattle.std.specs.Prelude.{◌≡◌, ◌≤◌, min, max};
 ghost use Rattle.model.specs.Bounds.{M};
 ghost use Rattle.model.specs.Block.{and, or};

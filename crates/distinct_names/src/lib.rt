@@ -1,4 +1,6 @@
 // Which names of tables are distinct: one beside a table, the names of one table and of two.
+#![tactic(auto)]
+
 ghost use Rattle.std.specs.Prelude.{◌≡◌, ◌+◌, ◌*◌, ◌-◌, ◌≤◌, length};
 ghost use Rattle.model.specs.Basic.{distinct, same, tab};
 ghost use Rattle.model.specs.Image.{word_at};

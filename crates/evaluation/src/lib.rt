@@ -1,4 +1,6 @@
 // One evaluation call, and the fresh held record, of any bytes: the load check, 11, before all.
+#![tactic(auto)]
+
 ghost use Rattle.std.specs.Prelude.{◌≡◌};
 ghost use Rattle.model.specs.Outcome.{verdict_in};
 ghost use Rattle.model.specs.Refusals.{verdict_of};

@@ -1,4 +1,6 @@
 // From the values of the inputs to the degrees of their terms, by an accepted image.
+#![tactic(auto)]
+
 ghost use Rattle.std.specs.Prelude.{◌≡◌};
 ghost use Rattle.model.specs.Bounds.{input_term_limit};
 ghost use Rattle.model.specs.Evaluation.{term_degrees};

@@ -1,4 +1,6 @@
 // The FUZZIFY parts of an accepted image as a listing prints them. Each text is written from its end to its front.
+#![tactic(auto)]
+
 ghost use Rattle.std.specs.Prelude.{◌≡◌, true, map, ◌+◌, ◌≤◌, ◌<◌};
 ghost use Rattle.model.specs.Basic.{all, gather, tab};
 ghost use Rattle.model.specs.Bounds.{point_limit};

@@ -1,5 +1,7 @@
 // FUZZIFY parts: the terms of an input, each a name and two to four points whose positions do not fall, no three of them
 // the same.
+#![tactic(auto)]
+
 ghost use Rattle.std.specs.Prelude.{◌≡◌, true, ℕ, ◌+◌, ◌*◌, ◌≤◌, ◌<◌, length};
 ghost use Rattle.model.specs.Bounds.{input_limit, term_limit, point_limit, input_term_limit};
 ghost use Rattle.model.specs.Tokens.{value_of};

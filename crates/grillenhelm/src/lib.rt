@@ -1,6 +1,8 @@
 // The public functions as a host in C or Rust calls them: bytes and the held record are lent, everything else goes by
 // value, outcomes and marks are document 01's numbers. Each function is the public one that it stands for, of any bytes
 // and any values.
+#![tactic(auto)]
+
 ghost use Rattle.std.specs.Prelude.{◌≡◌, map, length};
 ghost use Rattle.model.specs.Outcome.{buffer_after};
 ghost use Rattle.model.specs.Image.{loads};

@@ -1,4 +1,6 @@
 // The header of a stored image, read once, and the rows of its tables by name.
+#![tactic(auto)]
+
 ghost use Rattle.std.specs.Prelude.{◌≡◌, ℕ, ◌*◌, ◌≤◌, length};
 ghost use Rattle.model.specs.Image.{header_size, word_at, layout_word, input_place, output_place, term_place, point_place, rule_place, conclusion_place};
 ghost use Rattle.header.specs.Header.{Heads};

@@ -1,4 +1,6 @@
 // The held record of an accepted image: whether one may be passed in, and the fresh one.
+#![tactic(auto)]
+
 ghost use Rattle.std.specs.Prelude.{◌≡◌, ◌-◌, ◌≤◌, ◌<◌, eqb, nat_abs};
 ghost use Rattle.model.specs.Basic.{all, tab};
 ghost use Rattle.model.specs.Bounds.{output_limit};

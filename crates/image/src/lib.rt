@@ -1,4 +1,6 @@
 // The image of a block, written into a lent buffer word by word once there is room for all of it.
+#![tactic(auto)]
+
 ghost use Rattle.std.specs.Prelude.{◌≡◌, ◌+◌, ◌*◌, ◌≤◌, List, ◌++◌, length};
 ghost use Rattle.std.proofs.Math.Seq.{slice};
 ghost use Rattle.model.specs.Bounds.{input_limit, output_limit, point_limit, rule_limit, word_limit, conclusion_limit, input_term_limit, output_term_limit, all_term_limit};

@@ -1,1 +1,2 @@
 // Laws of images: the load check accepts the images of well-formed blocks and nothing else. Proofs only.
+#![tactic(auto)]

@@ -1,4 +1,6 @@
 // From an accepted image and the readings of a call to the values of the inputs.
+#![tactic(auto)]
+
 ghost use Rattle.std.specs.Prelude.{◌≡◌, ◌<◌, pos, length};
 ghost use Rattle.model.specs.Bounds.{input_limit};
 ghost use Rattle.model.specs.Image.{word_at, input_at, decode};

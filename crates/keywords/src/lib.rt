@@ -1,6 +1,8 @@
 // The keywords, in any case. Each is alone in its slot, a number by its length, first byte and last byte, so that a word
 // is compared with one of them at most. A letter and its capital lie 32 apart, and 32 times 8 and 32 times 152 are
 // nothing by 256: so case does not count in slots.
+#![tactic(auto)]
+
 ghost use Rattle.std.specs.Prelude.{◌≡◌, true, [], map, ◌+◌, ◌*◌, ◌%◌, ◌≤◌, ◌<◌, ltb, length, get_or};
 ghost use Rattle.model.specs.Basic.{alike};
 ghost use Rattle.model.specs.Keywords.{keywords, keyword_at};

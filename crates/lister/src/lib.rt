@@ -1,4 +1,6 @@
 // The lister: a stored image to its text, or the refusal by number.
+#![tactic(auto)]
+
 ghost use Rattle.std.specs.Prelude.{◌≡◌, length};
 ghost use Rattle.model.specs.Outcome.{length_in, buffer_after};
 ghost use Rattle.model.specs.Refusals.{written_of};

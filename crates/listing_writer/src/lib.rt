@@ -1,5 +1,7 @@
 // Bytes of a listing, written from the end of a lent buffer to its front: numbers and conditions are read from their
 // ends, so each is written in one pass. k counts the bytes written already; what does not fit is only counted.
+#![tactic(auto)]
+
 ghost use Rattle.std.specs.Prelude.{[], ◌∷◌, ◌+◌, ◌≤◌, length};
 ghost use Rattle.listing_writer.specs.Prepends.{Prepends};
 

@@ -1,4 +1,6 @@
 // The load check: any bytes are accepted, or refused with 11.
+#![tactic(auto)]
+
 ghost use Rattle.std.specs.Prelude.{◌≡◌};
 ghost use Rattle.model.specs.Outcome.{verdict_in};
 ghost use Rattle.model.specs.Refusals.{verdict_of};

@@ -1,4 +1,6 @@
 // Nearest quotients of any length, each turn by the largest shift.
+#![tactic(auto)]
+
 ghost use Rattle.std.specs.Prelude.{◌≡◌, ◌+◌, ◌*◌, ◌^◌, ◌≤◌, ◌<◌};
 ghost use Rattle.model.specs.Degrees.{nearest};
 

@@ -1,4 +1,6 @@
 // Lookup of a name: the names declared so far are places in the text, and are compared with it there.
+#![tactic(auto)]
+
 ghost use Rattle.std.specs.Prelude.{◌≡◌, ◌+◌, ◌≤◌, length};
 ghost use Rattle.std.proofs.Math.Seq.{slice};
 ghost use Rattle.model.specs.Basic.{index_of, tab};

@@ -1,4 +1,6 @@
 // The degree of a value in a stored term: its membership function, by the term's points.
+#![tactic(auto)]
+
 ghost use Rattle.std.specs.Prelude.{◌≡◌, true, ◌+◌, ◌-◌, ◌≤◌, ◌<◌, ◌≤ℤ◌};
 ghost use Rattle.model.specs.Basic.{all, tab};
 ghost use Rattle.model.specs.Bounds.{M};

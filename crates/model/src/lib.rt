@@ -1,4 +1,5 @@
 // Document 01: the types that all layers share. What they mean is defined in specs/.
+#![tactic(auto)]
 
 // A crisp value, in thousandths.
 #[repr(C)]

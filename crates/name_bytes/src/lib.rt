@@ -1,4 +1,6 @@
 // The name that bytes start with, wherever they stand.
+#![tactic(auto)]
+
 ghost use Rattle.std.specs.Prelude.{◌≡◌, false, ◌||◌, ◌≤◌, length};
 ghost use Rattle.model.specs.Basic.{between};
 ghost use Rattle.name_bytes.specs.Names.{ends_name, tidy_at, tidy_end, name_length};

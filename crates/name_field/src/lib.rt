@@ -1,4 +1,6 @@
 // The bytes of a stored name, and where they end.
+#![tactic(auto)]
+
 ghost use Rattle.std.specs.Prelude.{◌≡◌, not, ◌≤◌, eqb, length};
 ghost use Rattle.model.specs.Basic.{run, tab};
 ghost use Rattle.model.specs.Image.{word_at, bytes_of};

@@ -1,1 +1,2 @@
 // Names by their words without case: definitions and laws for the load check.
+#![tactic(auto)]

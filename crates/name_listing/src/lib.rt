@@ -1,4 +1,6 @@
 // A stored name, as a listing prints it.
+#![tactic(auto)]
+
 ghost use Rattle.std.specs.Prelude.{◌≤◌};
 ghost use Rattle.model.specs.Image.{word_at, name_at};
 ghost use Rattle.listing_writer.specs.Prepends.{Prepends};

@@ -1,5 +1,7 @@
 // The nearest whole number to a fraction, a half toward plus, by shifts and subtractions. All rounding goes through this
 // crate, and nothing here divides but by a power of two.
+#![tactic(auto)]
+
 ghost use Rattle.std.specs.Prelude.{◌≡◌, ◌*◌, ◌^◌, ◌≤◌, ◌<◌};
 ghost use Rattle.model.specs.Degrees.{nearest};
 

@@ -1,4 +1,6 @@
 // Numbers as a listing prints them, each written from its last digit to its first.
+#![tactic(auto)]
+
 ghost use Rattle.std.specs.Prelude.{◌≡◌, ◌+◌, ◌<◌, nat_abs};
 ghost use Rattle.model.specs.Listing.{digits, trimmed, after_point, thousandths_text, crisp_text, unit_text};
 ghost use Rattle.listing_writer.specs.Prepends.{Prepends};

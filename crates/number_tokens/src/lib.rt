@@ -1,4 +1,6 @@
 // The number at the cursor: a crisp value, a degree or weight, a rule number; or by which refusal it is none.
+#![tactic(auto)]
+
 ghost use Rattle.std.specs.Prelude.{◌≡◌, [], ◌∷◌, ℕ, eqb, pos, if◌then◌else◌};
 ghost use Rattle.model.specs.Block.{Block};
 ghost use Rattle.model.specs.Keywords.{NUMBER};

@@ -1,5 +1,7 @@
 // Numbers by their text: crisp values, degrees and weights, rule numbers. Any bytes are taken, and what is
 // no number is told so.
+#![tactic(auto)]
+
 ghost use Rattle.std.specs.Prelude.{◌≡◌, ◌+◌, ◌-◌, ◌≤◌, eqb, length, drop};
 ghost use Rattle.std.proofs.Math.Seq.{slice};
 ghost use Rattle.model.specs.Tokens.{starts, unsigned, decimal, digits_fit, is_crisp, is_unit};

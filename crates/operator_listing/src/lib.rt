@@ -1,4 +1,6 @@
 // The operators of a stored condition: how each is printed, and the form of a condition, by which it is parenthesised.
+#![tactic(auto)]
+
 ghost use Rattle.std.specs.Prelude.{◌≡◌, ◌*◌, ◌≤◌, ◌<◌, length};
 ghost use Rattle.model.specs.Parentheses.{rank};
 ghost use Rattle.model.specs.Image.{word_at};

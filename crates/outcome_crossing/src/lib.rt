@@ -1,4 +1,6 @@
 // How outcomes cross to a host: document 01's numbers, and the place and the length beside them.
+#![tactic(auto)]
+
 ghost use Rattle.std.specs.Prelude.{◌≡◌};
 ghost use Rattle.model.specs.Outcome.{accepted};
 ghost use Rattle.model.specs.Refusals.{refusal_of, written_of, verdict_of};

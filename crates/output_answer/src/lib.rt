@@ -1,4 +1,6 @@
 // The answer of one output: fired, by the sums over its terms, or where no rule fired its default or what it held.
+#![tactic(auto)]
+
 ghost use Rattle.std.specs.Prelude.{◌≡◌, List, ℕ, ◌*◌, ◌≤◌, ◌<◌};
 ghost use Rattle.model.specs.Bounds.{M, term_limit};
 ghost use Rattle.model.specs.Image.{word_at, output_at, OUTPUTS};

@@ -1,4 +1,6 @@
 // A text in the midst of its declarations: where reading stands, and the tables so far.
+#![tactic(auto)]
+
 use block_tables::Tables;
 use cursor::Cursor;
 

@@ -1,4 +1,6 @@
 // The reader: an FCL text to its stored image, or the refusal by number and place.
+#![tactic(auto)]
+
 ghost use Rattle.std.specs.Prelude.{◌≡◌, length, ◌≤◌};
 ghost use Rattle.model.specs.Bounds.{text_limit};
 ghost use Rattle.model.specs.Outcome.{length_in, buffer_after};

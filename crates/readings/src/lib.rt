@@ -1,4 +1,6 @@
 // Readings as crisp values: the bits of a REAL to its nearest thousandth, an INT times 1000.
+#![tactic(auto)]
+
 ghost use Rattle.std.specs.Prelude.{◌≡◌, ◌*◌, ◌-◌, ◌^◌, ◌≤◌, ◌<◌, min, pos, ◌*ℤ◌};
 ghost use Rattle.model.specs.Bounds.{crisp_limit};
 ghost use Rattle.model.specs.Readings.{real_of, taken};

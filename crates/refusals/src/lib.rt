@@ -1,4 +1,6 @@
 // Refusals by number and place: one of the reader's made from them, and any told by them.
+#![tactic(auto)]
+
 ghost use Rattle.std.specs.Prelude.{◌≡◌, true, false, ℕ};
 ghost use Rattle.std.proofs.Math.Option.{some};
 ghost use Rattle.model.specs.Outcome.{refused};

@@ -1,4 +1,6 @@
 // Lists an image and reads the listing again: an accepted image comes back byte for byte, whatever the buffers held.
+#![tactic(auto)]
+
 ghost use Rattle.std.specs.Prelude.{◌≡◌, ◌<◌, length};
 ghost use Rattle.model.specs.Refusals.{refusal_of};
 ghost use Rattle.relisting.specs.Relists.{relists, answer_of, without_listing, listing_after, image_after};

@@ -1,4 +1,6 @@
 // The heading of a rule block, from RULEBLOCK to the semicolon of ACCU.
+#![tactic(auto)]
+
 ghost use Rattle.std.specs.Prelude.{◌≡◌, List, ℕ, ◌≤◌, ◌<◌};
 ghost use Rattle.model.specs.Basic.{◌▸◌};
 ghost use Rattle.model.specs.Block.{Block, with_rule_block};

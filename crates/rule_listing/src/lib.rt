@@ -1,4 +1,6 @@
 // The rules of a stored block as a listing prints them, and the rule block around them.
+#![tactic(auto)]
+
 ghost use Rattle.std.specs.Prelude.{◌<◌};
 ghost use Rattle.model.specs.Basic.{gather};
 ghost use Rattle.model.specs.Image.{word_at, decode, rule_at, pair_of, accu_of, act_of, RULES};

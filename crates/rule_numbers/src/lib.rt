@@ -1,4 +1,6 @@
 // The numbers of the rules of a stored image are distinct.
+#![tactic(auto)]
+
 ghost use Rattle.std.specs.Prelude.{◌≡◌, true, false, not, ◌+◌, ◌-◌, ◌<◌, eqb};
 ghost use Rattle.model.specs.Basic.{all, distinct, tab};
 ghost use Rattle.model.specs.Image.{word_at};

@@ -1,4 +1,6 @@
 // One rule of a stored image: its row, number, weight, conclusions and condition.
+#![tactic(auto)]
+
 ghost use Rattle.std.specs.Prelude.{◌≡◌, true, ◌+◌, ◌≤◌, ◌<◌};
 ghost use Rattle.model.specs.Basic.{between};
 ghost use Rattle.model.specs.Bounds.{rule_number_least, rule_number_limit};

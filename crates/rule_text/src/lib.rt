@@ -1,4 +1,6 @@
 // Rules from their text: the condition's words, the conclusions and the row of each rule behind those that are kept.
+#![tactic(auto)]
+
 ghost use Rattle.std.specs.Prelude.{◌≡◌, not, List, [], ◌∷◌, ℕ, ◌+◌, ◌*◌, ◌≤◌, ◌<◌, eqb, length};
 ghost use Rattle.model.specs.Basic.{all};
 ghost use Rattle.model.specs.Block.{Block, Rule, conclusions as conclusionsOf, with_weight};

@@ -1,4 +1,6 @@
 // Whether two names of a stored image are the same but for case.
+#![tactic(auto)]
+
 ghost use Rattle.std.specs.Prelude.{◌≡◌, ◌+◌, ◌*◌, ◌≤◌, ◌<◌, eqb, length};
 ghost use Rattle.model.specs.Basic.{same, tab};
 ghost use Rattle.model.specs.Image.{word_at};

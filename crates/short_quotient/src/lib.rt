@@ -1,4 +1,6 @@
 // Nearest quotients of at most a million, one bit a turn and no branch.
+#![tactic(auto)]
+
 ghost use Rattle.std.specs.Prelude.{◌≡◌, ◌+◌, ◌*◌, ◌/◌, ◌%◌, ◌<◌, ◌≤◌};
 ghost use Rattle.model.specs.Degrees.{nearest};
 

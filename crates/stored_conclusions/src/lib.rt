@@ -1,4 +1,6 @@
 // The conclusions of a stored image.
+#![tactic(auto)]
+
 ghost use Rattle.std.specs.Prelude.{◌≡◌, true, ◌&&◌, ◌+◌, ◌≤◌, ◌<◌, leb};
 ghost use Rattle.model.specs.Basic.{all, tab};
 ghost use Rattle.model.specs.WellFormed.{conclusion_ok};

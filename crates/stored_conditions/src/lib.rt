@@ -1,4 +1,6 @@
 // Which words of an image are a condition: one pass with a stack of forms and depths.
+#![tactic(auto)]
+
 ghost use Rattle.std.specs.Prelude.{◌≡◌, ◌+◌, ◌*◌, ◌≤◌, length};
 ghost use Rattle.model.specs.Image.{word_at};
 ghost use Rattle.condition_words.specs.Machine.{step, room, stack_of};

@@ -1,4 +1,6 @@
 // The header of a stored image, and its names: whether they are laid out as a block's.
+#![tactic(auto)]
+
 ghost use Rattle.std.specs.Prelude.{◌≡◌, ◌+◌, ◌*◌, ◌≤◌, ltb, eqb, length, if◌then◌else◌};
 ghost use Rattle.model.specs.Basic.{every};
 ghost use Rattle.model.specs.Image.{word_at, word_bytes, header_size};

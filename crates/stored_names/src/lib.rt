@@ -1,4 +1,6 @@
 // Whether a name stands at a place of a stored image.
+#![tactic(auto)]
+
 ghost use Rattle.std.specs.Prelude.{◌≡◌, ◌+◌, ◌*◌, ◌≤◌, length};
 ghost use Rattle.model.specs.Tokens.{is_name};
 ghost use Rattle.model.specs.Image.{word_at, name_at};

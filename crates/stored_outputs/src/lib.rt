@@ -1,4 +1,6 @@
 // The outputs of a stored image: names, counts, RANGE, terms, DEFAULT.
+#![tactic(auto)]
+
 ghost use Rattle.std.specs.Prelude.{◌≡◌, true, ◌+◌, ◌*◌, ◌≤◌, ◌<◌, length};
 ghost use Rattle.model.specs.Basic.{all, tab};
 ghost use Rattle.model.specs.WellFormed.{singleton_ok};

@@ -1,4 +1,6 @@
 // The points of a stored image: where each stands, its degree, and both.
+#![tactic(auto)]
+
 ghost use Rattle.std.specs.Prelude.{◌≡◌, ◌<◌};
 ghost use Rattle.model.specs.Image.{word_at, point_at};
 ghost use Rattle.header.specs.Header.{Heads, Covers};

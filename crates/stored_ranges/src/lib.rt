@@ -1,4 +1,6 @@
 // RANGE and DEFAULT of a stored output.
+#![tactic(auto)]
+
 ghost use Rattle.std.specs.Prelude.{◌≡◌, ◌+◌, ◌*◌, ◌≤◌, length};
 ghost use Rattle.model.specs.WellFormed.{range_ok, figure_ok, default_ok};
 ghost use Rattle.model.specs.Image.{word_at};

@@ -1,5 +1,7 @@
 // One row of each table of inputs, outputs and terms of a stored image: whether it is laid out as an entry's. The row
 // starts at o, and p is its first term or point.
+#![tactic(auto)]
+
 ghost use Rattle.std.specs.Prelude.{◌≡◌, ◌+◌, ◌*◌, ◌≤◌, length};
 ghost use Rattle.model.specs.Image.{word_at};
 ghost use Rattle.stored_rows.specs.Tests.{range_test, default_test, input_test, output_test, term_test, singleton_test};

@@ -1,4 +1,6 @@
 // The rules of a stored image: all rows, and their numbers.
+#![tactic(auto)]
+
 ghost use Rattle.std.specs.Prelude.{◌≡◌, true, ◌≤◌};
 ghost use Rattle.model.specs.Image.{word_at};
 ghost use Rattle.header.specs.Header.{Heads, Covers};

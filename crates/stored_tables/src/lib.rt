@@ -1,5 +1,7 @@
 // The tables of inputs, outputs, terms and points of a stored image, with its header: whether they are laid out as a
 // block's.
+#![tactic(auto)]
+
 ghost use Rattle.std.specs.Prelude.{◌≡◌, true, false, ◌+◌, ◌*◌, ◌≤◌, length};
 ghost use Rattle.model.specs.Basic.{every};
 ghost use Rattle.model.specs.Image.{word_at, header_size};

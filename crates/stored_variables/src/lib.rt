@@ -1,4 +1,6 @@
 // The variables of a stored image: the inputs, with the outputs their names, counts and terms.
+#![tactic(auto)]
+
 ghost use Rattle.std.specs.Prelude.{◌≡◌, true, ◌<◌};
 ghost use Rattle.model.specs.Basic.{all, tab};
 ghost use Rattle.model.specs.Image.{word_at};

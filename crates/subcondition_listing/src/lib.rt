@@ -1,4 +1,6 @@
 // An input and its term as a condition prints them.
+#![tactic(auto)]
+
 ghost use Rattle.std.specs.Prelude.{◌≡◌, [], ◌++◌, ◌≤◌, ◌<◌};
 ghost use Rattle.model.specs.Image.{word_at, name_at, decode, input_place, term_place};
 ghost use Rattle.model.specs.Listing.{input_term_name};

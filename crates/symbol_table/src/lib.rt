@@ -1,4 +1,6 @@
 // What the name at the cursor was declared as: an input, an output, or a term of one of them.
+#![tactic(auto)]
+
 ghost use Rattle.std.specs.Prelude.{◌≡◌, ℕ, ◌+◌, ◌*◌, ◌≤◌, ◌<◌, ltb, get_or, if◌then◌else◌};
 ghost use Rattle.model.specs.Bounds.{input_limit, output_limit, term_limit, variable_limit, input_term_limit};
 ghost use Rattle.cursor.specs.View.{Fits, text_of};

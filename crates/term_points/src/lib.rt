@@ -1,4 +1,6 @@
 // The points of a term in a stored image.
+#![tactic(auto)]
+
 ghost use Rattle.std.specs.Prelude.{◌≡◌, [], ◌+◌, ◌≤◌};
 ghost use Rattle.model.specs.Basic.{tab};
 ghost use Rattle.model.specs.Image.{word_at, point_at};

@@ -1,5 +1,7 @@
 // The tables of terms and points of an image, row by row from the tables that a text is read into. slots: the places of
 // the terms there, in the order of the image.
+#![tactic(auto)]
+
 ghost use Rattle.std.specs.Prelude.{◌≡◌, ℕ, ◌+◌, ◌*◌, ◌≤◌, ◌<◌, length, get_or};
 ghost use Rattle.model.specs.Bounds.{point_limit, input_term_limit, output_term_limit, all_term_limit};
 ghost use Rattle.model.specs.Image.{term_width, point_width};

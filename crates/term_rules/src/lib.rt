@@ -1,5 +1,7 @@
 // The rules for the points of an input term, of values wherever they stand: one point, the order of positions, the
 // number of points.
+#![tactic(auto)]
+
 ghost use Rattle.std.specs.Prelude.{◌≡◌};
 ghost use Rattle.model.specs.Basic.{between};
 ghost use Rattle.model.specs.Bounds.{point_least, point_limit};

@@ -1,4 +1,6 @@
 // The degree on the straight line between two points of a term.
+#![tactic(auto)]
+
 ghost use Rattle.std.specs.Prelude.{◌≡◌, ◌≤◌, ◌≤ℤ◌, ◌<ℤ◌};
 ghost use Rattle.model.specs.Bounds.{M};
 ghost use Rattle.model.specs.Degrees.{on_line};

@@ -1,4 +1,5 @@
 // The kinds of tokens, by the numbers that the definitions give them (model/specs/Keywords).
+#![tactic(auto)]
 
 // The end of the text, a wrong byte or word, a name, a number; `:=` and `..`; blanks and comments.
 pub const END: u8 = 0;

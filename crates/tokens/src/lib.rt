@@ -1,4 +1,6 @@
 // Tokens of a text: kind and place of its first one.
+#![tactic(auto)]
+
 ghost use Rattle.std.specs.Prelude.{◌≡◌, ◌∷◌, true, false, ◌&&◌, suc, ◌+◌, ◌≤◌, ◌<◌, eqb, length, drop, get_or, if◌then◌else◌};
 ghost use Rattle.model.specs.Basic.{run};
 ghost use Rattle.model.specs.Tokens.{is_blank, is_digit, starts_name, is_name_byte, is_sign, starts, tidy, word_kind, point_part, number_part, comment_part, comment_piece, word_piece, piece_at, tokens};

@@ -1,5 +1,7 @@
 // The tables of variables of an image, row by row from the tables that a text is read into, and the places of their
 // terms in the order of the image.
+#![tactic(auto)]
+
 ghost use Rattle.std.specs.Prelude.{◌≡◌, ◌++◌, ℕ, ◌+◌, ◌*◌, ◌≤◌, ◌<◌, length};
 ghost use Rattle.std.proofs.Math.Seq.{slice};
 ghost use Rattle.model.specs.Basic.{tab};

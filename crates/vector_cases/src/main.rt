@@ -1,5 +1,7 @@
 // Runs the cases of the files in data/, which were worked out elsewhere, and writes lines for each, behind one with the
 // name of the file.
+#![tactic(auto)]
+
 mod calls;
 mod chunks;
 mod images;

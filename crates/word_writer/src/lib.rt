@@ -1,4 +1,6 @@
 // Words written into a lent buffer, little-endian; places in it are counted in words.
+#![tactic(auto)]
+
 ghost use Rattle.std.specs.Prelude.{◌≡◌, [], ◌∷◌, ◌+◌, ◌*◌, ◌≤◌, length, take};
 ghost use Rattle.word_writer.specs.Over.{over, Wrote};
 

@@ -1,5 +1,7 @@
 // The words of a stored image, read where they stand: a word that is known to lie within it by one load, any other
 // with zeros past the end.
+#![tactic(auto)]
+
 ghost use Rattle.std.specs.Prelude.{◌≡◌, ◌+◌, ◌*◌, ◌≤◌, length, get_or};
 ghost use Rattle.model.specs.Image.{word_at, crisp_of};
 
