@@ -3,7 +3,9 @@
 ghost use Rattle.std.specs.Prelude.{◌≤◌};
 
 use model::{Crisp, Held, Reading};
-use vectors::{Case, next_case, write_evaluation, write_fresh};
+use std::io;
+use std::io::{Read, Write};
+use vectors::{Case, case_buffer, next_case, write_evaluation, write_fresh};
 use words::{crisp_at, word};
 
 // The float of a pattern; a NaN's pattern gives a NaN.
@@ -68,49 +70,50 @@ fn held_of(call: &[u8]) -> Held {
 }
 
 // A call is 23 words: the count, eight readings, the held record.
-fn run_words(img: &[u8], call: &[u8]) {
+fn run_words<W: Write>(to: &mut W, img: &[u8], call: &[u8]) -> io::Result<()> {
     let n = word(call, 0);
     let readings = readings_of(call);
     let held = held_of(call);
-    write_evaluation(evaluation::evaluate(img, readings, n, held));
-    write_evaluation(daily::evaluate_lending(img, readings, n, held));
+    write_evaluation(to, evaluation::evaluate(img, readings, n, held))?;
+    write_evaluation(to, daily::evaluate_lending(img, readings, n, held))
 }
 
 // False behind the last call, which an empty case marks.
-fn run_call(fd: i32, img: &[u8]) -> bool {
+fn run_call<R: Read, W: Write>(file: &mut R, to: &mut W, img: &[u8]) -> io::Result<bool> {
     let mut call = [0u8; 92];
-    match next_case(fd, &mut call) {
-        Case::End => false,
+    match next_case(file, &mut call) {
+        Case::End => Ok(false),
         Case::Bytes(n) => {
             if n != 92 {
-                return false;
+                return Ok(false);
             }
-            run_words(img, &call);
-            true
+            run_words(to, img, &call)?;
+            Ok(true)
         }
     }
 }
 
-fn run_calls(fd: i32, img: &[u8]) {
+fn run_calls<R: Read, W: Write>(file: &mut R, to: &mut W, img: &[u8]) -> io::Result<()> {
     let mut i = 0u32;
-    while i < 100000 && run_call(fd, img) {
+    while i < 100000 && run_call(file, to, img)? {
         i += 1;
     }
+    Ok(())
 }
 
-fn run_image(fd: i32, img: &[u8]) {
-    write_fresh(evaluation::fresh_of(img));
-    run_calls(fd, img);
+fn run_image<R: Read, W: Write>(file: &mut R, to: &mut W, img: &[u8]) -> io::Result<()> {
+    write_fresh(to, evaluation::fresh_of(img))?;
+    run_calls(file, to, img)
 }
 
 // An image and its calls. False at the end of the file.
-pub fn run_case(fd: i32) -> bool {
-    let mut img = io::large_buffer();
-    match next_case(fd, &mut img) {
-        Case::End => false,
+pub fn run_case<R: Read, W: Write>(file: &mut R, to: &mut W) -> io::Result<bool> {
+    let mut img = case_buffer();
+    match next_case(file, &mut img) {
+        Case::End => Ok(false),
         Case::Bytes(n) => {
-            run_image(fd, &img[..n]);
-            true
+            run_image(file, to, &img[..n])?;
+            Ok(true)
         }
     }
 }

@@ -1,8 +1,11 @@
 // Runs the load check on each image of data/images and writes a line for each: the number of the refusal, or 0. Of an
 // image that is refused, lines for its fresh record, for a call on it and for its listing follow.
 use model::{Crisp, Held, Reading, Verdict};
+use std::io;
+use std::io::{Read, Write};
 use vectors::{
-    Case, listing_buffer, next_case, write_evaluation, write_fresh, write_refused, write_verdict,
+    Case, case_buffer, listing_buffer, next_case, write_evaluation, write_fresh, write_refused,
+    write_verdict,
 };
 
 // A record that no refusal may change.
@@ -19,35 +22,35 @@ fn lent_record() -> Held {
     }
 }
 
-fn run_refused(img: &[u8]) {
-    write_fresh(evaluation::fresh_of(img));
+fn run_refused<W: Write>(to: &mut W, img: &[u8]) -> io::Result<()> {
+    write_fresh(to, evaluation::fresh_of(img))?;
     let none = Reading::Absent;
     let readings = [none, none, none, none, none, none, none, none];
     let held = lent_record();
-    write_evaluation(evaluation::evaluate(img, readings, 9, held));
+    write_evaluation(to, evaluation::evaluate(img, readings, 9, held))?;
     let mut out = listing_buffer();
     let w = lister::list(img, &mut out);
-    write_refused(w, &out);
+    write_refused(to, w, &out)
 }
 
-fn run_image(img: &[u8]) {
+fn run_image<W: Write>(to: &mut W, img: &[u8]) -> io::Result<()> {
     let v = load::check(img);
-    write_verdict(v);
-    io::write_all(1, b"\n");
+    write_verdict(to, v)?;
+    to.write_all(b"\n")?;
     match v {
-        Verdict::Accepted => {}
-        Verdict::Refused(_) => run_refused(img),
+        Verdict::Accepted => Ok(()),
+        Verdict::Refused(_) => run_refused(to, img),
     }
 }
 
 // False at the end of the file.
-pub fn run_case(fd: i32) -> bool {
-    let mut img = io::large_buffer();
-    match next_case(fd, &mut img) {
-        Case::End => false,
+pub fn run_case<R: Read, W: Write>(file: &mut R, to: &mut W) -> io::Result<bool> {
+    let mut img = case_buffer();
+    match next_case(file, &mut img) {
+        Case::End => Ok(false),
         Case::Bytes(n) => {
-            run_image(&img[..n]);
-            true
+            run_image(to, &img[..n])?;
+            Ok(true)
         }
     }
 }

@@ -4,15 +4,17 @@
 ghost use Rattle.std.specs.Prelude.{◌≡◌, length};
 
 use model::Written;
+use std::io;
+use std::io::{Read, Write};
 use vectors::{Case, image_buffer, next_case, write_image};
 
 // The line of one reading, and how long the image is; 0 where there is none.
-fn run_reading(text: &[u8], out: &mut [u8]) -> usize {
+fn run_reading<W: Write>(to: &mut W, text: &[u8], out: &mut [u8]) -> io::Result<usize> {
     let w = reader::read(text, out);
-    write_image(w, out);
+    write_image(to, w, out)?;
     match w {
-        Written::Bytes(n) => n,
-        Written::Refused(_) => 0,
+        Written::Bytes(n) => Ok(n),
+        Written::Refused(_) => Ok(0),
     }
 }
 
@@ -24,30 +26,32 @@ fn long_buffer() -> [u8; 65537]
 }
 
 // Into the first n bytes of a buffer.
-fn run_room(text: &[u8], n: usize) {
+fn run_room<W: Write>(to: &mut W, text: &[u8], n: usize) -> io::Result<()> {
     if n <= 16384 {
         let mut out = image_buffer();
-        run_reading(text, &mut out[..n]);
+        run_reading(to, text, &mut out[..n])?;
     }
+    Ok(())
 }
 
-fn run_text(text: &[u8]) {
+fn run_text<W: Write>(to: &mut W, text: &[u8]) -> io::Result<()> {
     let mut out = image_buffer();
-    let n = run_reading(text, &mut out);
+    let n = run_reading(to, text, &mut out)?;
     if 0 < n {
-        run_room(text, n);
-        run_room(text, n - 1);
+        run_room(to, text, n)?;
+        run_room(to, text, n - 1)?;
     }
+    Ok(())
 }
 
 // False at the end of the file.
-pub fn run_case(fd: i32) -> bool {
+pub fn run_case<R: Read, W: Write>(file: &mut R, to: &mut W) -> io::Result<bool> {
     let mut text = long_buffer();
-    match next_case(fd, &mut text) {
-        Case::End => false,
+    match next_case(file, &mut text) {
+        Case::End => Ok(false),
         Case::Bytes(n) => {
-            run_text(&text[..n]);
-            true
+            run_text(to, &text[..n])?;
+            Ok(true)
         }
     }
 }

@@ -1,0 +1,8 @@
+use Rattle.std.proofs.Common.{◌-◌, ◌≤◌}
+use Rattle.vector_cases.proofs.calls.run_calls.Given as goal
+
+abbrev pub invariant-loop-i : goal.invariant-loop-i
+invariant-loop-i g l = l.i ≤ 100000
+
+abbrev pub decreases-loop-i : goal.decreases-loop-i
+decreases-loop-i g l = 100000 - l.i
