@@ -57,13 +57,13 @@ def declared():
         for k, l in enumerate(lines):
             if l and not l.startswith(" "):
                 section = l.startswith("module _")
-            m = re.match(r"(?:  )?(?:(?:abbrev|unfoldable|pub) )*(" + NAME + r") :(?: |$)", l)
-            if m and (section or not l.startswith(" ")):
-                deep = "   " if l.startswith(" ") else " "
+            m = re.match(r" *(?:(?:abbrev|unfoldable|pub) )*(" + NAME + r") :(?: |$)", l)
+            if m and (section or not l.startswith(" ") or l.startswith("    ")):
+                deep = " " * (len(l) - len(l.lstrip(" ")) + 1)
                 s, j = l, k + 1
                 while j < len(lines) and lines[j].startswith(deep):
                     s, j = s + " " + lines[j].strip(), j + 1
-                if " : tie." in s or " : {M : Type 1} → statement" in s or "-lts." in s:
+                if " : tie." in s or " : goal." in s or " : {M : Type 1} → statement" in s or "-lts." in s:
                     continue
                 tops.add(m[1])
                 if "/specs/" in p:

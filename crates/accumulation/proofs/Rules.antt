@@ -21,7 +21,7 @@ use Rattle.laws.proofs.Tests.{both, passed}
 use Rattle.layout.specs.Tables.{input_terms_in}
 use Rattle.layout.specs.Groups.{Sound, variables_ok}
 use Rattle.layout.proofs.Sound.{own_few, input_terms_lem}
-use Rattle.layout.proofs.Rules.{rule-parts, conclusion-good}
+use Rattle.layout.proofs.Rules.{rule_parts, conclusion_good}
 
 -- by the number that the code matches
 pub pair_last : (x : ℕ) → (x ≡ 0 → ⊥) → (x ≡ 1 → ⊥) → BdifBsum ≡ pair_of x
@@ -62,18 +62,18 @@ module _ (w : ℕ → ℕ) (ok : Sound w) where
     abbrev row : ℕ
     row = rule_place w i
 
-    pub weight-small : w (row + 5) ≤ M
+    pub weight_small : w (row + 5) ≤ M
     unfolding unit_ok rule_at
-    weight-small = leb-true _ _ (both (leb (w (row + 5)) M) (eqb (w (row + 5) % 1000) 0) (rule-parts w ok i h).2).0
+    weight_small = leb-true _ _ (both (leb (w (row + 5)) M) (eqb (w (row + 5) % 1000) 0) (rule_parts w ok i h).2).0
 
     -- a conclusion's term is an output's
-    conclusion-term : (j : ℕ) → j < w (row + 4) →
+    conclusion_term : (j : ℕ) → j < w (row + 4) →
         let t = (conclusion_at w (w (row + 3) + j)).term in
         (input_terms_in w ≤ t) × (t < input_terms_in w + output_term_limit)
     unfolding conclusion_ok output_first singletons_of rule_at
-    conclusion-term j l =
+    conclusion_term j l =
         let k = conclusion_at w (w (row + 3) + j) in
-        let q = passed _ (conclusion-good w ok i h j l) in
+        let q = passed _ (conclusion_good w ok i h j l) in
         let lo : output_first k.output (decode w) ≤ k.term = leb-true _ _ q.1.0 in
         let hi : k.term < output_first k.output (decode w) + length (singletons_of k.output (decode w)) = ltb-true _ _ q.1.1.0 in
         omega (arith, lo, hi, input_terms_lem w ok.frame, outputs_few.0, terms_before (decode w).outputs k.output outputs_few.1)
@@ -82,6 +82,6 @@ module _ (w : ℕ → ℕ) (ok : Sound w) where
         → (t ≡ (conclusion_at w (first + j)).term) × (input_terms_in w ≤ t) × (t < input_terms_in w + output_term_limit)
     unfolding conclusion_at
     term_read first n j t ef en l et =
-        let q = conclusion-term j (omega (arith, en)) in
+        let q = conclusion_term j (omega (arith, en)) in
         let g : t ≡ (conclusion_at w (w (row + 3) + j)).term = et ∙ ap (λ (x : ℕ). w (conclusion_place w (x + j) + 1)) ef in
         (et, omega (arith, g, q.0), omega (arith, g, q.1))

@@ -26,7 +26,7 @@ use Rattle.condition_words.proofs.Stacks.{length_stack}
 use Rattle.layout.specs.Tables.{words_in}
 use Rattle.layout.specs.Groups.{Sound, rules_ok}
 use Rattle.layout.proofs.Parts.{conditions_are}
-use Rattle.layout.proofs.Rules.{rules_few, rule-parts}
+use Rattle.layout.proofs.Rules.{rules_few, rule_parts}
 use Rattle.aggregation.specs.Stacks.{places, by_degrees}
 
 -- the first n values of f, the last on top
@@ -96,7 +96,7 @@ module _ (w : ℕ → ℕ) (ok : Sound w) (p : Pair) (ds : List ℕ) where
   unfolding top_first condition_ok
   one_left i rest h =
       let c = (rule_at w i).condition in
-      let q = both (terms_below (length (input_terms (decode w))) c) (leb (depth c) depth_limit) (rule-parts w ok i h).0 in
+      let q = both (terms_below (length (input_terms (decode w))) c) (leb (depth c) depth_limit) (rule_parts w ok i h).0 in
       let room = fits places c (length (top_first f i)) (leb-true _ _ q.1) (omega (arith, length_top f i, rules_few w ok)) in
       pass_on g c rest (top_first f i) (allowed p ds _ c q.0) room
       ∙ ap (λ (x : ℕ). pass g rest (some (x ∷ top_first f i))) (fold_degree p ds _ c)

@@ -55,20 +55,20 @@ module _ (b : Block) (rs : List Reading) (n : ℕ) (h : Held) where
   called_12 f = simp (ne_eqb n (length b.inputs) f)
 
   module _ (e : n ≡ length b.inputs) where
-    pub called-13 : held_ok b.outputs (figures_of h) ≡ false → evaluate_block b rs n h ≡ refused 13 none
+    pub called_13 : held_ok b.outputs (figures_of h) ≡ false → evaluate_block b rs n h ≡ refused 13 none
     unfolding evaluate_block
-    called-13 f = simp (eq-eqb n (length b.inputs) e, f)
+    called_13 f = simp (eq-eqb n (length b.inputs) e, f)
 
     module _ (f : held_ok b.outputs (figures_of h) ≡ true) where
-      pub called-14 : length (values_read b.inputs rs) < length b.inputs → evaluate_block b rs n h ≡ refused 14 (some (length (values_read b.inputs rs)))
+      pub called_14 : length (values_read b.inputs rs) < length b.inputs → evaluate_block b rs n h ≡ refused 14 (some (length (values_read b.inputs rs)))
       unfolding evaluate_block
-      called-14 l =
+      called_14 l =
           simp (eq-eqb n (length b.inputs) e, f, values_wrong 0 b.inputs rs l) (ap (λ (i : ℕ). refused 14 (some i)) (omega arith))
 
-      pub called-ok : length b.inputs ≤ length (values_read b.inputs rs)
+      pub called_ok : length b.inputs ≤ length (values_read b.inputs rs)
           → evaluate_block b rs n h ≡ accepted (call_result (block_answers b (values_read b.inputs rs) (figures_of h)))
       unfolding evaluate_block
-      called-ok l = simp (eq-eqb n (length b.inputs) e, f, values_right 0 b.inputs rs l)
+      called_ok l = simp (eq-eqb n (length b.inputs) e, f, values_right 0 b.inputs rs l)
 
 -- HEIGHTS by degrees that agree
 module _ (ds es : List ℕ) (agree : (t : ℕ) → get_or ds t 0 ≡ get_or es t 0) where

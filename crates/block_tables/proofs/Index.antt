@@ -49,19 +49,19 @@ module _ {A : Type 0} (start end : A → ℕ) (d : A) (q : ℕ → ℕ) (n : ℕ
     pub rows_apart : (k a e : ℕ) → k < symbol_limit → ((j : ℕ) → j < n → q j ≡ k → ⊥) → Rows names l → Rows (put names k a e) l
     rows_apart k a e h c r j b = stands_other names k a e h (q j) _ _ (low j b) (c j b) (r j b)
 
-    pub rows-put : (k : ℕ) (v : A) → k < n → n ≤ length l → ((j : ℕ) → q j ≡ q k → j ≡ k) → length names ≡ symbol_limit * 2
+    pub rows_put : (k : ℕ) (v : A) → k < n → n ≤ length l → ((j : ℕ) → q j ≡ q k → j ≡ k) → length names ≡ symbol_limit * 2
         → Rows names l → Rows (put names (q k) (start v) (end v)) (set l k v)
-    rows-put k v h s c z r j b = by (eqb j k) refl
+    rows_put k v h s c z r j b = by (eqb j k) refl
       where
-        at-k : Stands (put names (q k) (start v) (end v)) (q k) (start (get_or (set l k v) k d)) (end (get_or (set l k v) k d))
-        at-k =
+        at_k : Stands (put names (q k) (start v) (end v)) (q k) (start (get_or (set l k v) k d)) (end (get_or (set l k v) k d))
+        at_k =
             let w = stands_same names (q k) (start v) (end v) (low k h) z in
             let g = sym (get_or-set_same l k v d (omega arith)) in
             (w.0 ∙ ap start g, w.1 ∙ ap end g)
 
         by : (t : Bool) → eqb j k ≡ t → Stands (put names (q k) (start v) (end v)) (q j) (start (get_or (set l k v) j d)) (end (get_or (set l k v) j d))
         by true f = subst (λ (i : ℕ). Stands (put names (q k) (start v) (end v)) (q i) (start (get_or (set l k v) i d)) (end (get_or (set l k v) i d)))
-            (sym (eqb-true j k f)) at-k
+            (sym (eqb-true j k f)) at_k
         by false f =
             let o = eqb-false j k f in
             let w = stands_other names (q k) (start v) (end v) (low k h) (q j) _ _ (low j b) (λ x. o (c j x)) (r j b) in

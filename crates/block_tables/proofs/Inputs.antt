@@ -20,7 +20,7 @@ use Rattle.block_tables.specs.Changes.{Changes, named}
 use Rattle.block_tables.proofs.Fields.{tables_of, holds_of}
 use Rattle.block_tables.proofs.Tabs.{tab_more, tab_same, kept}
 use Rattle.block_tables.proofs.Views.{term_same, input_same, singleton_same, output_same}
-use Rattle.block_tables.proofs.Index.{put, rows-put, rows_apart}
+use Rattle.block_tables.proofs.Index.{put, rows_put, rows_apart}
 
 module _ (s : List ℕ) (t : Tables) (a e : ℕ) (g : Holds s t) (o : a ≤ e) (l : e ≤ length s) where
   pub is_named : Changes s t (named t a e) (with_name (slice a e s))
@@ -70,7 +70,7 @@ module _ (s : List ℕ) (t : Tables) (a e : ℕ) (h : t.input_count < input_limi
       let x = g.indexed in
       let z = t.names in
       record {
-        input = rows-put (λ v. v.start) (λ v. v.end) no_input (λ j. j) input_limit (λ j b. omega arith) z t.inputs n (input_at a e) h
+        input = rows_put (λ v. v.start) (λ v. v.end) no_input (λ j. j) input_limit (λ j b. omega arith) z t.inputs n (input_at a e) h
             (omega (arith, g.inputs_size)) (λ j q. q) g.names_size x.input;
         output = rows_apart (λ v. v.start) (λ v. v.end) no_output (λ j. input_limit + j) output_limit (λ j b. omega arith) z t.outputs n a e
             (omega arith) (λ j b q. omega arith) x.output;

@@ -24,13 +24,13 @@ module _ {A : Type 0} (f : ℕ → A) (n : ℕ) {vs : List A} (e : vs ≡ tab f 
   rows_count = ap length e ∙ length_tab f n 0
 
   module _ {B : Type 0} (g : A → B) (i : ℕ) (d : B) where
-    row-some : i < n → get_or (map g vs) i d ≡ g (f i)
-    row-some h =
+    row_some : i < n → get_or (map g vs) i d ≡ g (f i)
+    row_some h =
         ap (λ (us : List A). get_or (map g us) i d) e ∙ ap (λ (us : List B). get_or us i d) (map_tab g f n 0)
         ∙ tab_nth (λ k. g (f k)) n 0 i d h ∙ ap (λ (k : ℕ). g (f k)) (omega arith)
 
-    row-none : n ≤ i → get_or (map g vs) i d ≡ d
-    row-none h = get_or-eq_default (map g vs) d (let z = rows_count in simp length-map (omega arith))
+    row_none : n ≤ i → get_or (map g vs) i d ≡ d
+    row_none h = get_or-eq_default (map g vs) d (let z = rows_count in simp length-map (omega arith))
 
   module _ (name : A → List ℕ) (s names : List ℕ) (p : ℕ) (q : (k : ℕ) → k < n → name_of s names (p + k) ≡ name (f k)) (w : List ℕ) where
     found : index_of (λ v. same_name w (name v)) vs ≡ index_of (same_name w) (tab (name_of s names) n p)
@@ -44,11 +44,11 @@ module _ (s : List ℕ) (t : Tables) (b : Block) (e : b.inputs ≡ inputs_view s
 
   pub terms_are : (i : ℕ) → i < t.input_count → terms_of i b ≡ tab (term_view s t i) (input_row t i).terms 0
   unfolding terms_of input_view
-  terms_are i = row-some (input_view s t) _ e (λ v. v.terms) i []
+  terms_are i = row_some (input_view s t) _ e (λ v. v.terms) i []
 
   pub terms_none : (i : ℕ) → t.input_count ≤ i → terms_of i b ≡ []
   unfolding terms_of
-  terms_none i = row-none (input_view s t) _ e (λ v. v.terms) i []
+  terms_none i = row_none (input_view s t) _ e (λ v. v.terms) i []
 
   pub terms_count : (i : ℕ) → i < t.input_count → length (terms_of i b) ≡ (input_row t i).terms
   terms_count i h = rows_count (term_view s t i) _ (terms_are i h)
@@ -77,18 +77,18 @@ module _ (s : List ℕ) (t : Tables) (b : Block) (e : b.outputs ≡ outputs_view
 
   pub singletons_are : (o : ℕ) → o < t.output_count → singletons_of o b ≡ tab (singleton_view s t o) (output_row t o).terms 0
   unfolding singletons_of output_view
-  singletons_are o = row-some (output_view s t) _ e (λ v. v.terms) o []
+  singletons_are o = row_some (output_view s t) _ e (λ v. v.terms) o []
 
   pub singletons_none : (o : ℕ) → t.output_count ≤ o → singletons_of o b ≡ []
   unfolding singletons_of
-  singletons_none o = row-none (output_view s t) _ e (λ v. v.terms) o []
+  singletons_none o = row_none (output_view s t) _ e (λ v. v.terms) o []
 
   pub singletons_count : (o : ℕ) → o < t.output_count → length (singletons_of o b) ≡ (output_row t o).terms
   singletons_count o h = rows_count (singleton_view s t o) _ (singletons_are o h)
 
   pub range_is : (o : ℕ) → o < t.output_count → range_of o b ≡ range_view (output_row t o)
   unfolding range_of output_view
-  range_is o = row-some (output_view s t) _ e (λ v. v.range) o none
+  range_is o = row_some (output_view s t) _ e (λ v. v.range) o none
 
   module _ (g : Holds s t) (w : List ℕ) where
     pub output_of_lem : output_of w b ≡ index_of (same_name w) (tab (name_of s t.names) t.output_count input_limit)

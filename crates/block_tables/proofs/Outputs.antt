@@ -18,7 +18,7 @@ use Rattle.block_tables.specs.Changes.{Changes}
 use Rattle.block_tables.proofs.Fields.{tables_of, holds_of}
 use Rattle.block_tables.proofs.Tabs.{tab_more, tab_same, kept}
 use Rattle.block_tables.proofs.Views.{term_same, input_same, singleton_same, output_same}
-use Rattle.block_tables.proofs.Index.{put, rows-put, rows_apart}
+use Rattle.block_tables.proofs.Index.{put, rows_put, rows_apart}
 
 -- a row of this name
 abbrev pub output_at : ℕ → ℕ → Output
@@ -71,7 +71,7 @@ module _ (s : List ℕ) (t : Tables) (a e : ℕ) (h : t.output_count < output_li
       record {
         input = rows_apart (λ v. v.start) (λ v. v.end) no_input (λ j. j) input_limit (λ j b. omega arith) z t.inputs p a e
             (omega arith) (λ j b q. omega arith) x.input;
-        output = rows-put (λ v. v.start) (λ v. v.end) no_output (λ j. input_limit + j) output_limit (λ j b. omega arith) z t.outputs n (output_at a e) h
+        output = rows_put (λ v. v.start) (λ v. v.end) no_output (λ j. input_limit + j) output_limit (λ j b. omega arith) z t.outputs n (output_at a e) h
             (omega (arith, g.outputs_size)) (λ j q. omega arith) g.names_size x.output;
         term = rows_apart (λ v. v.start) (λ v. v.end) no_term (λ j. variable_limit + j) input_term_limit (λ j b. omega arith) z t.input_terms p a e
             (omega arith) (λ j b q. omega arith) x.term;

@@ -19,7 +19,7 @@ use Rattle.block_tables.proofs.Fields.{tables_of, holds_of}
 use Rattle.block_tables.specs.Changes.{Changes}
 use Rattle.block_tables.proofs.Tabs.{tab_more, tab_same, tab_update, kept, field_stays}
 use Rattle.block_tables.proofs.Views.{term_same, input_same, singleton_same, output_same}
-use Rattle.block_tables.proofs.Index.{put, rows-put, rows_apart, rows_kept}
+use Rattle.block_tables.proofs.Index.{put, rows_put, rows_apart, rows_kept}
 
 -- one term more
 abbrev pub longer : Output → Output
@@ -99,7 +99,7 @@ module _ (s : List ℕ) (t : Tables) (o k : ℕ) (v : Singleton) (c : k ≡ o * 
             (omega arith) (λ j m q. omega arith) x.output);
         term = rows_apart (λ w. w.start) (λ w. w.end) no_term (λ j. variable_limit + j) input_term_limit (λ j m. omega arith) z t.input_terms p
             v.start v.end (omega arith) (λ j m q. omega arith) x.term;
-        singleton = rows-put (λ w. w.start) (λ w. w.end) no_singleton (λ j. variable_limit + input_term_limit + j) output_term_limit (λ j m. omega arith) z
+        singleton = rows_put (λ w. w.start) (λ w. w.end) no_singleton (λ j. variable_limit + input_term_limit + j) output_term_limit (λ j m. omega arith) z
             t.output_terms k v y (omega (arith, g.singletons_size)) (λ j q. omega arith) g.names_size x.singleton;
       }
 

@@ -130,8 +130,8 @@ module _ (s : List ℕ) (a b : Cursor) (n : BlockName) (x : Step (expect FUNCTIO
     takes : Reads (λ r. inputs_text (own_name with_name (expect FUNCTION_BLOCK r))) s (at a empty) (at i.cursor taking)
     takes = reading.next called (z (with_block_name n empty).tables called.good)
 
-    pub ready-outputs : Ready s (with_outputs i.count names₁ (no_outputs i.cursor))
-    ready-outputs = record { tables = taking; good = takes.good }
+    pub ready_outputs : Ready s (with_outputs i.count names₁ (no_outputs i.cursor))
+    ready_outputs = record { tables = taking; good = takes.good }
 
     module _ (names₂ : List ℕ) (o : DeclaredOutputs)
         (u : Collects outputs_text s (with_outputs i.count names₁ (no_outputs i.cursor)) (with_outputs i.count names₂ o)) where
@@ -141,8 +141,8 @@ module _ (s : List ℕ) (a b : Cursor) (n : BlockName) (x : Step (expect FUNCTIO
       gives : Reads (λ r. outputs_text (inputs_text (own_name with_name (expect FUNCTION_BLOCK r)))) s (at a empty) (at o.cursor giving)
       gives = reading.next takes (u taking takes.good)
 
-      pub ready-terms : Ready s (inputs_in names₂ (no_terms o.cursor i))
-      ready-terms = record { tables = giving; good = gives.good }
+      pub ready_terms : Ready s (inputs_in names₂ (no_terms o.cursor i))
+      ready_terms = record { tables = giving; good = gives.good }
 
       module _ (names₃ : List ℕ) (p : Inputs)
           (v : Collects (λ q. repeated FUZZIFY fuzzify (fuzzify q)) s (inputs_in names₂ (no_terms o.cursor i)) (inputs_in names₃ p)) where
@@ -153,8 +153,8 @@ module _ (s : List ℕ) (a b : Cursor) (n : BlockName) (x : Step (expect FUNCTIO
             (at p.cursor fuzzifying)
         fuzzifies = reading.next gives (v giving gives.good)
 
-        pub ready-singletons : Ready s (outputsIn names₃ (no_singletons p.cursor o))
-        ready-singletons = record { tables = fuzzifying; good = fuzzifies.good }
+        pub ready_singletons : Ready s (outputsIn names₃ (no_singletons p.cursor o))
+        ready_singletons = record { tables = fuzzifying; good = fuzzifies.good }
 
         pub whole : {names₄ : List ℕ} {q : Outputs}
             → Collects (λ r. repeated DEFUZZIFY defuzzify (defuzzify r)) s (outputsIn names₃ (no_singletons p.cursor o)) (outputsIn names₄ q)
@@ -243,15 +243,15 @@ module _ (complete : Bool) (s : List ℕ) (c d : Cursor) (x : Step (expect END_R
     part_missing r h f = lost 9 r h (λ b n. simp (kind_seen s d b n, eq-eqb _ _ k, f) refl)
 
     module _ (e : Cursor) (t : complete ≡ true) (y : Step advance s d e) where
-      block-ended : Step (block_end complete) s d e
+      block_ended : Step (block_end complete) s d e
       unfolding block_end judged
-      block-ended = as_step {f = block_end complete} {g = advance} {s = s} {c = d} {r = e} (λ b n. simp (kind_seen s d b n, eq-eqb _ _ k, t) refl) y
+      block_ended = as_step {f = block_end complete} {g = advance} {s = s} {c = d} {r = e} (λ b n. simp (kind_seen s d b n, eq-eqb _ _ k, t) refl) y
 
       pub at_end : e.kind ≡ END → Step (back_to complete) s c e
-      at_end h = to_end e e block-ended (ended s e h y.fits)
+      at_end h = to_end e e block_ended (ended s e h y.fits)
 
-      pub not-at-end : (r : Cursor) → (e.kind ≡ END → ⊥) → Step (refuse 2) s e r → Step (back_to complete) s c r
-      not-at-end r h z = to_end e r block-ended (more s e r h z)
+      pub not_at_end : (r : Cursor) → (e.kind ≡ END → ⊥) → Step (refuse 2) s e r → Step (back_to complete) s c r
+      not_at_end r h z = to_end e r block_ended (more s e r h z)
 
 -- `back_to` has the outcome of `back_text`
 expect_block : (k : ℕ) (q : Parse) → (expect k q).block ≡ q.block

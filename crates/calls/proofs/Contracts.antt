@@ -36,47 +36,47 @@ use Rattle.daily.specs.contracts.evaluate_lending as evaluate-lending
 use Rattle.demand_3.specs.Calls.{evaluated, daily, Link}
 
 module _ {M : Type 1} {𝓤 : Ura M} (𝓛 : Logic 𝓤) (at_mem : Memory → SProp 𝓤) (run : Routine → Fun 𝓤) (κ : Lft) where
-  abbrev asks_nothing : SProp 𝓤 → Type 2
-  asks_nothing p = p ≡ (connectives 𝓤).⊤ₛ
+  abbrev AsksNothing : SProp 𝓤 → Type 2
+  AsksNothing p = p ≡ (connectives 𝓤).⊤ₛ
 
   -- `reader::read`: its answer, and the buffer then
   read_tells : (κ' : Lft) (s : Bor (List ℕ)) (out : MutBor (List ℕ)) (r : Written) (e : AtExit read-text.ended (κ, (κ', tt)))
       → let c = read-text.clauses 𝓛 at_mem run (κ, (κ', tt)) (s, (out, tt)) in
       let o = reads_into (length out.now) s.now in
-      asks_nothing (c.requires tt)
+      AsksNothing (c.requires tt)
       × (c.ensures tt r e ≡ sep 𝓤 (fact 𝓤 (written_of r ≡ length_in o)) (fact 𝓤 (e.1.0.now ≡ buffer_after out.now o)))
   read_tells κ' s out r e = (refl, refl)
 
   -- `load::check`: the verdict is that of the load check
   check_tells : (img : Bor (List ℕ)) (r : Verdict) (e : AtExit load-check.ended (κ, tt))
       → let c = load-check.clauses 𝓛 at_mem run (κ, tt) (img, tt) in
-      asks_nothing (c.requires tt) × (c.ensures tt r e ≡ fact 𝓤 (verdict_of r ≡ verdict_in (loads img.now)))
+      AsksNothing (c.requires tt) × (c.ensures tt r e ≡ fact 𝓤 (verdict_of r ≡ verdict_in (loads img.now)))
   check_tells img r e = (refl, refl)
 
   -- `evaluation::fresh_of`: the record that the first call of a trace gets
   fresh_begins : (img : Bor (List ℕ)) (r : Fresh) (e : AtExit fresh-of.ended (κ, tt))
       → let c = fresh-of.clauses 𝓛 at_mem run (κ, tt) (img, tt) in
-      asks_nothing (c.requires tt)
+      AsksNothing (c.requires tt)
       × (c.ensures tt r e ≡ fact 𝓤 ((verdict_of r.verdict ≡ verdict_in (fresh img.now)) × (r.held ≡ record_in (fresh img.now))))
   fresh_begins img r e = (refl, refl)
 
   -- `evaluation::evaluate`: a link by value
   evaluate_links : (img : Bor (List ℕ)) (rs : List Reading) (n : ℕ) (before : Held) (r : Evaluation) (e : AtExit evaluate-by-value.ended (κ, tt))
       → let c = evaluate-by-value.clauses 𝓛 at_mem run (κ, tt) (img, (rs, (n, (before, tt)))) in
-      asks_nothing (c.requires tt)
+      AsksNothing (c.requires tt)
       × (c.ensures tt r e ≡ fact 𝓤 (Link img.now before (evaluated (record { readings = rs; count = n }) r)))
   evaluate_links img rs n before r e = (refl, refl)
 
   -- `daily::evaluate_held`: a link with the lent record, as it comes and as it is left
   held_links : (κ' : Lft) (img : Bor (List ℕ)) (rs : List Reading) (n : ℕ) (held : MutBor Held) (r : Reply) (e : AtExit evaluate-held.ended (κ, (κ', tt)))
       → let c = evaluate-held.clauses 𝓛 at_mem run (κ, (κ', tt)) (img, (rs, (n, (held, tt)))) in
-      asks_nothing (c.requires tt)
+      AsksNothing (c.requires tt)
       × (c.ensures tt r e ≡ fact 𝓤 (Link img.now held.now (daily (record { readings = rs; count = n }) r e.1.1.1.0.now)))
   held_links κ' img rs n held r e = (refl, refl)
 
   -- `daily::evaluate_lending`: a link by value
   lending_links : (img : Bor (List ℕ)) (rs : List Reading) (n : ℕ) (before : Held) (r : Evaluation) (e : AtExit evaluate-lending.ended (κ, tt))
       → let c = evaluate-lending.clauses 𝓛 at_mem run (κ, tt) (img, (rs, (n, (before, tt)))) in
-      asks_nothing (c.requires tt)
+      AsksNothing (c.requires tt)
       × (c.ensures tt r e ≡ fact 𝓤 (Link img.now before (evaluated (record { readings = rs; count = n }) r)))
   lending_links img rs n before r e = (refl, refl)

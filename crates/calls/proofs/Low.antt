@@ -85,14 +85,14 @@ module _ (b : Block) (ok : well_formed b ≡ true) where
   unfolding degrees_of
   block_low =
       each_append Low (map (λ p. p.degree) (points b)) (map (λ r. r.weight) b.rules)
-      (each_map Low (λ (p : Point). p.degree) (points b) (each_gather (λ (p : Point). Low p.degree) (λ (t : Term). t.points) (terms b) terms-low))
+      (each_map Low (λ (p : Point). p.degree) (points b) (each_gather (λ (p : Point). Low p.degree) (λ (t : Term). t.points) (terms b) terms_low))
       (each_map Low (λ (r : Rule). r.weight) b.rules weights_low)
     where
       Points : Term → Type 0
       Points t = Each (λ p. Low p.degree) t.points
 
-      terms-low : Each Points (terms b)
-      terms-low =
+      terms_low : Each Points (terms b)
+      terms_low =
           each_append Points (input_terms b) (map singleton_term (output_terms b))
           (each_gather Points (λ (v : Input). v.terms) b.inputs
           (each_so (λ v h. each_so (λ t q. each_so (λ p r. r.1) t.points q) v.terms h) b.inputs inputs_ok))
@@ -100,25 +100,25 @@ module _ (b : Block) (ok : well_formed b ≡ true) where
 
   -- BY THE DEGREES OF THE INPUT TERMS
   module _ (ds : List ℕ) (low : Each Low ds) where
-    condition-low : (c : Condition) → Low (condition_degree b.pair ds c)
+    condition_low : (c : Condition) → Low (condition_degree b.pair ds c)
     unfolding condition_degree
-    condition-low (term t) = each_at Low 0 (omega arith) ds low t
-    condition-low (neg c) = omega arith
-    condition-low (two o x y) =
-        pair_degree b.pair o (condition_degree b.pair ds x) (condition_degree b.pair ds y) (condition-low x) (condition-low y)
+    condition_low (term t) = each_at Low 0 (omega arith) ds low t
+    condition_low (neg c) = omega arith
+    condition_low (two o x y) =
+        pair_degree b.pair o (condition_degree b.pair ds x) (condition_degree b.pair ds y) (condition_low x) (condition_low y)
 
-    rule-degree-low : (r : Rule) → Low r.weight → Low (rule_degree b ds r)
+    rule_degree_low : (r : Rule) → Low r.weight → Low (rule_degree b ds r)
     unfolding rule_degree
-    rule-degree-low r h =
+    rule_degree_low r h =
         let d = condition_degree b.pair ds r.condition in
-        omega (arith, h, condition-low r.condition, prod_fits d r.weight (condition-low r.condition) h)
+        omega (arith, h, condition_low r.condition, prod_fits d r.weight (condition_low r.condition) h)
 
-    rules-low : Each (λ r. Low (rule_degree b ds r)) b.rules
-    rules-low = each_so rule-degree-low b.rules weights_low
+    rules_low : Each (λ r. Low (rule_degree b ds r)) b.rules
+    rules_low = each_so rule_degree_low b.rules weights_low
 
-    subconclusions-low : (t : ℕ) → Each Low (subconclusions b ds t)
+    subconclusions_low : (t : ℕ) → Each Low (subconclusions b ds t)
     unfolding subconclusions
-    subconclusions-low t = each_gather Low _ b.rules (each_so one b.rules rules-low)
+    subconclusions_low t = each_gather Low _ b.rules (each_so one b.rules rules_low)
       where
         kept : (q : Bool) (d : ℕ) → Low d → Each Low (if q then d ∷ [] else [])
         kept true d h = (h, tt)
@@ -129,14 +129,14 @@ module _ (b : Block) (ok : well_formed b ≡ true) where
             each_gather Low (λ (k : Conclusion). if eqb k.term t then rule_degree b ds r ∷ [] else []) r.conclusions
             (each_always (λ k. kept (eqb k.term t) (rule_degree b ds r) h) r.conclusions)
 
-    accumulate-low : (k : Accumulation) (h : ℕ) (es : List ℕ) → Low h → Each Low es → Low (accumulate_all k h es)
+    accumulate_low : (k : Accumulation) (h : ℕ) (es : List ℕ) → Low h → Each Low es → Low (accumulate_all k h es)
     unfolding accumulate_all
-    accumulate-low k h [] p q = p
-    accumulate-low k h (d ∷ es) p q = accumulate-low k (accumulated k h d) es (accumulated_degree k h d p q.0) q.1
+    accumulate_low k h [] p q = p
+    accumulate_low k h (d ∷ es) p q = accumulate_low k (accumulated k h d) es (accumulated_degree k h d p q.0) q.1
 
-    height-low : (t : ℕ) → Low (height b ds t)
+    height_low : (t : ℕ) → Low (height b ds t)
     unfolding height
-    height-low t = accumulate-low b.accu 0 (subconclusions b ds t) (omega arith) (subconclusions-low t)
+    height_low t = accumulate_low b.accu 0 (subconclusions b ds t) (omega arith) (subconclusions_low t)
 
     degrees_low : Each Low (degrees_in b ds)
     unfolding degrees_in
@@ -145,11 +145,11 @@ module _ (b : Block) (ok : well_formed b ≡ true) where
         let D = condition_degree b.pair ds in
         let ts = output_term_places b in
         each_append Low ds _ low (
-        each_append Low (map D cs) _ (each_map Low D cs (each_always condition-low cs)) (
-        each_append Low (map (rule_degree b ds) b.rules) _ (each_map Low (rule_degree b ds) b.rules rules-low) (
+        each_append Low (map D cs) _ (each_map Low D cs (each_always condition_low cs)) (
+        each_append Low (map (rule_degree b ds) b.rules) _ (each_map Low (rule_degree b ds) b.rules rules_low) (
         each_append Low (gather (subconclusions b ds) ts) _
-        (each_gather Low (subconclusions b ds) ts (each_always subconclusions-low ts))
-        (each_map Low (height b ds) ts (each_always height-low ts)))))
+        (each_gather Low (subconclusions b ds) ts (each_always subconclusions_low ts))
+        (each_map Low (height b ds) ts (each_always height_low ts)))))
 
   pub call_low : (xs : List ℤ) → Each Low (degrees_in b (term_degrees b.inputs xs))
   call_low xs = degrees_low (term_degrees b.inputs xs) (input_terms_low b.inputs xs inputs_ok)

@@ -90,31 +90,31 @@ module _ (v : Output) (hs : List ℕ) (x : ℤ) (even : length hs ≡ length v.t
       turn false q = refl
 
   module _ (e : ltb 0 (sum_of hs) ≡ false) where
-    none-raised : is_empty (raised v.terms hs) ≡ true
-    none-raised = turn (is_empty (raised v.terms hs)) (sym (R.sum_raised v.terms hs even) ∙ e)
+    none_raised : is_empty (raised v.terms hs) ≡ true
+    none_raised = turn (is_empty (raised v.terms hs)) (sym (R.sum_raised v.terms hs even) ∙ e)
       where
         turn : (b : Bool) → not b ≡ false → b ≡ true
         turn true q = refl
         turn false q = clash (sym q)
 
-    not-raised : {X : Type 0} → is_empty (raised v.terms hs) ≡ false → X
-    not-raised q = clash (sym q ∙ none-raised)
+    not_raised : {X : Type 0} → is_empty (raised v.terms hs) ≡ false → X
+    not_raised q = clash (sym q ∙ none_raised)
 
-    told-unfired : (d : Option ℤ) → v.default ≡ d → Told (unfired d x)
-    told-unfired none q = (
+    told_unfired : (d : Option ℤ) → v.default ≡ d → Told (unfired d x)
+    told_unfired none q = (
       record {
         marked = refl;
-        fired_raised = (λ m. other HeldMark Fired (λ n. omega arith) m, λ r. not-raised r);
+        fired_raised = (λ m. other HeldMark Fired (λ n. omega arith) m, λ r. not_raised r);
         fired_between = λ m. other HeldMark Fired (λ n. omega arith) m;
         default_declared = λ m. other HeldMark Default (λ n. omega arith) m;
         held_before = λ m. (q, refl);
       },
       held-ok,
     )
-    told-unfired (some d) q = (
+    told_unfired (some d) q = (
       record {
         marked = refl;
-        fired_raised = (λ m. other Default Fired (λ n. omega arith) m, λ r. not-raised r);
+        fired_raised = (λ m. other Default Fired (λ n. omega arith) m, λ r. not_raised r);
         fired_between = λ m. other Default Fired (λ n. omega arith) m;
         default_declared = λ m. q;
         held_before = λ m. other Default HeldMark (λ n. omega arith) m;
@@ -128,7 +128,7 @@ module _ (v : Output) (hs : List ℕ) (x : ℤ) (even : length hs ≡ length v.t
     where
       go : (b : Bool) → ltb 0 (sum_of hs) ≡ b → Told (if b then answer_with Fired fig (sum_of hs) else unfired v.default x)
       go true e = told_fired (ltb-true 0 (sum_of hs) e) e
-      go false e = told-unfired e v.default refl
+      go false e = told_unfired e v.default refl
 
 -- ALL OUTPUTS
 -- a figure for each output, which it may have

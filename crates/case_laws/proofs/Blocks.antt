@@ -121,13 +121,13 @@ input_first_lem i b = ap (total (λ v. length v.terms)) (take_map input_in_capit
 
 pub output_first_lem : (o : ℕ) (b : Block) → output_first o (in_capitals b) ≡ output_first o b
 unfolding output_first
-output_first_lem o b = λ j. all-terms j + before j
+output_first_lem o b = λ j. all_terms j + before j
   where
     count : (vs : List Input) → length (gather (λ v. v.terms) vs) ≡ total (λ v. length v.terms) vs
     count = length_gather (λ v. v.terms) (λ v. length v.terms) (λ v. refl)
 
-    all-terms : length (input_terms (in_capitals b)) ≡ length (input_terms b)
-    all-terms = count (map input_in_capitals b.inputs) ∙ input_terms_lem b.inputs ∙ sym (count b.inputs)
+    all_terms : length (input_terms (in_capitals b)) ≡ length (input_terms b)
+    all_terms = count (map input_in_capitals b.inputs) ∙ input_terms_lem b.inputs ∙ sym (count b.inputs)
 
     before : total (λ v. length v.terms) (take o (map output_in_capitals b.outputs)) ≡ total (λ v. length v.terms) (take o b.outputs)
     before = ap (total (λ v. length v.terms)) (take_map output_in_capitals o b.outputs) ∙ output_terms_lem (take o b.outputs)

@@ -78,7 +78,7 @@ subcondition_caps : NoCaseRead subcondition
 unfolding subcondition
 subcondition_caps r =
     instead_read (ap (λ (i : ℕ). term_or_not i (expect IS (named (caps_parse r)))) (input_of_lem v (text r) e b))
-    (named-caps ▹ expect_caps IS ▹▹ term_or_not_caps (input_of (text r) b))
+    (named_caps ▹ expect_caps IS ▹▹ term_or_not_caps (input_of (text r) b))
   where
     v : List ℕ
     v = text (caps_parse r)
@@ -92,8 +92,8 @@ subcondition_caps r =
     named : Part
     named q = judged (a_name q ((is_input (text q) q.block, 5) ∷ [])) q (word q)
 
-    named-caps : InCaps (named (caps_parse r)) (named r)
-    named-caps = judge (a_name_lem (λ n. check (is_input_lem v (text r) e b) (λ l. passed (word_caps r))))
+    named_caps : InCaps (named (caps_parse r)) (named r)
+    named_caps = judge (a_name_lem (λ n. check (is_input_lem v (text r) e b) (λ l. passed (word_caps r))))
 
 -- CHAINS
 module _ (part : Parse → ConditionRead) (h : NoCaseRead part) (k : ℕ) (o : Op) where

@@ -39,13 +39,13 @@ pub inputs_caps : NoCase input_declaration
 unfolding input_declaration
 inputs_caps r =
     instead (ap (λ (n : ℕ). expect SEMICOLON (input_type n (expect COLON (listed new (caps_parse r))))) (input_count_lem r.block))
-    (in_caps r ▹ listed_caps new-caps ▹ expect_caps COLON ▹ input_type_caps (input_count r.block) ▹ expect_caps SEMICOLON)
+    (in_caps r ▹ listed_caps new_caps ▹ expect_caps COLON ▹ input_type_caps (input_count r.block) ▹ expect_caps SEMICOLON)
   where
     new : Part
     new = variable add_input input_count input_limit
 
-    new-caps : NoCase new
-    new-caps = variable_caps add_input input_count input_limit add_input_lem input_count_lem
+    new_caps : NoCase new
+    new_caps = variable_caps add_input input_count input_limit add_input_lem input_count_lem
 
 pub outputs_caps : NoCase output_declaration
 unfolding output_declaration

@@ -14,7 +14,7 @@ use Rattle.model.specs.Bounds.{text_limit}
 use Rattle.model.specs.Outcome.{refused}
 use Rattle.model.specs.Chunks.{TextCall, chunk, finish, text_of, any_finish, is_over, answer, answer_after, TextState, is_open, bytes_in, answer_in, behind, closed, state_after, Made, call_of, state_then, Tells, Link, Trace, EachCall, InChunks}
 use Rattle.laws.proofs.Tests.{clash}
-use Rattle.chunk_store.proofs.Laws.{is_open_lem, answer-over, state-over, room, few, longer, chunk-long, chunk_kept, end_read}
+use Rattle.chunk_store.proofs.Laws.{is_open_lem, answer_over, state_over, room, few, longer, chunk_long, chunk_kept, end_read}
 
 -- THE CALLS, with one more
 text_chunk : (cs : List TextCall) (d : List ℕ) → text_of (cs ++ (chunk d ∷ [])) ≡ text_of cs ++ d
@@ -121,7 +121,7 @@ module _ (cs : List TextCall) (t : TextState) (live : is_over cs ≡ false) (rea
     where
       go : (b : Bool) → ltb text_limit (t.count + length d) ≡ b → Stands (cs ++ (chunk d ∷ [])) (state_after t (chunk d))
       go true e =
-          let left = (chunk-long t ready d (ltb-true text_limit (t.count + length d) e)).1 in
+          let left = (chunk_long t ready d (ltb-true text_limit (t.count + length d) e)).1 in
           subst (Stands (cs ++ (chunk d ∷ []))) (sym left) (gone (passes ∙ e) (closed_over t))
       go false e =
           let h = ltb-false text_limit (t.count + length d) e in
@@ -133,7 +133,7 @@ stands_on : (cs : List TextCall) (t : TextState) → Stands cs t → (c : TextCa
 stands_on cs t (going live ready same) (chunk d) = after_chunk cs t live ready same d
 stands_on cs t (going live ready same) (finish b) =
     subst (Stands (cs ++ (finish b ∷ []))) (sym (end_read t ready b).1) (gone (ends cs b) (closed_over t))
-stands_on cs t (gone ended shut) c = subst (Stands (cs ++ (c ∷ []))) (sym (state-over t shut c)) (gone (stays_over cs c ended) shut)
+stands_on cs t (gone ended shut) c = subst (Stands (cs ++ (c ∷ []))) (sym (state_over t shut c)) (gone (stays_over cs c ended) shut)
 
 -- a fact that each call has where the state stands for the calls before it
 module _ (P : List TextCall → TextState → Made → Type 0)
@@ -149,7 +149,7 @@ answered cs t s m l = subst (Tells m) (same_answer cs t s (call_of m)) l.0
 
 unaltered : (cs : List TextCall) (t : TextState) → Stands cs t → (m : Made) → Link t m → is_over cs ≡ true → state_then m ≡ t
 unaltered cs t (going live ready same) m l e = clash (sym live ∙ e)
-unaltered cs t (gone ended shut) m l e = l.1 ∙ state-over t shut (call_of m)
+unaltered cs t (gone ended shut) m l e = l.1 ∙ state_over t shut (call_of m)
 
 stored : (cs : List TextCall) (t : TextState) → Stands cs t → (m : Made) → Link t m → is_over cs ≡ false → bytes_in t ≡ text_of cs
 stored cs t (going live ready same) m l e = same
@@ -167,7 +167,7 @@ chunks_hold t room zero ms w =
 
 -- EVERY OTHER STATE: 16, and nothing is altered
 pub no_calls_made : (t : TextState) → is_open t ≡ false → (c : TextCall) → (answer_in t c ≡ refused 16 none) × (state_after t c ≡ t)
-no_calls_made t shut c = (answer-over t shut c, state-over t shut c)
+no_calls_made t shut c = (answer_over t shut c, state_over t shut c)
 
 -- an open state is what one chunk of its bytes leaves
 open_stands : (t : TextState) → is_open t ≡ true → Stands (chunk (bytes_in t) ∷ []) t

@@ -25,13 +25,13 @@ use Rattle.chunk_store.specs.contracts.append as append
 use Rattle.chunked_text.specs.contracts.finish as finish
 
 module _ {M : Type 1} {𝓤 : Ura M} (𝓛 : Logic 𝓤) (at_mem : Memory → SProp 𝓤) (run : Routine → Fun 𝓤) (κ κ' κ'' : Lft) where
-  abbrev asks_nothing : SProp 𝓤 → Type 2
-  asks_nothing p = p ≡ (connectives 𝓤).⊤ₛ
+  abbrev AsksNothing : SProp 𝓤 → Type 2
+  AsksNothing p = p ≡ (connectives 𝓤).⊤ₛ
 
   -- `chunk_store::append`: a link with the lent store and number, as they come and as they are left
   append_links : (d : Bor (List ℕ)) (store : MutBor (List ℕ)) (count : MutBor ℕ) (r : Verdict) (e : AtExit append.ended (κ, (κ', (κ'', tt))))
       → let c = append.clauses 𝓛 at_mem run (κ, (κ', (κ'', tt))) (d, (store, (count, tt))) in
-      asks_nothing (c.requires tt)
+      AsksNothing (c.requires tt)
       × (c.ensures tt r e ≡ fact 𝓤 (Link (record { store = store.now; count = count.now })
       (appended d.now r (record { store = e.1.0.now; count = e.1.1.0.now }))))
   append_links d store count r e = (refl, refl)
@@ -39,7 +39,7 @@ module _ {M : Type 1} {𝓤 : Ura M} (𝓛 : Logic 𝓤) (at_mem : Memory → SP
   -- `chunked_text::finish`: the store is lent to be read only
   finish_links : (store : Bor (List ℕ)) (count : MutBor ℕ) (out : MutBor (List ℕ)) (r : Written) (e : AtExit finish.ended (κ, (κ', (κ'', tt))))
       → let c = finish.clauses 𝓛 at_mem run (κ, (κ', (κ'', tt))) (store, (count, (out, tt))) in
-      asks_nothing (c.requires tt)
+      AsksNothing (c.requires tt)
       × (c.ensures tt r e ≡ fact 𝓤 (Link (record { store = store.now; count = count.now })
       (finished out.now r e.1.1.0.now (record { store = store.now; count = e.1.0.now }))))
   finish_links store count out r e = (refl, refl)
@@ -48,6 +48,6 @@ module _ {M : Type 1} {𝓤 : Ura M} (𝓛 : Logic 𝓤) (at_mem : Memory → SP
   reads_at_once : (s : Bor (List ℕ)) (out : MutBor (List ℕ)) (r : Written) (e : AtExit read.ended (κ, (κ', tt)))
       → let c = read.clauses 𝓛 at_mem run (κ, (κ', tt)) (s, (out, tt)) in
       let o = reads_into (length out.now) s.now in
-      asks_nothing (c.requires tt)
+      AsksNothing (c.requires tt)
       × (c.ensures tt r e ≡ (connectives 𝓤).◌∗◌ (fact 𝓤 (written_of r ≡ length_in o)) (fact 𝓤 (e.1.0.now ≡ buffer_after out.now o)))
   reads_at_once s out r e = (refl, refl)

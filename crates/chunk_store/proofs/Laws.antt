@@ -41,14 +41,14 @@ module _ (t : TextState) where
 
   -- NOT OPEN: over, or a state that no calls made
   module _ (shut : is_open t ≡ false) where
-    pub answer-over : (c : TextCall) → answer_in t c ≡ refused 16 none
+    pub answer_over : (c : TextCall) → answer_in t c ≡ refused 16 none
     unfolding answer
-    answer-over c = rw shut refl
+    answer_over c = rw shut refl
 
-    pub state-over : (c : TextCall) → state_after t c ≡ t
+    pub state_over : (c : TextCall) → state_after t c ≡ t
     unfolding state_after
-    state-over (chunk d) = rw shut refl
-    state-over (finish buffer) = rw shut refl
+    state_over (chunk d) = rw shut refl
+    state_over (finish buffer) = rw shut refl
 
   -- OPEN
   module _ (ready : is_open t ≡ true) where
@@ -62,10 +62,10 @@ module _ (t : TextState) where
     pub longer : (d : List ℕ) → length (bytes_in t ++ d) ≡ t.count + length d
     longer d = length-append (bytes_in t) d ∙ ap (λ (n : ℕ). n + length d) (length-take-le t.count t.store (omega (arith, room, few)))
 
-    pub chunk-long : (d : List ℕ) → text_limit < t.count + length d
+    pub chunk_long : (d : List ℕ) → text_limit < t.count + length d
         → (answer_in t (chunk d) ≡ refused 1 (some 0)) × (state_after t (chunk d) ≡ closed t)
     unfolding answer state_after
-    chunk-long d l = rw (ready, longer d, lt-ltb text_limit (t.count + length d) l) (refl, refl)
+    chunk_long d l = rw (ready, longer d, lt-ltb text_limit (t.count + length d) l) (refl, refl)
 
     pub chunk_kept : (d : List ℕ) → t.count + length d ≤ text_limit
         → (answer_in t (chunk d) ≡ accepted []) × (state_after t (chunk d) ≡ behind t d)

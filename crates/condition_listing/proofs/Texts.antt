@@ -115,18 +115,18 @@ module _ (f : ℕ → ℕ) (g : ℕ → TermNames) where
   left_start e k old i c sp = (c, sp, λ r new w. w)
 
   module _ (e₀ k₀ : ℕ) (old₀ : List ℕ) where
-    pub left-done : (e k : ℕ) (old : List ℕ) (s r : ℕ) (new : List ℕ) → Left e₀ k₀ old₀ e k old → Writes f text e k s r old new
+    pub left_done : (e k : ℕ) (old : List ℕ) (s r : ℕ) (new : List ℕ) → Left e₀ k₀ old₀ e k old → Writes f text e k s r old new
         → Writes f text e₀ k₀ s r old₀ new
-    left-done e k old s r new p h i c sp =
+    left_done e k old s r new p h i c sp =
         let a = p i c sp in
         let b = h i a.0 a.1 in
         (b.0, a.2 r new b.1)
 
     -- an operator whose left operand stands bare
-    pub left-next : (o : Op) (e k m n q x : ℕ) (old mid mid' : List ℕ) → Left e₀ k₀ old₀ e k old → Forms f e (rank o)
+    pub left_next : (o : Op) (e k m n q x : ℕ) (old mid mid' : List ℕ) → Left e₀ k₀ old₀ e k old → Forms f e (rank o)
         → Writes f (within (rank o - 1)) (e - 1) k m n old mid → Prepends n q (operator o) mid mid' → Forms f m x → x ≤ rank o
         → Left e₀ k₀ old₀ m q mid'
-    left-next o e k m n q x old mid mid' p fs a v fm h i c sp =
+    left_next o e k m n q x old mid mid' p fs a v fm h i c sp =
         let (d, sd, go) = p i c sp in
         let (l, y, j, e', sl, sy) = parts o e i d sd (fs i d sd) in
         let (m≡j, u) = a j y sy in

@@ -16,7 +16,7 @@ use Rattle.condition_words.specs.Machine.{room, added, unary, binary, stack_of}
 use Rattle.condition_stack.specs.Shapes.{forms, shape, form_of, depth_of, shapes, negated_shape, joined_shape, view}
 use Rattle.condition_stack.specs.Stored.{condition_stored}
 use Rattle.condition_words.proofs.Stacks.{length_stack, stack_push, stack_one, stack_two}
-use Rattle.condition_words.proofs.Passes.{Left, left_end, left-none}
+use Rattle.condition_words.proofs.Passes.{Left, left_end, left_none}
 use Rattle.condition_stack.proofs.Accepted.{depth_shape, is_one, accepts, accepts_is}
 
 abbrev at' : List ℕ → ℕ → ℕ
@@ -98,7 +98,7 @@ module _ (w : ℕ → ℕ) (d n m i : ℕ) (l : List ℕ) (k : ℕ) where
   unfolding accepts condition_stored view
   fails e q =
       let p : Left (shapes m) w d n i none = rw e at q in
-      ap is_one (sym (left-none (shapes m) w d n i p)) ∙ accepts_is m (tab w n d)
+      ap is_one (sym (left_none (shapes m) w d n i p)) ∙ accepts_is m (tab w n d)
 
   pub ends : n ≤ i → Left (shapes m) w d n i (some (stack_of 0 l k)) → eqb k 1 ≡ condition_stored w d n m
   unfolding accepts condition_stored

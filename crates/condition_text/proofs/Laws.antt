@@ -21,7 +21,7 @@ use Rattle.laws.proofs.Again.{Again, again_more, again_end}
 use Rattle.laws.proofs.Repetition.{join, no_join}
 use Rattle.cursor.specs.declared.Cursor.{Cursor}
 use Rattle.cursor.specs.View.{seen, text_of, Fits, left, Step, fault}
-use Rattle.cursor.proofs.Laws.{enough, kind_seen, text_seen, block_seen, words_seen, lost_kind, lost-refuse, lost-expect, judged_bad, judged_good, numbered}
+use Rattle.cursor.proofs.Laws.{enough, kind_seen, text_seen, block_seen, words_seen, lost_kind, lost_refuse, lost_expect, judged_bad, judged_good, numbered}
 use Rattle.symbol_table.specs.Symbols.{Describes, input_count, term_count, first, among}
 use Rattle.condition_text.specs.declared.Pending.{Pending}
 use Rattle.condition_text.specs.Pending.{Room, Adds, ReadsCondition, Balanced, Stops, Counts, Puts}
@@ -34,10 +34,10 @@ module _ (s : List ℕ) (d : Cursor) (g : Fits s d) (h : d.why ≡ 0 → ⊥) wh
   module _ (b : Block) (n : ℕ) where
     term_stays : (i : ℕ) → (term_or_not i (seen s d b n)).parse ≡ seen s d b n
     unfolding term_or_not condition_term judged
-    term_stays i = simp (kind_seen, lost_kind s d g h) (lost-refuse s d g h b n 2)
+    term_stays i = simp (kind_seen, lost_kind s d g h) (lost_refuse s d g h b n 2)
 
-    pub here-stays : (i : ℕ) → (term_or_not i (expect IS (seen s d b n))).parse ≡ seen s d b n
-    here-stays i = ap (λ (r : Parse). (term_or_not i r).parse) (lost-expect s d g h b n IS (λ z. omega arith)) ∙ term_stays i
+    pub here_stays : (i : ℕ) → (term_or_not i (expect IS (seen s d b n))).parse ≡ seen s d b n
+    here_stays i = ap (λ (r : Parse). (term_or_not i r).parse) (lost_expect s d g h b n IS (λ z. omega arith)) ∙ term_stays i
 
 -- no token follows a refusal
 pub refused_left : (s : List ℕ) (w : ℕ) (c d : Cursor) → c.why ≡ 0 → Step (refuse w) s c d → left s d ≡ 0
@@ -173,34 +173,34 @@ module _ (s names symbols : List ℕ) (b : Block) (D : Describes s names symbols
   named e ok next = judged_good here next (a_name here []) ((ok, 5) ∷ []) refl (sym e)
 
   module _ (w : ℕ) (e : w ≡ fault (a_name here [])) (h : w ≡ 0 → ⊥) where
-    pub term-fault : (i : ℕ) → (condition_term i here).parse ≡ refuse w here
+    pub term_fault : (i : ℕ) → (condition_term i here).parse ≡ refuse w here
     unfolding condition_term
-    term-fault i = judged_bad here (advance here) w (a_name here []) ((is_term i (text here) here.block, 5) ∷ []) (sym e) h
+    term_fault i = judged_bad here (advance here) w (a_name here []) ((is_term i (text here) here.block, 5) ∷ []) (sym e) h
 
-    pub input-fault : (d : Cursor) → Step (refuse w) s c d → (d.why ≡ 0 → ⊥) → (subcondition here).parse ≡ refuse w here
+    pub input_fault : (d : Cursor) → Step (refuse w) s c d → (d.why ≡ 0 → ⊥) → (subcondition here).parse ≡ refuse w here
     unfolding subcondition
-    input-fault d a z =
+    input_fault d a z =
         ap (λ (r : Parse). (term_or_not (input_of (text here) here.block) (expect IS r)).parse)
         (judged_bad here (word here) w (a_name here []) ((is_input (text here) here.block, 5) ∷ []) (sym e) h ∙ sym (a.reads b n))
-        ∙ here-stays s d a.fits z b n (input_of (text here) here.block) ∙ a.reads b n
+        ∙ here_stays s d a.fits z b n (input_of (text here) here.block) ∙ a.reads b n
 
   module _ (e : 0 ≡ fault (a_name here [])) (i : ℕ) (f : i ≡ among s names (text_of s c) (input_count symbols) 0) where
-    the-input : input_of (text here) b ≡ i
-    the-input = simp text_seen (D.input (text_of s c) ∙ sym f)
+    the_input : input_of (text here) b ≡ i
+    the_input = simp text_seen (D.input (text_of s c) ∙ sym f)
 
-    pub input-unknown : (d : Cursor) → input_count symbols ≤ i → Step (refuse 5) s c d → (d.why ≡ 0 → ⊥) → (subcondition here).parse ≡ refuse 5 here
+    pub input_unknown : (d : Cursor) → input_count symbols ≤ i → Step (refuse 5) s c d → (d.why ≡ 0 → ⊥) → (subcondition here).parse ≡ refuse 5 here
     unfolding subcondition
-    input-unknown d h a z =
-        let q : is_input (text here) here.block ≡ false = simp (the-input, block_seen, D.inputs) (le-ltb _ _ h) in
+    input_unknown d h a z =
+        let q : is_input (text here) here.block ≡ false = simp (the_input, block_seen, D.inputs) (le-ltb _ _ h) in
         ap (λ (r : Parse). (term_or_not (input_of (text here) here.block) (expect IS r)).parse)
         (named e (is_input (text here) here.block) (word here) ∙ simp q (sym (a.reads b n)))
-        ∙ here-stays s d a.fits z b n (input_of (text here) here.block) ∙ a.reads b n
+        ∙ here_stays s d a.fits z b n (input_of (text here) here.block) ∙ a.reads b n
 
-    pub input-known : i < input_count symbols → term_or_not i (expect IS (word here)) ≡ subcondition here
+    pub input_known : i < input_count symbols → term_or_not i (expect IS (word here)) ≡ subcondition here
     unfolding subcondition
-    input-known h =
-        let q : is_input (text here) here.block ≡ true = simp (the-input, block_seen, D.inputs) (lt-ltb _ _ h) in
-        let x : input_of (text here) here.block ≡ i = simp block_seen the-input in
+    input_known h =
+        let q : is_input (text here) here.block ≡ true = simp (the_input, block_seen, D.inputs) (lt-ltb _ _ h) in
+        let x : input_of (text here) here.block ≡ i = simp block_seen the_input in
         sym (ap (λ (r : Parse). term_or_not (input_of (text here) here.block) (expect IS r)) (named e (is_input (text here) here.block) (word here) ∙ simp q)
         ∙ ap (λ (j : ℕ). term_or_not j (expect IS (word here))) x)
 
@@ -209,15 +209,15 @@ module _ (s names symbols : List ℕ) (b : Block) (D : Describes s names symbols
     the_term : term_of i (text here) b ≡ j
     the_term = simp text_seen (D.term (text_of s c) i g ∙ sym f)
 
-    pub term-unknown : term_count symbols i ≤ j → (condition_term i here).parse ≡ refuse 5 here
+    pub term_unknown : term_count symbols i ≤ j → (condition_term i here).parse ≡ refuse 5 here
     unfolding condition_term
-    term-unknown h =
+    term_unknown h =
         let q : is_term i (text here) here.block ≡ false = simp (the_term, block_seen, D.terms i g) (le-ltb _ _ h) in
         named e (is_term i (text here) here.block) (advance here) ∙ simp q
 
-    pub term-known : j < term_count symbols i → (condition_term i here).parse ≡ advance here
+    pub term_known : j < term_count symbols i → (condition_term i here).parse ≡ advance here
     unfolding condition_term
-    term-known h =
+    term_known h =
         let q : is_term i (text here) here.block ≡ true = simp (the_term, block_seen, D.terms i g) (lt-ltb _ _ h) in
         named e (is_term i (text here) here.block) (advance here) ∙ simp q
 

@@ -170,9 +170,9 @@ module _ {A : Type 0} (g : Meaning A) where
     unfolding Left pass tab
     left_end s h p = let q : n - i ≡ 0 = omega arith in rw q at p
 
-    pub left-none : Left none → pass g (tab f n d) (some []) ≡ none
+    pub left_none : Left none → pass g (tab f n d) (some []) ≡ none
     unfolding Left
-    left-none p = sym p ∙ pass_none (tab f (n - i) (d + i))
+    left_none p = sym p ∙ pass_none (tab f (n - i) (d + i))
 
   pub left_start : (f : ℕ → ℕ) (d n : ℕ) → Left f d n 0 (some [])
   unfolding Left
@@ -194,5 +194,5 @@ module _ {A : Type 0} (g : Meaning A) where
   left_more f d n i w st x q h e p = go (turn g w (some st)) refl
     where
       go : (o : Option (List A)) → turn g w (some st) ≡ o → (s : List A) × (turn g w (some st) ≡ some s) × Left f d n (i + 1) (some s)
-      go none r = absurd (none_some x (sym (left-none f d n (i + 1) (left_turn f d n i w (some st) none h e (sym r) p)) ∙ q))
+      go none r = absurd (none_some x (sym (left_none f d n (i + 1) (left_turn f d n i w (some st) none h e (sym r) p)) ∙ q))
       go (some s) r = (s, r, left_turn f d n i w (some st) (some s) h e (sym r) p)

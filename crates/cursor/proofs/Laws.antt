@@ -144,25 +144,25 @@ module _ (s : List ℕ) (c : Cursor) (g : Fits s c) (h : c.why ≡ 0 → ⊥) wh
       by false q = absurd (h (g.halted (eqb-false c.kind END q)))
 
   module _ (b : Block) (n : ℕ) where
-    pub lost-is : (k : ℕ) → (k ≡ 0 → ⊥) → is k (seen s c b n) ≡ false
-    lost-is k z = simp (kind_seen s c b n, lost_kind) (ne_eqb 0 k (λ q. z (sym q)))
+    pub lost_is : (k : ℕ) → (k ≡ 0 → ⊥) → is k (seen s c b n) ≡ false
+    lost_is k z = simp (kind_seen s c b n, lost_kind) (ne_eqb 0 k (λ q. z (sym q)))
 
-    pub lost-refuse : (w : ℕ) → refuse w (seen s c b n) ≡ seen s c b n
+    pub lost_refuse : (w : ℕ) → refuse w (seen s c b n) ≡ seen s c b n
     unfolding refuse seen
-    lost-refuse w = simp (ne_eqb _ _ h)
+    lost_refuse w = simp (ne_eqb _ _ h)
 
-    pub lost-expect : (k : ℕ) → (k ≡ 0 → ⊥) → expect k (seen s c b n) ≡ seen s c b n
+    pub lost_expect : (k : ℕ) → (k ≡ 0 → ⊥) → expect k (seen s c b n) ≡ seen s c b n
     unfolding expect
-    lost-expect k z = simp (lost-is k z) (lost-refuse 2)
+    lost_expect k z = simp (lost_is k z) (lost_refuse 2)
 
     -- where a token of some kind is asked for first
-    pub lost-judged : (k : ℕ) (cs : Checks) (next : Parse) → (k ≡ 0 → ⊥) → judged ((is k (seen s c b n), 2) ∷ cs) (seen s c b n) next ≡ seen s c b n
+    pub lost_judged : (k : ℕ) (cs : Checks) (next : Parse) → (k ≡ 0 → ⊥) → judged ((is k (seen s c b n), 2) ∷ cs) (seen s c b n) next ≡ seen s c b n
     unfolding judged
-    lost-judged k cs next z = simp (lost-is k z) (lost-refuse 2)
+    lost_judged k cs next z = simp (lost_is k z) (lost_refuse 2)
 
-    pub lost-repeated : (k : ℕ) (part : Part) → (k ≡ 0 → ⊥) → repeated k part (seen s c b n) ≡ seen s c b n
+    pub lost_repeated : (k : ℕ) (part : Part) → (k ≡ 0 → ⊥) → repeated k part (seen s c b n) ≡ seen s c b n
     unfolding repeated repeat_on
-    lost-repeated k part z = simp (repeat_on, lost-is k z)
+    lost_repeated k part z = simp (repeat_on, lost_is k z)
 
 -- JUDGING, by the number of the first check that fails
 -- no check is refused by 0

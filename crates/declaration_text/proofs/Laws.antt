@@ -40,22 +40,22 @@ module _ (s : List ℕ) (c : Cursor) (names : List ℕ) (m n : ℕ) (b : Block) 
       tail : Checks
       tail = (not (is_input (text (seen s c b k)) (seen s c b k).block || is_output (text (seen s c b k)) (seen s c b k).block), 4) ∷ (room, 6) ∷ []
 
-      named-so : fault (new_checks (seen s c b k) room) ≡ fault tail
+      named_so : fault (new_checks (seen s c b k) room) ≡ fault tail
       unfolding tail numbered
-      named-so = fault_good (a_name (seen s c b k) []) _ refl (sym e)
+      named_so = fault_good (a_name (seen s c b k) []) _ refl (sym e)
 
-      pub an-input : i < m → 4 ≡ fault (new_checks (seen s c b k) room)
+      pub an_input : i < m → 4 ≡ fault (new_checks (seen s c b k) room)
       unfolding tail fault
-      an-input h = sym (named-so ∙ simp (input_is i q, lt-ltb i m h) refl)
+      an_input h = sym (named_so ∙ simp (input_is i q, lt-ltb i m h) refl)
 
       module _ (h : m ≤ i) (o : ℕ) (u : o ≡ output_of (text_of s c) b) where
-        pub an-output : o < n → 4 ≡ fault (new_checks (seen s c b k) room)
+        pub an_output : o < n → 4 ≡ fault (new_checks (seen s c b k) room)
         unfolding tail fault
-        an-output l = sym (named-so ∙ simp (input_is i q, le-ltb i m h, output_is o u, lt-ltb o n l) refl)
+        an_output l = sym (named_so ∙ simp (input_is i q, le-ltb i m h, output_is o u, lt-ltb o n l) refl)
 
-        pub a-new : n ≤ o → fault (new_checks (seen s c b k) room) ≡ (if room then 0 else 6)
+        pub a_new : n ≤ o → fault (new_checks (seen s c b k) room) ≡ (if room then 0 else 6)
         unfolding tail fault
-        a-new l = named-so ∙ simp (input_is i q, le-ltb i m h, output_is o u, le-ltb o n l) refl
+        a_new l = named_so ∙ simp (input_is i q, le-ltb i m h, output_is o u, le-ltb o n l) refl
 
 pub declares : (s : List ℕ) (t : Tables) → Holds s t → Declares s t.names t.input_count t.output_count (block_view s t)
 unfolding block_view
@@ -73,15 +73,15 @@ module _ (add : List ℕ → Block → Block) (count : Block → ℕ) (limit : �
   same_checks = ap (λ (k : ℕ). new_checks (seen s c (block_view s t) 0) (ltb k limit)) (ap count (block_seen s c (block_view s t) 0) ∙ e)
 
   module _ (d : Cursor) (w : ℕ) (f : w ≡ fault (new_checks (seen s c (block_view s t) 0) (ltb m limit))) where
-    pub variable-bad : Holds s t → (w ≡ 0 → ⊥) → Step (refuse w) s c d → Reads (variable add count limit) s (reading.at c t) (reading.at d t)
+    pub variable_bad : Holds s t → (w ≡ 0 → ⊥) → Step (refuse w) s c d → Reads (variable add count limit) s (reading.at c t) (reading.at d t)
     unfolding variable
-    variable-bad g h q = reading.refuses (new_checks (view s (reading.at c t)) (ltb (count (view s (reading.at c t)).block) limit)) _ refl w
+    variable_bad g h q = reading.refuses (new_checks (view s (reading.at c t)) (ltb (count (view s (reading.at c t)).block) limit)) _ refl w
         (ap fault same_checks ∙ sym f) h g q
 
-    pub variable-good : (u : Tables) → Fits s c → (c.kind ≡ END → ⊥) → w ≡ 0 → Changes s t u (add (text_of s c)) → Step advance s c d
+    pub variable_good : (u : Tables) → Fits s c → (c.kind ≡ END → ⊥) → w ≡ 0 → Changes s t u (add (text_of s c)) → Step advance s c d
         → Reads (variable add count limit) s (reading.at c t) (reading.at d u)
     unfolding variable numbered
-    variable-good u g k h x q =
+    variable_good u g k h x q =
         reading.passes (new_checks (view s (reading.at c t)) (ltb (count (view s (reading.at c t)).block) limit)) _ refl refl (ap fault same_checks ∙ sym f ∙ h)
         (reading.next (reading.changes s c t u (add (text_of s c)) g k x) (reading.step u x.holds q))
         (ap (λ (v : List ℕ). advance (change (add v) (view s (reading.at c t)))) (sym (reading.text_view s (reading.at c t))))

@@ -1,4 +1,4 @@
--- A helper: the names of the variables so far, and what a new one is checked for. `variable-bad` and `variable-good` of
+-- A helper: the names of the variables so far, and what a new one is checked for. `variable_bad` and `variable_good` of
 -- proofs/Laws tie the checks to the model's `variable`.
 use Rattle.std.specs.Prelude.{◌≡◌, Bool, ◌||◌, not, List, [], ◌∷◌, ℕ, length}
 use Rattle.model.specs.Basic.{index_of, tab}

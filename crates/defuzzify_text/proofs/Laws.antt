@@ -19,7 +19,7 @@ use Rattle.model.specs.Parse.{Parse, Checks, text, is, refuse, advance, change, 
 use Rattle.model.specs.Declarations.{singleton_of, is_singleton, is_output, output_of, lower_end, upper_end, range_body, range_part, figure, singleton_body, output_term, default_value, defuzzify_of, defuzzify_variable, change_output}
 use Rattle.cursor.specs.declared.Cursor.{Cursor}
 use Rattle.cursor.specs.View.{seen, text_of, Fits, Step, fault}
-use Rattle.cursor.proofs.Laws.{text_seen, block_seen, fault_bad, fault_good, numbered, lost-expect, lost-judged}
+use Rattle.cursor.proofs.Laws.{text_seen, block_seen, fault_bad, fault_good, numbered, lost_expect, lost_judged}
 use Rattle.lookup.specs.Names.{name_of}
 use Rattle.block_tables.specs.declared.Tables.{Tables}
 use Rattle.block_tables.specs.declared.Output.{Output as Row}
@@ -76,15 +76,15 @@ module _ (s : List ℕ) (c d : Cursor) (t : Tables) (o : ℕ) where
   r = view s (reading.at c t)
 
   module _ (x : ℤ) where
-    upper-bad : (w : ℕ) → fault (a_crisp r ((lt_z x (value_here r), 7) ∷ [])) ≡ w → (w ≡ 0 → ⊥) → Holds s t → Step (refuse w) s c d
+    upper_bad : (w : ℕ) → fault (a_crisp r ((lt_z x (value_here r), 7) ∷ [])) ≡ w → (w ≡ 0 → ⊥) → Holds s t → Step (refuse w) s c d
         → Reads (upper_end o x) s (reading.at c t) (reading.at d t)
     unfolding upper_end
-    upper-bad w e h g q = reading.refuses (a_crisp r ((lt_z x (value_here r), 7) ∷ [])) _ refl w e h g q
+    upper_bad w e h g q = reading.refuses (a_crisp r ((lt_z x (value_here r), 7) ∷ [])) _ refl w e h g q
 
-    pub upper-none : (w : ℕ) → w ≡ fault (a_crisp (seen s c (block_view s t) 0) []) → (w ≡ 0 → ⊥) → Holds s t → Step (refuse w) s c d
+    pub upper_none : (w : ℕ) → w ≡ fault (a_crisp (seen s c (block_view s t) 0) []) → (w ≡ 0 → ⊥) → Holds s t → Step (refuse w) s c d
         → Reads (upper_end o x) s (reading.at c t) (reading.at d t)
     unfolding view
-    upper-none w e h g q = upper-bad w (crisp_bad r (lt_z x (value_here r)) w e h) h g q
+    upper_none w e h g q = upper_bad w (crisp_bad r (lt_z x (value_here r)) w e h) h g q
 
     module _ (e : 0 ≡ fault (a_crisp (seen s c (block_view s t) 0) [])) (y : ℤ) (v : y ≡ value_of (text_of s c)) where
       above : (b : Bool) → lt_z x y ≡ b → fault (a_crisp r ((lt_z x (value_here r), 7) ∷ [])) ≡ (if b then 0 else 7)
@@ -93,14 +93,14 @@ module _ (s : List ℕ) (c d : Cursor) (t : Tables) (o : ℕ) where
           crisp_good r (lt_z x (value_here r)) e
           ∙ ap (λ (z : Bool). if z then 0 else 7) (ap (λ (w : List ℕ). lt_z x (value_of w)) (text_seen s c (block_view s t) 0) ∙ ap (lt_z x) (sym v) ∙ q)
 
-      pub upper-low : lt_z x y ≡ false → Holds s t → Step (refuse 7) s c d → Reads (upper_end o x) s (reading.at c t) (reading.at d t)
-      upper-low q g p = upper-bad 7 (above false q) (λ z. omega arith) g p
+      pub upper_low : lt_z x y ≡ false → Holds s t → Step (refuse 7) s c d → Reads (upper_end o x) s (reading.at c t) (reading.at d t)
+      upper_low q g p = upper_bad 7 (above false q) (λ z. omega arith) g p
 
-      pub upper-set : (u : Tables) → lt_z x y ≡ true → Fits s c → (c.kind ≡ END → ⊥)
+      pub upper_set : (u : Tables) → lt_z x y ≡ true → Fits s c → (c.kind ≡ END → ⊥)
           → Changes s t u (change_output (with_range (record { least = x; most = y })) o) → Step advance s c d
           → Reads (upper_end o x) s (reading.at c t) (reading.at d u)
       unfolding upper_end numbered
-      upper-set u q g k z p = reading.passes (a_crisp r ((lt_z x (value_here r), 7) ∷ [])) _ refl refl (above true q)
+      upper_set u q g k z p = reading.passes (a_crisp r ((lt_z x (value_here r), 7) ∷ [])) _ refl refl (above true q)
           (reading.next (reading.changes s c t u _ g k z) (reading.step u z.holds p))
           (ap (λ (m : ℤ). advance (change (change_output (with_range (record { least = x; most = m })) o) r))
           (v ∙ ap value_of (sym (reading.text_view s (reading.at c t)))))
@@ -115,10 +115,10 @@ module _ (s : List ℕ) (c d : Cursor) (t : Tables) (o : ℕ) where
       let ok = q.fits in
       reading.also x
       (sym (ap (λ (z : Parse). expect SEMICOLON (expect CLOSE (upper_end o (value_here r) (expect DOTS z)))) (sym x.reads)
-      ∙ ap (λ (z : Parse). expect SEMICOLON (expect CLOSE (upper_end o (value_here r) z))) (lost-expect s d ok l b 0 DOTS (λ z. omega arith))
-      ∙ ap (λ (z : Parse). expect SEMICOLON (expect CLOSE z)) (lost-judged s d ok l b 0 NUMBER _ _ (λ z. omega arith))
-      ∙ ap (expect SEMICOLON) (lost-expect s d ok l b 0 CLOSE (λ z. omega arith))
-      ∙ lost-expect s d ok l b 0 SEMICOLON (λ z. omega arith) ∙ x.reads))
+      ∙ ap (λ (z : Parse). expect SEMICOLON (expect CLOSE (upper_end o (value_here r) z))) (lost_expect s d ok l b 0 DOTS (λ z. omega arith))
+      ∙ ap (λ (z : Parse). expect SEMICOLON (expect CLOSE z)) (lost_judged s d ok l b 0 NUMBER _ _ (λ z. omega arith))
+      ∙ ap (expect SEMICOLON) (lost_expect s d ok l b 0 CLOSE (λ z. omega arith))
+      ∙ lost_expect s d ok l b 0 SEMICOLON (λ z. omega arith) ∙ x.reads))
 
   pub is_crisp_lem : 0 ≡ fault (a_crisp (seen s c (block_view s t) 0) []) → Holds s t → Step advance s c d → Reads lower_end s (reading.at c t) (reading.at d t)
   unfolding lower_end view numbered
@@ -131,19 +131,19 @@ module _ (s : List ℕ) (c d : Cursor) (t : Tables) (o : ℕ) where
     checks = ap (λ g. figure_checks g (seen s c (block_view s t) 0))
         (ap (range_of o) (block_seen s c (block_view s t) 0) ∙ lookups.range_is s t (block_view s t) (outputs_are s t) o b)
 
-    pub figure-none : (w : ℕ) → w ≡ fault (figure_checks (range_view (output_row t o)) (seen s c (block_view s t) 0)) → (w ≡ 0 → ⊥) → Holds s t
+    pub figure_none : (w : ℕ) → w ≡ fault (figure_checks (range_view (output_row t o)) (seen s c (block_view s t) 0)) → (w ≡ 0 → ⊥) → Holds s t
         → Step (refuse w) s c d
         → Reads (figure with o) s (reading.at c t) (reading.at d t)
     unfolding figure
-    figure-none w e h g q = reading.refuses (a_crisp r ((in_range (range_of o r.block) (value_here r), 7) ∷ [])) _ refl w
+    figure_none w e h g q = reading.refuses (a_crisp r ((in_range (range_of o r.block) (value_here r), 7) ∷ [])) _ refl w
         (ap fault checks ∙ sym e) h g q
 
-    pub figure-set : (u : Tables) (y : ℤ) → 0 ≡ fault (figure_checks (range_view (output_row t o)) (seen s c (block_view s t) 0))
+    pub figure_set : (u : Tables) (y : ℤ) → 0 ≡ fault (figure_checks (range_view (output_row t o)) (seen s c (block_view s t) 0))
         → y ≡ value_of (text_of s c) → Fits s c → (c.kind ≡ END → ⊥)
         → Changes s t u (change_output (with y) o) → Step advance s c d
         → Reads (figure with o) s (reading.at c t) (reading.at d u)
     unfolding figure numbered
-    figure-set u y e v g k z p = reading.passes (a_crisp r ((in_range (range_of o r.block) (value_here r), 7) ∷ [])) _ refl refl (ap fault checks ∙ sym e)
+    figure_set u y e v g k z p = reading.passes (a_crisp r ((in_range (range_of o r.block) (value_here r), 7) ∷ [])) _ refl refl (ap fault checks ∙ sym e)
         (reading.next (reading.changes s c t u _ g k z) (reading.step u z.holds p))
         (ap (λ (m : ℤ). advance (change (change_output (with m) o) r)) (v ∙ ap value_of (sym (reading.text_view s (reading.at c t)))))
 
@@ -277,9 +277,9 @@ module _ (s : List ℕ) (c : Cursor) (t : Tables) where
     many : length v.block.outputs ≡ t.output_count
     many = ap (λ (z : Block). length z.outputs) (reading.block_view_lem s (reading.at c t)) ∙ lookups.outputs_count s t (block_view s t) (outputs_are s t)
 
-    none-there : t.output_count ≤ i → fault (part_given (output_of (text v) v.block)) ≡ 5
+    none_there : t.output_count ≤ i → fault (part_given (output_of (text v) v.block)) ≡ 5
     unfolding fault
-    none-there h = tail ∙ simp (reading.block_view_lem s (reading.at c t), lookups.singletons_none s t (block_view s t) (outputs_are s t) i h)
+    none_there h = tail ∙ simp (reading.block_view_lem s (reading.at c t), lookups.singletons_none s t (block_view s t) (outputs_are s t) i h)
         (simp (lookups.outputs_count s t (block_view s t) (outputs_are s t), le-ltb _ _ h) refl)
 
     given : (n : ℕ) → i < t.output_count → (output_row t i).terms ≡ n → fault (part_given (output_of (text v) v.block)) ≡ (if eqb n 0 then 0 else 4)
@@ -293,20 +293,20 @@ module _ (s : List ℕ) (c : Cursor) (t : Tables) where
         there : i < t.output_count → length (singletons_of i v.block) ≡ (output_row t i).terms
         there h = ap (λ (z : Block). length (singletons_of i z)) (reading.block_view_lem s (reading.at c t)) ∙ singletons_count s t i h
 
-    pub part-unknown : (d : Cursor) → t.output_count ≤ i → Holds s t → Step (refuse 5) s c d → Reads defuzzify_variable s (reading.at c t) (reading.at d t)
+    pub part_unknown : (d : Cursor) → t.output_count ≤ i → Holds s t → Step (refuse 5) s c d → Reads defuzzify_variable s (reading.at c t) (reading.at d t)
     unfolding defuzzify_variable defuzzify_of
-    part-unknown d h g p = reading.refuses (part_given (output_of (text v) v.block)) _ refl 5 (none-there h) (λ z. omega arith) g p
+    part_unknown d h g p = reading.refuses (part_given (output_of (text v) v.block)) _ refl 5 (none_there h) (λ z. omega arith) g p
 
-    pub part-again : (d : Cursor) → i < t.output_count → ((output_row t i).terms ≡ 0 → ⊥) → Holds s t → Step (refuse 4) s c d
+    pub part_again : (d : Cursor) → i < t.output_count → ((output_row t i).terms ≡ 0 → ⊥) → Holds s t → Step (refuse 4) s c d
         → Reads defuzzify_variable s (reading.at c t) (reading.at d t)
     unfolding defuzzify_variable defuzzify_of
-    part-again d h q g p = reading.refuses (part_given (output_of (text v) v.block)) _ refl 4
+    part_again d h q g p = reading.refuses (part_given (output_of (text v) v.block)) _ refl 4
         (given (output_row t i).terms h refl ∙ simp (ne_eqb _ _ q) refl) (λ z. omega arith) g p
 
-    pub part-read : (d : Cursor) (r : ParseState) → i < t.output_count → (output_row t i).terms ≡ 0 → Holds s t → Step advance s c d
+    pub part_read : (d : Cursor) (r : ParseState) → i < t.output_count → (output_row t i).terms ≡ 0 → Holds s t → Step advance s c d
         → Reads (part_text i) s (reading.at d t) r → Reads defuzzify_variable s (reading.at c t) r
     unfolding defuzzify_variable defuzzify_of numbered part_text method_text
-    part-read d r h q g p x =
+    part_read d r h q g p x =
         reading.passes (part_given (output_of (text v) v.block)) _ refl refl (given 0 h q) (reading.next (reading.step t g p) x)
         (ap (λ (k : ℕ). part_text k (advance v)) (sym (output_is i f)))
 

@@ -1,4 +1,4 @@
--- A helper: readings of what belongs to one output. `part-read` of proofs/Laws ties `part_text` to the model's
+-- A helper: readings of what belongs to one output. `part_read` of proofs/Laws ties `part_text` to the model's
 -- `defuzzify_variable`.
 use Rattle.std.specs.Prelude.{◌≡◌, true, false, not, List, [], ◌∷◌, ℕ, ◌+◌, ◌*◌, ◌≤◌, ◌<◌, length}
 use Rattle.std.proofs.Math.Option.{Option}

@@ -51,37 +51,37 @@ module _ (s : List ℕ) (c d : Cursor) where
   restep q e = record { reads = λ b m. q.reads b m ∙ e b m; fewer = q.fewer; fits = q.fits; sticky = q.sticky }
 
   module _ (n : ℕ) (last : LastTwo) where
-    pub position-none : (w : ℕ) → ((b : Block) (m : ℕ) → w ≡ fault (a_crisp (seen s c b m) [])) → (w ≡ 0 → ⊥) → Step (refuse w) s c d
+    pub position_none : (w : ℕ) → ((b : Block) (m : ℕ) → w ≡ fault (a_crisp (seen s c b m) [])) → (w ≡ 0 → ⊥) → Step (refuse w) s c d
         → Step (position_after n last) s c d
     unfolding position_after
-    position-none w e h q = restep q (λ b m. sym (judged_bad (seen s c b m) _ w (a_crisp (seen s c b m) []) _ (sym (e b m)) h))
+    position_none w e h q = restep q (λ b m. sym (judged_bad (seen s c b m) _ w (a_crisp (seen s c b m) []) _ (sym (e b m)) h))
 
     module _ (e : (b : Block) (m : ℕ) → 0 ≡ fault (a_crisp (seen s c b m) [])) where
-      position-then : (b : Block) (m : ℕ) → position_after n last (seen s c b m)
+      position_then : (b : Block) (m : ℕ) → position_after n last (seen s c b m)
           ≡ (if may_stand n last (value_of (text_of s c)) then advance (seen s c b m) else refuse 7 (seen s c b m))
       unfolding position_after judged numbered
-      position-then b m =
+      position_then b m =
           judged_good (seen s c b m) (advance (seen s c b m)) (a_crisp (seen s c b m) []) ((may_stand n last (value_here (seen s c b m)), 7) ∷ []) refl
           (sym (e b m)) ∙ simp (text_seen s c b m)
 
-      pub position-low : may_stand n last (value_of (text_of s c)) ≡ false → Step (refuse 7) s c d → Step (position_after n last) s c d
-      position-low h q = restep q (λ b m. sym (position-then b m ∙ simp h))
+      pub position_low : may_stand n last (value_of (text_of s c)) ≡ false → Step (refuse 7) s c d → Step (position_after n last) s c d
+      position_low h q = restep q (λ b m. sym (position_then b m ∙ simp h))
 
-      pub position-good : may_stand n last (value_of (text_of s c)) ≡ true → Step advance s c d → Step (position_after n last) s c d
-      position-good h q = restep q (λ b m. sym (position-then b m ∙ simp h))
+      pub position_good : may_stand n last (value_of (text_of s c)) ≡ true → Step advance s c d → Step (position_after n last) s c d
+      position_good h q = restep q (λ b m. sym (position_then b m ∙ simp h))
 
   module _ (n : ℕ) where
     pub end_none : (c.kind ≡ SEMICOLON → ⊥) → Step (refuse 2) s c d → Step (end_after n) s c d
     unfolding end_after judged
     end_none h q = restep q (λ b m. sym (simp (kind_seen, ne_eqb _ _ h)))
 
-    pub end-few : c.kind ≡ SEMICOLON → n < point_least → Step (refuse 7) s c d → Step (end_after n) s c d
+    pub end_few : c.kind ≡ SEMICOLON → n < point_least → Step (refuse 7) s c d → Step (end_after n) s c d
     unfolding end_after judged
-    end-few h l q = restep q (λ b m. sym (simp (kind_seen, eq-eqb _ _ h, lt-leb _ _ l)))
+    end_few h l q = restep q (λ b m. sym (simp (kind_seen, eq-eqb _ _ h, lt-leb _ _ l)))
 
-    pub end-good : c.kind ≡ SEMICOLON → point_least ≤ n → Step advance s c d → Step (end_after n) s c d
+    pub end_good : c.kind ≡ SEMICOLON → point_least ≤ n → Step advance s c d → Step (end_after n) s c d
     unfolding end_after judged
-    end-good h l q = restep q (λ b m. sym (simp (kind_seen, eq-eqb _ _ h, le-leb _ _ l)))
+    end_good h l q = restep q (λ b m. sym (simp (kind_seen, eq-eqb _ _ h, le-leb _ _ l)))
 
 -- ONE TERM MORE IN A BLOCK
 update_twice : {A : Type 0} (f g : A → A) (i : ℕ) (xs : List A) → update f i (update g i xs) ≡ update (λ v. f (g v)) i xs
@@ -130,9 +130,9 @@ module _ (p : Shape) where
         tab_more (point_at p.points) (point_at (set p.points n q)) n (point_of q)
         (λ k l. ap point_of (get_or-set_other p.points n k q no_point (λ z. omega arith))) (ap point_of (get_or-set_same p.points n q no_point h))
 
-    pub still-ends : (last : LastTwo) → Ends (positions (points_read p)) p.count last
+    pub still_ends : (last : LastTwo) → Ends (positions (points_read p)) p.count last
         → Ends (positions (points_read (longer d q))) (p.count + 1) (last_with last q.at.0)
-    still-ends last e =
+    still_ends last e =
         let x = q.at.0 in
         let m : positions (points_read (longer d q)) ≡ positions (points_read p) ++ (x ∷ []) =
         ap positions read_more ∙ map-append (λ v. v.at) (points_read p) (point_of q ∷ []) in
@@ -198,19 +198,19 @@ module _ (s : List ℕ) (c d : Cursor) (n : ℕ) (last : LastTwo) where
   point_none q h y k = refused 2 q y k (λ x ps z. simp (kind_with, ne_eqb _ _ h))
 
   module _ (h : c.kind ≡ OPEN) where
-    point-then : (x : Place) (ps : List block.Point) → length ps ≡ n → point x.input (view_with s x ps c)
+    point_then : (x : Place) (ps : List block.Point) → length ps ≡ n → point x.input (view_with s x ps c)
         ≡ (if ltb n point_limit then point_body x.input (advance (view_with s x ps c)) else refuse 6 (view_with s x ps c))
     unfolding point judged
-    point-then x ps e = simp (kind_with, eq-eqb _ _ h, points_with_lem, e)
+    point_then x ps e = simp (kind_with, eq-eqb _ _ h, points_with_lem, e)
 
-    pub point-full : (q : Point) → point_limit ≤ n → Step (refuse 6) s c d → (d.why ≡ 0 → ⊥)
+    pub point_full : (q : Point) → point_limit ≤ n → Step (refuse 6) s c d → (d.why ≡ 0 → ⊥)
         → ReadsPoint point n last s c (record { cursor = d; read = false; point = q })
-    point-full q l y k = refused 6 q y k (λ x ps z. point-then x ps (as_many ps z) ∙ simp (le-ltb _ _ l))
+    point_full q l y k = refused 6 q y k (λ x ps z. point_then x ps (as_many ps z) ∙ simp (le-ltb _ _ l))
 
-    pub point-good : (r : PointRead) → n < point_limit → Step advance s c d → ReadsPoint point_body n last s d r → ReadsPoint point n last s c r
-    point-good r l y z = record {
+    pub point_good : (r : PointRead) → n < point_limit → Step advance s c d → ReadsPoint point_body n last s d r → ReadsPoint point n last s c r
+    point_good r l y z = record {
       reads = λ x ps e.
-          z.reads x ps e ∙ ap (point_body x.input) (step_with s x ps c y) ∙ sym (point-then x ps (as_many ps e) ∙ simp (lt-ltb _ _ l));
+          z.reads x ps e ∙ ap (point_body x.input) (step_with s x ps c y) ∙ sym (point_then x ps (as_many ps e) ∙ simp (lt-ltb _ _ l));
       fewer = let a = z.fewer in let b = y.fewer in omega arith;
       fits = z.fits;
       stops = z.stops;
@@ -227,37 +227,37 @@ module _ (s : List ℕ) (c d : Cursor) (n : ℕ) (last : LastTwo) where
   unfolding point_degree view_with
   lost_from f h v x ps =
       let b = block_with x ps in
-      let l = cursor.lost-expect s d f h b 0 in
+      let l = cursor.lost_expect s d f h b 0 in
       sym (ap (λ (r : Parse). expect CLOSE (point_degree x.input v r)) (l COMMA (λ q. omega arith))
-      ∙ ap (expect CLOSE) (cursor.lost-judged s d f h b 0 NUMBER _ _ (λ q. omega arith))
+      ∙ ap (expect CLOSE) (cursor.lost_judged s d f h b 0 NUMBER _ _ (λ q. omega arith))
       ∙ l CLOSE (λ q. omega arith))
 
   module _ (y : Step (position_after n last) s c d) where
     -- from behind the position on
-    body-then : (v : ℤ) → v ≡ value_of (text_of s c) → (x : Place) (ps : List block.Point) → Ends (positions ps) n last
+    body_then : (v : ℤ) → v ≡ value_of (text_of s c) → (x : Place) (ps : List block.Point) → Ends (positions ps) n last
         → expect CLOSE (point_degree x.input v (expect COMMA (view_with s x ps d))) ≡ point_body x.input (view_with s x ps c)
     unfolding point_body
-    body-then v o x ps z =
+    body_then v o x ps z =
         ap (λ (a : Parse). expect CLOSE (point_degree x.input v (expect COMMA a))) (step_with s x ps c y ∙ sym (position_is x ps z))
         ∙ ap (λ (a : ℤ). expect CLOSE (point_degree x.input a (expect COMMA (point_position x.input (view_with s x ps c)))))
         (o ∙ sym (ap value_of (text_with s x ps c)))
 
-    pub from-lost : (q : Point) → (d.why ≡ 0 → ⊥) → ReadsPoint point_body n last s c (record { cursor = d; read = false; point = q })
-    from-lost q h = record {
-      reads = λ x ps z. lost_from y.fits h _ x ps ∙ body-then (value_of (text_of s c)) refl x ps z;
+    pub from_lost : (q : Point) → (d.why ≡ 0 → ⊥) → ReadsPoint point_body n last s c (record { cursor = d; read = false; point = q })
+    from_lost q h = record {
+      reads = λ x ps z. lost_from y.fits h _ x ps ∙ body_then (value_of (text_of s c)) refl x ps z;
       fewer = y.fewer;
       fits = y.fits;
       stops = λ z. h;
     }
 
-    pub from-good : (e : Cursor) (r : PointRead) (f : Cursor) (v : ℤ) → v ≡ value_of (text_of s c) → Step (expect COMMA) s d e
+    pub from_good : (e : Cursor) (r : PointRead) (f : Cursor) (v : ℤ) → v ≡ value_of (text_of s c) → Step (expect COMMA) s d e
         → ReadsPoint (λ i. point_degree i v) n last s e r → Step (expect CLOSE) s r.cursor f
         → ReadsPoint point_body n last s c (record { cursor = f; read = r.read; point = r.point })
-    from-good e r f v o k w l = record {
+    from_good e r f v o k w l = record {
       reads = λ x ps z.
           step_with s x (points_with ps r) r.cursor l
           ∙ ap (expect CLOSE) (w.reads x ps z ∙ ap (point_degree x.input v) (step_with s x ps d k))
-          ∙ body-then v o x ps z;
+          ∙ body_then v o x ps z;
       fewer = let a = w.fewer in omega (arith, y.fewer, k.fewer, l.fewer);
       fits = l.fits;
       stops = λ z q. w.stops z (l.sticky q);
@@ -313,8 +313,8 @@ module _ (s : List ℕ) where
   )
 
   module _ (p₀ p : Shape) (last : LastTwo) (g : Going p₀ p last) (a : PointRead) (y : ReadsPoint point p.count last s p.cursor a) where
-    read-with : (x : Place) → view_with s x (points_with (points_read p) a) a.cursor ≡ point x.input (view_at s x p)
-    read-with x = y.reads x (points_read p) g.1
+    read_with : (x : Place) → view_with s x (points_with (points_read p) a) a.cursor ≡ point x.input (view_at s x p)
+    read_with x = y.reads x (points_read p) g.1
 
     ends_with : (r : Shape) → Room s r → left s r.cursor ≤ left s p.cursor
         → ((x : Place) → view_at s x r ≡ point x.input (view_at s x p)) → (r.cursor.kind ≡ COMMA → ⊥)
@@ -332,27 +332,27 @@ module _ (s : List ℕ) where
     unfolding points_read
     stops h =
         ends_with (moved a.cursor p) (record { fits = y.fits; few = g.0.few; size = g.0.size }) y.fewer
-        (λ x. ap (λ (t : Bool). view_with s x (if t then points_read p ++ (point_of a.point ∷ []) else points_read p) a.cursor) (sym h) ∙ read-with x)
+        (λ x. ap (λ (t : Bool). view_with s x (if t then points_read p ++ (point_of a.point ∷ []) else points_read p) a.cursor) (sym h) ∙ read_with x)
         (λ z. omega (arith, cursor.lost_kind s a.cursor y.fits (y.stops h)))
 
     module _ (h : a.read ≡ true) (l : p.count < point_limit) where
-      more-read : (x : Place) → view_at s x (longer p a.cursor a.point) ≡ point x.input (view_at s x p)
-      more-read x =
+      more_read : (x : Place) → view_at s x (longer p a.cursor a.point) ≡ point x.input (view_at s x p)
+      more_read x =
           ap (λ (ps : List block.Point). view_with s x ps a.cursor) (read_more p a.cursor a.point (omega (arith, g.0.size)))
-          ∙ ap (λ (t : Bool). view_with s x (if t then points_read p ++ (point_of a.point ∷ []) else points_read p) a.cursor) (sym h) ∙ read-with x
+          ∙ ap (λ (t : Bool). view_with s x (if t then points_read p ++ (point_of a.point ∷ []) else points_read p) a.cursor) (sym h) ∙ read_with x
 
       more_room : Room s (longer p a.cursor a.point)
       more_room = record { fits = y.fits; few = omega arith; size = simp length-set g.0.size }
 
       pub leaves : (a.cursor.kind ≡ COMMA → ⊥) → ReadsShape (λ i. listed (point i)) s p₀ (longer p a.cursor a.point)
-      leaves k = ends_with (longer p a.cursor a.point) more_room y.fewer more-read k
+      leaves k = ends_with (longer p a.cursor a.point) more_room y.fewer more_read k
 
       pub goes : (d : Cursor) → a.cursor.kind ≡ COMMA → Step advance s a.cursor d → left s d < left s a.cursor
           → Going p₀ (longer p d a.point) (last_with last a.point.at.0)
       unfolding expect points_read
       goes d k q m = (
         record { fits = q.fits; few = omega arith; size = simp length-set g.0.size },
-        still-ends p d a.point (omega (arith, g.0.size)) last g.1,
+        still_ends p d a.point (omega (arith, g.0.size)) last g.1,
         omega (arith, y.fewer, g.2),
         λ r x e n.
             let u = longer p a.cursor a.point in
@@ -362,7 +362,7 @@ module _ (s : List ℕ) where
             ∙ ap (λ (w : Parse). repeat_on f COMMA (again x.input) (point x.input w))
             (simp (kind_with, eq-eqb _ _ k) (sym (step_with s x (points_read u) a.cursor q)))
             ∙ ap (repeat_on f COMMA (again x.input)) (sym e))
-            (omega arith) (g.3 u x (more-read x) y.fewer),
+            (omega arith) (g.3 u x (more_read x) y.fewer),
       )
 
 -- A TERM
@@ -376,11 +376,11 @@ pub term_lost : (s : List ℕ) (i : ℕ) (b : Block) (c d e : Cursor) → input_
 unfolding end_of_points listed point
 term_lost s i b c d e p q f w =
     sym (p ∙ ap (term_from i) (sym q)
-    ∙ ap (λ (r : Parse). end_of_points i (listed (point i) r)) (cursor.lost-expect s e f w b 0 ASSIGN (λ x. omega arith))
+    ∙ ap (λ (r : Parse). end_of_points i (listed (point i) r)) (cursor.lost_expect s e f w b 0 ASSIGN (λ x. omega arith))
     ∙ ap (λ (r : Parse). end_of_points i (repeated COMMA (λ y. point i (expect COMMA y)) r))
-    (cursor.lost-judged s e f w b 0 40 _ _ (λ x. omega arith))
-    ∙ ap (end_of_points i) (cursor.lost-repeated s e f w b 0 COMMA _ (λ x. omega arith))
-    ∙ cursor.lost-judged s e f w b 0 59 _ _ (λ x. omega arith))
+    (cursor.lost_judged s e f w b 0 40 _ _ (λ x. omega arith))
+    ∙ ap (end_of_points i) (cursor.lost_repeated s e f w b 0 COMMA _ (λ x. omega arith))
+    ∙ cursor.lost_judged s e f w b 0 59 _ _ (λ x. omega arith))
 
 module _ (s names : List ℕ) (i n : ℕ) (b : Block) (t : Terms s names i n b) (c d : Cursor) where
   pub term_full : c.kind ≡ TERM → term_limit ≤ n → Step (refuse 6) s c d → seen s d b 0 ≡ input_term i (seen s c b 0)
@@ -401,23 +401,23 @@ module _ (s names : List ℕ) (i n : ℕ) (b : Block) (t : Terms s names i n b) 
     found : is_term i (text (seen s c b 0)) (seen s c b 0).block ≡ ltb j n
     found = simp (text_seen, block_seen, t.count, t.found) (ap (λ (k : ℕ). ltb k n) (sym e))
 
-    name-then : term_name i (seen s c b 0)
+    name_then : term_name i (seen s c b 0)
         ≡ (if not (ltb j n) then advance (change (add_term i (text_of s c)) (seen s c b 0)) else refuse 4 (seen s c b 0))
     unfolding term_name judged numbered
-    name-then =
+    name_then =
         let r = seen s c b 0 in
         judged_good r (advance (change (add_term i (text r)) r)) (a_name r []) ((not (is_term i (text r) r.block), 4) ∷ []) refl (sym f)
         ∙ ap (λ (x : Bool). if not x then advance (change (add_term i (text r)) r) else refuse 4 r) found
         ∙ ap (λ (w : List ℕ). if not (ltb j n) then advance (change (add_term i w) r) else refuse 4 r) (text_seen s c b 0)
 
-    pub name-taken : j < n → Step (refuse 4) s c d → seen s d b 0 ≡ term_name i (seen s c b 0)
-    name-taken h q = q.reads b 0 ∙ sym (name-then ∙ simp (lt-ltb _ _ h))
+    pub name_taken : j < n → Step (refuse 4) s c d → seen s d b 0 ≡ term_name i (seen s c b 0)
+    name_taken h q = q.reads b 0 ∙ sym (name_then ∙ simp (lt-ltb _ _ h))
 
     pub name_good : n ≤ j → c.why ≡ 0 → Step advance s c d
         → seen s d (with_term i (record { name = text_of s c; points = [] }) b) 0 ≡ term_name i (seen s c b 0)
     unfolding add_term with_term
     name_good h k q =
-        q.reads _ 0 ∙ ap advance (sym (cursor.changed s c b 0 (add_term i (text_of s c)) k)) ∙ sym (name-then ∙ simp (le-ltb _ _ h))
+        q.reads _ 0 ∙ ap advance (sym (cursor.changed s c b 0 (add_term i (text_of s c)) k)) ∙ sym (name_then ∙ simp (le-ltb _ _ h))
 
 -- TERMS, into the tables
 module _ (s : List ℕ) (t : Tables) (i : ℕ) where
@@ -430,17 +430,17 @@ module _ (s : List ℕ) (t : Tables) (i : ℕ) where
   }
 
   module _ (c : Cursor) (a : TermName) (k : Names s i (block_view s t) c a) where
-    pub turn-lost : Holds s t → Fits s a.cursor → left s a.cursor < left s c → (a.cursor.why ≡ 0 → ⊥)
+    pub turn_lost : Holds s t → Fits s a.cursor → left s a.cursor < left s c → (a.cursor.why ≡ 0 → ⊥)
         → Reads (input_term i) s (at c t) (at a.cursor t)
     unfolding view
-    turn-lost h f m w = record { reads = k.lost w; fewer = omega arith; good = record { fits = f; holds = h } }
+    turn_lost h f m w = record { reads = k.lost w; fewer = omega arith; good = record { fits = f; holds = h } }
 
-    pub turn-good : (q : Shape) (u : Tables) → Holds s t → i < t.input_count → a.cursor.why ≡ 0 → left s a.cursor < left s c
+    pub turn_good : (q : Shape) (u : Tables) → Holds s t → i < t.input_count → a.cursor.why ≡ 0 → left s a.cursor < left s c
         → ReadsShape term_from s (no_points a.cursor) q
         → Changes s t u (with_term i (record { name = slice a.start a.end s; points = tab (point_at q.points) q.count 0 }))
         → Reads (input_term i) s (at c t) (at q.cursor u)
     unfolding view view_with points_read tab
-    turn-good q u g h w m y z =
+    turn_good q u g h w m y z =
         let x : Place = record { input = i; name = slice a.start a.end s; block = block_view s t; known = (terms_known g h).input } in
         record {
           reads = ap (λ (b : Block). seen s q.cursor b 0) z.view ∙ y.reads x ∙ sym (k.named w);
@@ -467,8 +467,8 @@ module _ (s : List ℕ) (c : Cursor) (t : Tables) (d : Cursor) where
     unfolding block_view
     input_is = simp (text_view, block_view_lem) (lookups.input_of_lem s t (block_view s t) refl g (text_of s c) ∙ sym e)
 
-    abbrev partFrom : Part
-    partFrom r = expect END_FUZZIFY (repeated TERM (input_term i) (input_term i r))
+    abbrev part_from : Part
+    part_from r = expect END_FUZZIFY (repeated TERM (input_term i) (input_term i r))
 
     known : is_input (text (view s (at c t))) (view s (at c t)).block ≡ ltb i t.input_count
     unfolding block_view
@@ -478,42 +478,42 @@ module _ (s : List ℕ) (c : Cursor) (t : Tables) (d : Cursor) where
         ∙ ap (ltb i) (lookups.inputs_count s t (block_view s t) refl)
 
     part_then : fuzzify_variable (view s (at c t))
-        ≡ judged ((is_empty (terms_of i (block_view s t)), 4) ∷ (ltb i t.input_count, 5) ∷ []) (view s (at c t)) (partFrom (advance (view s (at c t))))
+        ≡ judged ((is_empty (terms_of i (block_view s t)), 4) ∷ (ltb i t.input_count, 5) ∷ []) (view s (at c t)) (part_from (advance (view s (at c t))))
     unfolding fuzzify_variable fuzzify_of numbered view
     part_then =
         ap (λ (k : ℕ). fuzzify_of k (view s (at c t))) input_is
         ∙ judged_good (view s (at c t)) _ (a_name (view s (at c t)) []) _ refl (sym f)
         ∙ ap (λ (b : Block). judged ((is_empty (terms_of i b), 4) ∷ (is_input (text (view s (at c t))) (view s (at c t)).block, 5) ∷ [])
-        (view s (at c t)) (partFrom (advance (view s (at c t))))) (block_view_lem s (at c t))
-        ∙ ap (λ (x : Bool). judged ((is_empty (terms_of i (block_view s t)), 4) ∷ (x, 5) ∷ []) (view s (at c t)) (partFrom (advance (view s (at c t))))) known
+        (view s (at c t)) (part_from (advance (view s (at c t))))) (block_view_lem s (at c t))
+        ∙ ap (λ (x : Bool). judged ((is_empty (terms_of i (block_view s t)), 4) ∷ (x, 5) ∷ []) (view s (at c t)) (part_from (advance (view s (at c t))))) known
 
-    pub part-unknown : t.input_count ≤ i → Step (refuse 5) s c d → Reads fuzzify_variable s (at c t) (at d t)
+    pub part_unknown : t.input_count ≤ i → Step (refuse 5) s c d → Reads fuzzify_variable s (at c t) (at d t)
     unfolding judged block_view
-    part-unknown h q = reading.also (reading.step t g q) (sym (part_then ∙ simp (lookups.terms_none s t (block_view s t) refl i h, le-ltb _ _ h)))
+    part_unknown h q = reading.also (reading.step t g q) (sym (part_then ∙ simp (lookups.terms_none s t (block_view s t) refl i h, le-ltb _ _ h)))
 
     module _ (h : i < t.input_count) where
       terms_are : terms_of i (block_view s t) ≡ tab (term_view s t i) (input_row t i).terms 0
       unfolding block_view
       terms_are = lookups.terms_are s t (block_view s t) refl i h
 
-      some-terms : (n : ℕ) → (n ≡ 0 → ⊥) → is_empty (tab (term_view s t i) n 0) ≡ false
+      some_terms : (n : ℕ) → (n ≡ 0 → ⊥) → is_empty (tab (term_view s t i) n 0) ≡ false
       unfolding tab
-      some-terms zero z = absurd (z refl)
-      some-terms (suc n) z = refl
+      some_terms zero z = absurd (z refl)
+      some_terms (suc n) z = refl
 
       no_terms : (n : ℕ) → n ≡ 0 → is_empty (tab (term_view s t i) n 0) ≡ true
       unfolding tab
       no_terms zero z = refl
       no_terms (suc n) z = absurd (omega arith)
 
-      pub part-again : ((input_row t i).terms ≡ 0 → ⊥) → Step (refuse 4) s c d → Reads fuzzify_variable s (at c t) (at d t)
+      pub part_again : ((input_row t i).terms ≡ 0 → ⊥) → Step (refuse 4) s c d → Reads fuzzify_variable s (at c t) (at d t)
       unfolding judged
-      part-again z q = reading.also (reading.step t g q) (sym (part_then ∙ simp (terms_are, some-terms _ z)))
+      part_again z q = reading.also (reading.step t g q) (sym (part_then ∙ simp (terms_are, some_terms _ z)))
 
-      pub part-good : (p : ParseState) (k : Cursor) → (input_row t i).terms ≡ 0 → Step advance s c d
+      pub part_good : (p : ParseState) (k : Cursor) → (input_row t i).terms ≡ 0 → Step advance s c d
           → Reads (λ r. repeated TERM (input_term i) (input_term i r)) s (at d t) p → Step (expect END_FUZZIFY) s p.cursor k
           → Reads fuzzify_variable s (at c t) (at k p.tables)
       unfolding judged
-      part-good p k z q y x =
+      part_good p k z q y x =
           reading.also (reading.next (reading.next (reading.step t g q) y) (reading.step p.tables y.good.holds x))
           (sym (part_then ∙ simp (terms_are, no_terms _ z, lt-ltb _ _ h)))

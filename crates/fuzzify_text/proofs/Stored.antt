@@ -20,7 +20,7 @@ use Rattle.block_tables.specs.Changes.{Changes}
 use Rattle.block_tables.proofs.Fields.{tables_of, holds_of}
 use Rattle.block_tables.proofs.Tabs.{tab_more, tab_same, tab_update, kept, field_stays, each_within}
 use Rattle.block_tables.proofs.Views.{term_same, input_same, singleton_same, output_same}
-use Rattle.block_tables.proofs.Index.{put, rows-put, rows_apart, rows_kept}
+use Rattle.block_tables.proofs.Index.{put, rows_put, rows_apart, rows_kept}
 use Rattle.fuzzify_text.specs.Terms.{with_term}
 
 -- one term more
@@ -89,7 +89,7 @@ module _ (s : List ℕ) (t : Tables) (i k : ℕ) (v : Term) (c : k ≡ i * term_
             (omega arith) (λ j m q. omega arith) x.input);
         output = rows_apart (λ r. r.start) (λ r. r.end) no_output (λ j. input_limit + j) output_limit (λ j m. omega arith) z t.outputs p
             v.start v.end (omega arith) (λ j m q. omega arith) x.output;
-        term = rows-put (λ r. r.start) (λ r. r.end) no_term (λ j. variable_limit + j) input_term_limit (λ j m. omega arith) z t.input_terms k v w
+        term = rows_put (λ r. r.start) (λ r. r.end) no_term (λ j. variable_limit + j) input_term_limit (λ j m. omega arith) z t.input_terms k v w
             (omega (arith, g.terms_size)) (λ j q. omega arith) g.names_size x.term;
         singleton = rows_apart (λ r. r.start) (λ r. r.end) no_singleton (λ j. variable_limit + input_term_limit + j) output_term_limit
             (λ j m. omega arith) z t.output_terms p v.start v.end (omega arith) (λ j m q. omega arith) x.singleton;

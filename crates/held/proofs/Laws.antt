@@ -55,19 +55,19 @@ module _ (w : ℕ → ℕ) (i row flag : ℕ) (er : row ≡ output_place w i) (e
   no_range e = simp (eq-eqb (w (output_place w i + 6)) 0 (sym flag_is ∙ e))
 
   module _ (x y : ℤ) (ex : x ≡ crisp_of (w (row + 7))) (ey : y ≡ crisp_of (w (row + 8))) where
-    ends-are : ◌≡◌ {A = Range} (record { least = x; most = y }) (record { least = crisp_of (w (output_place w i + 7)); most = crisp_of (w (output_place w i + 8)) })
-    ends-are = λ j. record { least = (ex ∙ ap (λ (o : ℕ). crisp_of (w (o + 7))) er) j; most = (ey ∙ ap (λ (o : ℕ). crisp_of (w (o + 8))) er) j }
+    ends_are : ◌≡◌ {A = Range} (record { least = x; most = y }) (record { least = crisp_of (w (output_place w i + 7)); most = crisp_of (w (output_place w i + 8)) })
+    ends_are = λ j. record { least = (ex ∙ ap (λ (o : ℕ). crisp_of (w (o + 7))) er) j; most = (ey ∙ ap (λ (o : ℕ). crisp_of (w (o + 8))) er) j }
 
-    pub some-range : (flag ≡ 0 → ⊥) → (output_at w i).range ≡ some (record { least = x; most = y })
+    pub some_range : (flag ≡ 0 → ⊥) → (output_at w i).range ≡ some (record { least = x; most = y })
     unfolding output_at
-    some-range f = simp (ne_eqb (w (output_place w i + 6)) 0 (λ e. f (flag_is ∙ e))) (ap some (sym ends-are))
+    some_range f = simp (ne_eqb (w (output_place w i + 6)) 0 (λ e. f (flag_is ∙ e))) (ap some (sym ends_are))
 
     pub range_read : range_given (not (eqb flag 0)) x y ≡ (output_at w i).range
     range_read = go (ℕ_discrete flag 0)
       where
         go : Dec (flag ≡ 0) → range_given (not (eqb flag 0)) x y ≡ (output_at w i).range
         go (yes e) = simp (eq-eqb flag 0 e) (sym (no_range e))
-        go (no f) = simp (ne_eqb flag 0 f) (sym (some-range f))
+        go (no f) = simp (ne_eqb flag 0 f) (sym (some_range f))
 
 -- PLACE BY PLACE
 abbrev figures : List Crisp → List ℤ
@@ -85,18 +85,18 @@ module _ (held : Held) where
       ∙ ap (λ (b : Bool). is_zero held i && b) (zeros_on k (suc i) (omega arith))
 
   module _ (w : ℕ → ℕ) where
-    abbrev both-from : ℕ → ℕ → ℕ → ℕ → Bool
-    both-from k i m j = all (fits w held) (tab (λ x. x) k i) && all (is_zero held) (tab (λ x. x) m j)
+    abbrev both_from : ℕ → ℕ → ℕ → ℕ → Bool
+    both_from k i m j = all (fits w held) (tab (λ x. x) k i) && all (is_zero held) (tab (λ x. x) m j)
 
     held_on : (k i m : ℕ) → i + k + m ≡ length held.figures
-        → held_ok (tab (output_at w) k i) (figures (drop i held.figures)) ≡ both-from k i m (i + k)
+        → held_ok (tab (output_at w) k i) (figures (drop i held.figures)) ≡ both_from k i m (i + k)
     unfolding held_ok all tab fits
     held_on zero i m e = zeros_on m i (omega arith) ∙ ap (λ (j : ℕ). all (is_zero held) (tab (λ x. x) m j)) (omega arith)
     held_on (suc k) i m e =
         ap (λ (l : List Crisp). held_ok (tab (output_at w) (suc k) i) (figures l)) (drop-cons held.figures i (record { 0 = pos 0 }) (omega arith))
-        ∙ ap (λ (b : Bool). fits w held i && b) (held_on k (suc i) m (omega arith) ∙ ap (both-from k (suc i) m) (omega arith))
+        ∙ ap (λ (b : Bool). fits w held i && b) (held_on k (suc i) m (omega arith) ∙ ap (both_from k (suc i) m) (omega arith))
         ∙ sym (and_assoc (fits w held i) (all (fits w held) (tab (λ x. x) k (suc i))) (all (is_zero held) (tab (λ x. x) m (i + suc k))))
 
-    pub held-tests : (n : ℕ) → length held.figures ≡ output_limit → n ≤ output_limit
-        → held_ok (tab (output_at w) n 0) (figures held.figures) ≡ both-from n 0 (output_limit - n) n
-    held-tests n e h = held_on n 0 (output_limit - n) (omega arith) ∙ ap (both-from n 0 (output_limit - n)) (omega arith)
+    pub held_tests : (n : ℕ) → length held.figures ≡ output_limit → n ≤ output_limit
+        → held_ok (tab (output_at w) n 0) (figures held.figures) ≡ both_from n 0 (output_limit - n) n
+    held_tests n e h = held_on n 0 (output_limit - n) (omega arith) ∙ ap (both_from n 0 (output_limit - n)) (omega arith)

@@ -1,5 +1,5 @@
 -- A helper: the held record place by place, as the code goes over it.
--- `held-tests` of proofs/Laws ties it to model's `held_ok`.
+-- `held_tests` of proofs/Laws ties it to model's `held_ok`.
 use Rattle.std.specs.Prelude.{Bool, ◌&&◌, ℕ, eqb, ℤ, pos, nat_abs, get_or}
 use Rattle.model.specs.Block.{in_range}
 use Rattle.model.specs.Tokens.{in_crisp}

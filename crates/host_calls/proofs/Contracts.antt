@@ -35,33 +35,33 @@ use Rattle.grillenhelm.specs.contracts.grillenhelm_evaluate_held as lent
 use Rattle.host_calls.specs.HostCalls.{HostLink}
 
 module _ {M : Type 1} {𝓤 : Ura M} (𝓛 : Logic 𝓤) (at_mem : Memory → SProp 𝓤) (run : Routine → Fun 𝓤) (κ : Lft) where
-  abbrev asks_nothing : SProp 𝓤 → Type 2
-  asks_nothing p = p ≡ (connectives 𝓤).⊤ₛ
+  abbrev AsksNothing : SProp 𝓤 → Type 2
+  AsksNothing p = p ≡ (connectives 𝓤).⊤ₛ
 
   -- `grillenhelm_read`: what `Texts.host_reads_iff` has of a text that reads to an image
   read_tells : (κ' : Lft) (text : Bor (List ℕ)) (image : MutBor (List ℕ)) (r : GrillenhelmOutcome) (e : AtExit read.ended (κ, (κ', tt)))
       → let c = read.clauses 𝓛 at_mem run (κ, (κ', tt)) (text, (image, tt)) in
       let o = reads_into (length image.now) text.now in
-      asks_nothing (c.requires tt)
+      AsksNothing (c.requires tt)
       × (c.ensures tt r e ≡ sep 𝓤 (fact 𝓤 (r ≡ outcome_of length o)) (fact 𝓤 (e.1.0.now ≡ buffer_after image.now o)))
   read_tells κ' text image r e = (refl, refl)
 
   check_tells : (image : Bor (List ℕ)) (r : GrillenhelmOutcome) (e : AtExit check.ended (κ, tt))
       → let c = check.clauses 𝓛 at_mem run (κ, tt) (image, tt) in
-      asks_nothing (c.requires tt) × (c.ensures tt r e ≡ fact 𝓤 (r ≡ bare_outcome (loads image.now)))
+      AsksNothing (c.requires tt) × (c.ensures tt r e ≡ fact 𝓤 (r ≡ bare_outcome (loads image.now)))
   check_tells image r e = (refl, refl)
 
   fresh_begins : (image : Bor (List ℕ)) (r : GrillenhelmFresh) (e : AtExit begin.ended (κ, tt))
       → let c = begin.clauses 𝓛 at_mem run (κ, tt) (image, tt) in
-      asks_nothing (c.requires tt) × (c.ensures tt r e ≡ fact 𝓤 (r ≡ fresh_in (fresh image.now)))
+      AsksNothing (c.requires tt) × (c.ensures tt r e ≡ fact 𝓤 (r ≡ fresh_in (fresh image.now)))
   fresh_begins image r e = (refl, refl)
 
   evaluate_links : (image : Bor (List ℕ)) (rs : GrillenhelmReadings) (held : Held) (r : GrillenhelmEvaluation) (e : AtExit by_value.ended (κ, tt))
       → let c = by_value.clauses 𝓛 at_mem run (κ, tt) (image, (rs, (held, tt))) in
-      asks_nothing (c.requires tt) × (c.ensures tt r e ≡ fact 𝓤 (HostLink image.now held rs r))
+      AsksNothing (c.requires tt) × (c.ensures tt r e ≡ fact 𝓤 (HostLink image.now held rs r))
   evaluate_links image rs held r e = (refl, refl)
 
   held_links : (κ' : Lft) (image : Bor (List ℕ)) (rs : GrillenhelmReadings) (held : MutBor Held) (r : GrillenhelmReply) (e : AtExit lent.ended (κ, (κ', tt)))
       → let c = lent.clauses 𝓛 at_mem run (κ, (κ', tt)) (image, (rs, (held, tt))) in
-      asks_nothing (c.requires tt) × (c.ensures tt r e ≡ fact 𝓤 (HostLink image.now held.now rs (leaving r e.1.1.0.now)))
+      AsksNothing (c.requires tt) × (c.ensures tt r e ≡ fact 𝓤 (HostLink image.now held.now rs (leaving r e.1.1.0.now)))
   held_links κ' image rs held r e = (refl, refl)

@@ -129,9 +129,9 @@ module _ (w : ℕ → ℕ) (rs : List Reading) where
         ∙ ap (λ (y : InputType). value_in (taken y (get_or rs i d))) (sym ek)
         ∙ ap value_in (sym et)
 
-    pub found-next : (x : ℤ) → value_in t ≡ some x → (i < length found) × (get_or found i (pos 0) ≡ x)
+    pub found_next : (x : ℤ) → value_in t ≡ some x → (i < length found) × (get_or found i (pos 0) ≡ x)
     unfolding decode
-    found-next x e = next_right (input_at w) d (w INPUTS) 0 i rs x h l m (value_is ∙ e)
+    found_next x e = next_right (input_at w) d (w INPUTS) 0 i rs x h l m (value_is ∙ e)
 
     -- every variant but the first
     pub found_all : OneOf (1 ∷ 2 ∷ 3 ∷ []) (tag_of the_type t) → length found ≡ i

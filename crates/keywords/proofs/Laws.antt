@@ -145,19 +145,19 @@ module _ (w : List ℕ) (h : ℕ) (r : Row) (own : h ≡ slot_of w) (here : r �
   row_unfit n = not_own w (simp (ne_eqb (length w) (slot_row (slot_of w)).size (λ e. n (e ∙ ap (λ (q : Row). q.size) (sym its_row)))))
 
   module _ (text : List ℕ) (group-text : text ≡ joined (group_of (length w)) keywords) (fit : length w ≡ r.size) where
-    row-text : text ≡ joined (group_of r.size) keywords
-    row-text = group-text ∙ ap (λ (n : ℕ). joined (group_of n) keywords) fit
+    row_text_lem : text ≡ joined (group_of r.size) keywords
+    row_text_lem = group-text ∙ ap (λ (n : ℕ). joined (group_of n) keywords) fit
 
     pub row_inside : r.start + r.size ≤ length text
     unfolding slot_row right_row
     row_inside =
         let i = index_of (λ k. eqb h (slot_of k)) keywords in
         let p = both (leb (start_of i + size_of i) (length (joined (group_of (size_of i)) keywords))) (eqb (keyword_at (row_text (row_at i))) i) (right_row_lem h) in
-        rw (row-text, here) (leb-true (start_of i + size_of i) (length (joined (group_of (size_of i)) keywords)) p.0)
+        rw (row_text_lem, here) (leb-true (start_of i + size_of i) (length (joined (group_of (size_of i)) keywords)) p.0)
 
     same_text : alike w (take (r.start + r.size - r.start) (drop r.start text)) ≡ alike w (row_text (slot_row (slot_of w)))
     same_text =
-        ap (alike w) (part r.start (r.start + r.size) text ∙ ap (slice r.start (r.start + r.size)) row-text)
+        ap (alike w) (part r.start (r.start + r.size) text ∙ ap (slice r.start (r.start + r.size)) row_text_lem)
         ∙ ap (λ (q : Row). alike w (row_text q)) its_row
 
     pub row_same : alike w (take (r.start + r.size - r.start) (drop r.start text)) ≡ true → r.keyword ≡ keyword_at w

@@ -15,7 +15,7 @@ use Rattle.model.specs.Keywords.{OPEN, CLOSE, COLON, SEMICOLON, AND, IF, NOT, OR
 use Rattle.model.specs.Tokens.{decimal}
 use Rattle.model.specs.Parse.{Parse, Part, text, is, refuse, advance, change, expect, listed}
 use Rattle.model.specs.Rules.{ConditionRead, condition_read, word, negated_read, subcondition, chain_on, chain, plain, operand, condition_with, closed, parenthesis, condition, add_rule, rule_number, conclusion, weighted, rule_given, rule_from}
-use Rattle.laws.proofs.Walk.{Keeps, KeepsTree, keeps_expect, keeps-chain, keeps-operand, keeps_parenthesis}
+use Rattle.laws.proofs.Walk.{Keeps, KeepsTree, keeps_expect, keeps_chain, keeps_operand, keeps_parenthesis}
 use Rattle.laws.proofs.Refused.{Refused, refused_steps}
 use Rattle.laws.proofs.Repetition.{joined, join, no_join}
 
@@ -108,8 +108,8 @@ module _ (inner inner' : Parse → ConditionRead) (f : Refuses (λ r. (inner r).
   unfolding condition_with
   condition_with_alike =
       let g : (n p : ℕ) (z : n ≡ 0 → ⊥) → KeepsTree (Refused n p) (refused_steps n p z) (operand inner) =
-      λ n p z. keeps-operand (Refused n p) (refused_steps n p z) inner (f n p z) in
-      chain_alike OR or _ _ (λ n p z. keeps-chain (Refused n p) (refused_steps n p z) _ (g n p z) AND and)
+      λ n p z. keeps_operand (Refused n p) (refused_steps n p z) inner (f n p z) in
+      chain_alike OR or _ _ (λ n p z. keeps_chain (Refused n p) (refused_steps n p z) _ (g n p z) AND and)
       (chain_alike AND and _ _ g operand_alike)
 
 parenthesis_refuses : (d : ℕ) → Refuses (λ r. (parenthesis d r).parse)

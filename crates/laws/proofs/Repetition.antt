@@ -15,7 +15,7 @@ use Rattle.model.specs.Parse.{Parse, Part, Checks, no_token, head_of, rest_of, k
 use Rattle.model.specs.Declarations.{add_input, add_output, variable, input_count, output_count, input_declaration, output_declaration, point, input_term, fuzzify_variable, fuzzify, output_term, defuzzify_variable, defuzzify}
 use Rattle.model.specs.Rules.{ConditionRead, condition_read, word, chain_on, chain, operand, parenthesis, conclusion, rule}
 use Rattle.model.specs.Reader.{function_block, start}
-use Rattle.laws.proofs.Walk.{counted, Steps, Keeps, KeepsTree, keeps_expect, keeps_repeated, keeps_listed, keeps_variable, keeps_input_type, keeps_point, keeps_term_name, keeps_end_of_points, keeps_fuzzify_of, keeps_singleton_body, keeps_defuzzify_of, keeps-chain, keeps-operand, keeps_parenthesis, keeps_conclusion, keeps_rule_from, keeps_function_block}
+use Rattle.laws.proofs.Walk.{counted, Steps, Keeps, KeepsTree, keeps_expect, keeps_repeated, keeps_listed, keeps_variable, keeps_input_type, keeps_point, keeps_term_name, keeps_end_of_points, keeps_fuzzify_of, keeps_singleton_body, keeps_defuzzify_of, keeps_chain, keeps_operand, keeps_parenthesis, keeps_conclusion, keeps_rule_from, keeps_function_block}
 
 -- nothing is left but the end
 abbrev pub Ends : List Token → Type 0
@@ -335,13 +335,13 @@ conclusions_enough = listed_enough _ (λ n. keeps_conclusion (Left n) (left_step
 -- AND and OR, where d more parentheses may be open
 module _ (d : ℕ) where
   operand_kept : (n : ℕ) → KeepsTree (Left n) (left_steps n) (operand (parenthesis d))
-  operand_kept n = keeps-operand (Left n) (left_steps n) _ (keeps_parenthesis (Left n) (left_steps n) d)
+  operand_kept n = keeps_operand (Left n) (left_steps n) _ (keeps_parenthesis (Left n) (left_steps n) d)
 
   pub ands_enough : ChainEnough (operand (parenthesis d)) AND and
   ands_enough = chain_enough _ AND and refl operand_kept
 
   pub ors_enough : ChainEnough (chain (operand (parenthesis d)) AND and) OR or
-  ors_enough = chain_enough _ OR or refl (λ n. keeps-chain (Left n) (left_steps n) _ (operand_kept n) AND and)
+  ors_enough = chain_enough _ OR or refl (λ n. keeps_chain (Left n) (left_steps n) _ (operand_kept n) AND and)
 
 -- and no text leads the reader elsewhere
 pub text_steady : (s : List ℕ) → Steady (function_block (start s))

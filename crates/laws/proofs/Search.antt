@@ -35,9 +35,9 @@ module _ {A : Type 0} (f : A → Bool) (g : ℕ → A) (n m : ℕ) where
         rw (k, step n i h) (simp q (omega arith)) in
         (omega arith, sym z ∙ p.1)
 
-    pub past-here : i < n → f (g (m + i)) ≡ true → Past f g n m i → i ≡ index_of f (tab g n m)
+    pub past_here : i < n → f (g (m + i)) ≡ true → Past f g n m i → i ≡ index_of f (tab g n m)
     unfolding tab
-    past-here h q p =
+    past_here h q p =
         let z : i + index_of f (tab g (n - i) (m + i)) ≡ i = rw (step n i h) (simp q (omega arith)) in
         sym z ∙ p.1
 

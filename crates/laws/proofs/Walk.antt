@@ -218,40 +218,40 @@ module _ (K : Parse → Type 0) (s : Steps K) where
   keeps_subcondition r k = keeps_term_or_not _ _ (judged_keeps _ refl k (keeps_word r k) ▹ keeps_expect IS)
 
   module _ (part : Parse → ConditionRead) (f : KeepsTree part) (t : ℕ) (o : Op) where
-    pub chainOn-keeps : (n : ℕ) (g : ConditionRead) → K g.parse → K (chain_on n part t o g).parse
+    pub chain_on_keeps : (n : ℕ) (g : ConditionRead) → K g.parse → K (chain_on n part t o g).parse
     unfolding chain_on
-    chainOn-keeps zero g k = k
-    chainOn-keeps (suc n) g k = go (is t g.parse) _ (chainOn-keeps n _ (f _ (keeps_word g.parse k)))
+    chain_on_keeps zero g k = k
+    chain_on_keeps (suc n) g k = go (is t g.parse) _ (chain_on_keeps n _ (f _ (keeps_word g.parse k)))
       where
         go : (b : Bool) (h : ConditionRead) → K h.parse → K (elim b as (λ x. ConditionRead) [ true ↦ h | false ↦ g ]).parse
         go true h l = l
         go false h l = k
 
-    pub keeps-chain : KeepsTree (chain part t o)
+    pub keeps_chain : KeepsTree (chain part t o)
     unfolding chain
-    keeps-chain r k = chainOn-keeps (suc (length r.rest)) (part r) (f r k)
+    keeps_chain r k = chain_on_keeps (suc (length r.rest)) (part r) (f r k)
 
   module _ (inner : Parse → ConditionRead) (f : KeepsTree inner) where
-    pub keeps-plain : KeepsTree (plain inner)
+    pub keeps_plain : KeepsTree (plain inner)
     unfolding plain
-    keeps-plain r k = either_tree _ _ (is OPEN r) (f r k) (keeps_subcondition r k)
+    keeps_plain r k = either_tree _ _ (is OPEN r) (f r k) (keeps_subcondition r k)
 
-    pub keeps-operand : KeepsTree (operand inner)
+    pub keeps_operand : KeepsTree (operand inner)
     unfolding operand
-    keeps-operand r k = either_tree _ _ (is NOT r) (keeps-plain (word r) (keeps_word r k)) (keeps-plain r k)
+    keeps_operand r k = either_tree _ _ (is NOT r) (keeps_plain (word r) (keeps_word r k)) (keeps_plain r k)
 
-    pub keeps-conditionWith : KeepsTree (condition_with inner)
+    pub keeps_condition_with : KeepsTree (condition_with inner)
     unfolding condition_with
-    keeps-conditionWith = keeps-chain _ (keeps-chain _ keeps-operand AND and) OR or
+    keeps_condition_with = keeps_chain _ (keeps_chain _ keeps_operand AND and) OR or
 
   pub keeps_parenthesis : (d : ℕ) → KeepsTree (parenthesis d)
   unfolding parenthesis
   keeps_parenthesis zero r k = keeps_refuse 6 refl r k
-  keeps_parenthesis (suc d) r k = keeps-conditionWith _ (keeps_parenthesis d) (advance r) (keeps_advance r k) ▹ keeps_expect CLOSE
+  keeps_parenthesis (suc d) r k = keeps_condition_with _ (keeps_parenthesis d) (advance r) (keeps_advance r k) ▹ keeps_expect CLOSE
 
   pub keeps_condition : KeepsTree condition
   unfolding condition
-  keeps_condition = keeps-conditionWith _ (keeps_parenthesis depth_limit)
+  keeps_condition = keeps_condition_with _ (keeps_parenthesis depth_limit)
 
   -- RULEBLOCK
   pub keeps_algorithm : (second : Bool) (p : Option Pair) → Keeps (algorithm second p)

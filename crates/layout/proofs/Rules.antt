@@ -25,35 +25,35 @@ module _ (w : ℕ → ℕ) (ok : Sound w) where
       omega (arith, leb-true n rule_limit (both (leb 1 n) (leb n rule_limit) q).1, length_tab (rule_at w) (w RULES) 0)
 
   module _ (i : ℕ) (h : i < w RULES) where
-    rule-good : rule_ok (decode w) (rule_at w i) ≡ true
+    rule_good : rule_ok (decode w) (rule_at w i) ≡ true
     unfolding rules_ok decode
-    rule-good =
+    rule_good =
         let e : 0 + i ≡ i = omega arith in
         rw (sym e) (all_at (rule_ok (decode w)) (rule_at w) (w RULES) 0 i h (passed _ ok.rules).1.1.1.1.1.0)
 
-    pub condition-exact : condition_exact w i ≡ true
+    pub condition_exact_lem : condition_exact w i ≡ true
     unfolding rules_ok condition_rows
-    condition-exact =
+    condition_exact_lem =
         let e : 0 + i ≡ i = omega arith in
         rw (sym e) (all_at (condition_exact w) (λ j. j) (w RULES) 0 i h (passed _ ok.rules).1.0)
 
-    pub rule-parts : let r = rule_at w i in
+    pub rule_parts : let r = rule_at w i in
         (condition_ok (decode w) r.condition ≡ true) × (all (conclusion_ok (decode w)) r.conclusions ≡ true) × (unit_ok r.weight ≡ true)
     unfolding rule_ok
-    rule-parts = let q = passed _ rule-good in (q.1.0, q.1.1.1.0, q.1.1.1.1.0)
+    rule_parts = let q = passed _ rule_good in (q.1.0, q.1.1.1.0, q.1.1.1.1.0)
 
-    pub conclusion-good : (j : ℕ) → let o = rule_place w i in
+    pub conclusion_good : (j : ℕ) → let o = rule_place w i in
         j < w (o + 4) → conclusion_ok (decode w) (conclusion_at w (w (o + 3) + j)) ≡ true
     unfolding rule_at
-    conclusion-good j l =
+    conclusion_good j l =
         let o = rule_place w i in
-        all_at (conclusion_ok (decode w)) (conclusion_at w) (w (o + 4)) (w (o + 3)) j l rule-parts.1
+        all_at (conclusion_ok (decode w)) (conclusion_at w) (w (o + 4)) (w (o + 3)) j l rule_parts.1
 
     -- by the words that the code reads
     module _ (o first n : ℕ) (eo : o ≡ rule_place w i) (ef : first ≡ w (o + 3)) (en : n ≡ w (o + 4)) where
-      pub rule-conclusions : tab (conclusion_at w) n first ≡ (rule_at w i).conclusions
+      pub rule_conclusions : tab (conclusion_at w) n first ≡ (rule_at w i).conclusions
       unfolding rule_at
-      rule-conclusions = rw (ef, en, eo) refl
+      rule_conclusions = rw (ef, en, eo) refl
 
-      pub conclusion-here : (j : ℕ) → j < n → conclusion_ok (decode w) (conclusion_at w (first + j)) ≡ true
-      conclusion-here j l = rw (ef, eo) (conclusion-good j (rw (en, eo) at l))
+      pub conclusion_here : (j : ℕ) → j < n → conclusion_ok (decode w) (conclusion_at w (first + j)) ≡ true
+      conclusion_here j l = rw (ef, eo) (conclusion_good j (rw (en, eo) at l))

@@ -25,21 +25,21 @@ pub output_table_lem : (b : Block) → output_table b 0 b.outputs ≡ laid outpu
 unfolding output_first output_table laid name_words total
 output_table_lem b = go [] b.outputs refl ∙ ap (λ (n : ℕ). laid output_row output_next n b.outputs) (omega arith)
   where
-    terms-in : List Output → ℕ
-    terms-in us = total (λ v. length v.terms) us
+    terms_in : List Output → ℕ
+    terms_in us = total (λ v. length v.terms) us
 
-    first : (us vs : List Output) → b.outputs ≡ us ++ vs → output_first (length us) b ≡ length (input_terms b) + terms-in us
+    first : (us vs : List Output) → b.outputs ≡ us ++ vs → output_first (length us) b ≡ length (input_terms b) + terms_in us
     first us vs e =
-        ap (λ (l : List Output). length (input_terms b) + terms-in (take (length us) l)) e
-        ∙ ap (λ (l : List Output). length (input_terms b) + terms-in l) (take_at us vs (length us) refl)
+        ap (λ (l : List Output). length (input_terms b) + terms_in (take (length us) l)) e
+        ∙ ap (λ (l : List Output). length (input_terms b) + terms_in l) (take_at us vs (length us) refl)
 
     go : (us vs : List Output) → b.outputs ≡ us ++ vs
-        → output_table b (length us) vs ≡ laid output_row output_next (length (input_terms b) + terms-in us) vs
+        → output_table b (length us) vs ≡ laid output_row output_next (length (input_terms b) + terms_in us) vs
     go us [] e = refl
     go us (v ∷ vs) e =
-        let n = length (input_terms b) + terms-in us in
+        let n = length (input_terms b) + terms_in us in
         let one : length (us ++ (v ∷ [])) ≡ suc (length us) = length-append us (v ∷ []) ∙ omega arith in
-        let more : length (input_terms b) + terms-in (us ++ (v ∷ [])) ≡ output_next n v = omega (arith, total_last (λ (u : Output). length u.terms) us v) in
+        let more : length (input_terms b) + terms_in (us ++ (v ∷ [])) ≡ output_next n v = omega (arith, total_last (λ (u : Output). length u.terms) us v) in
         let rest = go (us ++ (v ∷ [])) vs (e ∙ sym (append_assoc us (v ∷ []) vs)) in
         let here : output_table b (suc (length us)) vs ≡ laid output_row output_next (output_next n v) vs =
         ap (λ (k : ℕ). output_table b k vs) (sym one) ∙ rest ∙ ap (λ (k : ℕ). laid output_row output_next k vs) more in

@@ -157,15 +157,15 @@ module _ (b : Block) (h : BlockFacts b) where
   outputs_apart = distinct_back same_name (map (λ v. v.name) b.inputs) (map (λ v. v.name) b.outputs) h.apart
 
   module _ (ds : List Input) (v : Input) (es : List Input) (e : b.inputs ≡ ds ++ (v ∷ es)) where
-    pub input-at : InputFacts v
-    input-at = input_facts v (all_split WellFormed.input_ok ds v es e h.inputs_ok)
+    pub input_at : InputFacts v
+    input_at = input_facts v (all_split WellFormed.input_ok ds v es e h.inputs_ok)
 
     pub input_new : none_of (named (λ u. u.name) v.name) ds ≡ true
     input_new = distinct_split (λ u. u.name) ds v es e inputs_apart
 
   module _ (ds : List Output) (v : Output) (es : List Output) (e : b.outputs ≡ ds ++ (v ∷ es)) where
-    pub output-at : OutputFacts v
-    output-at = output_facts v (all_split WellFormed.output_ok ds v es e h.outputs_ok)
+    pub output_at : OutputFacts v
+    output_at = output_facts v (all_split WellFormed.output_ok ds v es e h.outputs_ok)
 
     pub output_new : none_of (named (λ u. u.name) v.name) ds ≡ true
     output_new = distinct_split (λ u. u.name) ds v es e outputs_apart

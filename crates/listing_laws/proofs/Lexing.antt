@@ -29,7 +29,7 @@ use Rattle.listing_laws.proofs.Items
 use Rattle.listing_laws.proofs.Items.{Item, item_of, name, number, word, word_of, colon, comma, semicolon, assign, dots, closing, opening, commas, within, condition_items, type_item, input_items, output_items, point_items, term_items, fuzzify_items, range_items, singleton_items, default_item, defuzzify_items, conclusion_items, weight_items, rule_items, rule_block_items, listing_items}
 use Rattle.listing_laws.proofs.Pieces.{cut, cut_is, cutting, Ends, Keyword, spelt, keyword, name_cut, keyword_cut, digits_cut, thousandths_cut, crisp_cut, opening_cut, crisp_start, name_start}
 use Rattle.listing_laws.proofs.Facts.{term_facts, input_facts, output_facts, rule_facts, block_facts}
-use Rattle.listing_laws.proofs.Names.{input_named, output_named, conclusion-named}
+use Rattle.listing_laws.proofs.Names.{input_named, output_named, conclusion_named}
 
 -- the text w, in front of s, is cut into xs, and s into zs
 pub record CutsTo (w : List ℕ) (xs : List Item) (s : List ℕ) (zs : List Item) : Type 0 where
@@ -291,7 +291,7 @@ accu_keyword by-bsum = keyword (bytes "BSUM") refl
 module _ (b : Block) (h : well_formed b ≡ true) where
   conclusion_cuts : (k : Conclusion) (s : List ℕ) → conclusion_ok b k ≡ true → Ends s → Cuts (conclusion_text b k) (conclusion_items b k) s
   unfolding cutting conclusion_text conclusion_items
-  conclusion_cuts k s o e = names_cut _ _ " IS " (word "IS" ∷ []) s (output_named b h k o) (conclusion-named b h k o) e.0 refl (λ s. refl)
+  conclusion_cuts k s o e = names_cut _ _ " IS " (word "IS" ∷ []) s (output_named b h k o) (conclusion_named b h k o) e.0 refl (λ s. refl)
 
   weight_ends : (w : ℕ) (s : List ℕ) → Ends ((weight_text w ++ bytes ";\n") ++ s)
   weight_ends w s = go (eqb w M) refl

@@ -106,9 +106,9 @@ module _ (f : ℕ → TermNames) where
       omega (arith, mul-add d (bytes_of c) 6, mul-add d (size c) 1)
 
   module _ (a b : Condition) (j : Known a) (k : Known b) (d : ℕ) where
-    joined-and : depth (two and a b) < d → Bound d (bytes_of (two and a b)) (size (two and a b)) 0
+    joined_and : depth (two and a b) < d → Bound d (bytes_of (two and a b)) (size (two and a b)) 0
     unfolding condition_text size depth
-    joined-and g =
+    joined_and g =
         let x = at_and a j d (omega arith) in
         let y = at_not b k d (omega arith) in
         let l = length-append (wrapped 3 (form a) (condition_text f a)) (bytes " AND " ++ wrapped 2 (form b) (condition_text f b)) in
@@ -116,10 +116,10 @@ module _ (f : ℕ → TermNames) where
         let w = ap (λ (m : ℕ). d * m) e in
         omega (arith, w, mul-add d (at 3 a) (5 + at 2 b), mul-add d 5 (at 2 b), mul-add d (size a + size b) 1, mul-add d (size a) (size b))
 
-    joined-or : depth (two or a b) < d
+    joined_or : depth (two or a b) < d
         → 2 * (d * bytes_of (two or a b)) + 6 * d + 2 * size (two or a b) ≤ 43 * (d * size (two or a b)) + 29 * d + 6
     unfolding condition_text size depth
-    joined-or g =
+    joined_or g =
         let x = at_or a j d (omega arith) in
         let y = at_and b k d (omega arith) in
         let l = length-append (wrapped 4 (form a) (condition_text f a)) (bytes " OR " ++ wrapped 3 (form b) (condition_text f b)) in
@@ -140,13 +140,13 @@ module _ (f : ℕ → TermNames) where
     known (two and a b) h =
         let c = both (terms_below n a) (terms_below n b) h in
         let p = (condition_room f n ok 0 (two and a b) h).short in
-        (joined-and a b (known a c.0) (known b c.1), omega (arith, length-append (condition_text f (two and a b)) (bytes ")")))
+        (joined_and a b (known a c.0) (known b c.1), omega (arith, length-append (condition_text f (two and a b)) (bytes ")")))
     known (two or a b) h =
         let c = both (terms_below n a) (terms_below n b) h in
         let j = known a c.0 in
         let k = known b c.1 in
-        (λ d g. let r = joined-or a b j k d g in omega arith, λ d g. let r = joined-or a b j k d (omega arith) in omega arith)
+        (λ d g. let r = joined_or a b j k d g in omega arith, λ d g. let r = joined_or a b j k d (omega arith) in omega arith)
 
     -- at most eight parentheses are open
-    pub condition-short : (c : Condition) → terms_below n c ≡ true → depth c ≤ 8 → length (condition_text f c) ≤ (385 * size c + 263) / 18
-    condition-short c h g = let r = any c (known c h) 9 (omega arith) in omega arith
+    pub condition_short : (c : Condition) → terms_below n c ≡ true → depth c ≤ 8 → length (condition_text f c) ≤ (385 * size c + 263) / 18
+    condition_short c h g = let r = any c (known c h) 9 (omega arith) in omega arith

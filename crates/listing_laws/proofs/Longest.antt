@@ -22,8 +22,8 @@ use Rattle.laws.proofs.Tests.{both, passed}
 use Rattle.laws.proofs.Lists.{all_append}
 use Rattle.laws.proofs.Finding.{not_empty}
 use Rattle.listing_laws.proofs.Facts.{rule_facts, block_facts}
-use Rattle.listing_laws.proofs.Names.{input_named, output_named, conclusion-named}
-use Rattle.listing_laws.proofs.LongConditions.{condition-short}
+use Rattle.listing_laws.proofs.Names.{input_named, output_named, conclusion_named}
+use Rattle.listing_laws.proofs.LongConditions.{condition_short}
 use Rattle.listing_laws.proofs.Room.{is_byte, AtMost, name_room, digits_room, unit_room, gather_room, lines_room, commaed_room, input_room, output_room, fuzzify_room, defuzzify_room, names_room, bare_room}
 
 -- RULES
@@ -75,7 +75,7 @@ module _ (b : Block) (h : well_formed b ≡ true) where
   conclusion_room : (k : Conclusion) → conclusion_ok b k ≡ true → AtMost 36 (conclusion_text b k)
   unfolding all conclusion_text
   conclusion_room k o =
-      names_room _ _ " IS " 4 (output_named b h k o) (conclusion-named b h k o) (record { small = refl; short = omega arith })
+      names_room _ _ " IS " 4 (output_named b h k o) (conclusion_named b h k o) (record { small = refl; short = omega arith })
 
   rule_room : (r : Rule) → rule_ok b r ≡ true → AtMost (rule_size r) (rule_line b r)
   unfolding all rule_line
@@ -84,7 +84,7 @@ module _ (b : Block) (h : well_formed b ≡ true) where
       let i = leb-true r.number rule_number_limit (both (leb rule_number_least r.number) (leb r.number rule_number_limit) f.number).1 in
       let n = digits_room 4 r.number (omega arith) in
       let c = bare_room (input_term_name b) (length (input_terms b)) (input_named b h) r.condition f.terms in
-      let t = condition-short (input_term_name b) (length (input_terms b)) (input_named b h) r.condition f.terms f.deep in
+      let t = condition_short (input_term_name b) (length (input_terms b)) (input_named b h) r.condition f.terms f.deep in
       let k = commaed_room (conclusion_text b) (conclusion_ok b) 36 conclusion_room r.conclusions f.conclusions in
       let w = weight_room r.weight f.weight in
       record {

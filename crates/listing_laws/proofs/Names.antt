@@ -102,9 +102,9 @@ module _ (b : Block) (h : well_formed b ≡ true) where
         (all_map (λ t. is_name t.name) singleton_term (output_terms b)
         ∙ all_gather output_ok (λ t. is_name t.name) (λ v. v.terms) singletons_named b.outputs (block_facts b h).outputs_ok)
 
-    pub conclusion-named : is_name (get_or (map (λ t. t.name) (terms b)) k.term []) ≡ true
+    pub conclusion_named : is_name (get_or (map (λ t. t.name) (terms b)) k.term []) ≡ true
     unfolding output_first singletons_of
-    conclusion-named =
+    conclusion_named =
         let l = (conclusion_facts b k o).most in
         all_get_d is_name (map (λ t. t.name) (terms b)) [] k.term all_named
         (omega (

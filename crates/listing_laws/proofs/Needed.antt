@@ -27,7 +27,7 @@ use Rattle.listing_laws.proofs.Lexing.{Cuts, part, text, operator_cuts, operator
 use Rattle.listing_laws.proofs.Names.{input_named}
 use Rattle.listing_laws.proofs.Facts.{block_facts, inputs_apart}
 use Rattle.listing_laws.proofs.Reading.{at, laid, laid_back, places_of, is_head, head_kind}
-use Rattle.listing_laws.proofs.ReadConditions.{Named, bare, operand-not, whole, paren-read, all-ok, condition-reads}
+use Rattle.listing_laws.proofs.ReadConditions.{Named, bare, operand_not, whole, paren_read, all_ok, condition_reads}
 use Rattle.listing_laws.proofs.ReadNames.{named_term}
 
 -- the tree that a text reads to as a condition of block b
@@ -263,7 +263,7 @@ module _ (b : Block) (h : well_formed b ≡ true) where
   unfolding cutting cut
   reads_tree s c k t l w =
       tree_of s (condition_items g c) k
-      ∙ ap (λ (r : ConditionRead). r.tree) (condition-reads (places_of (tokens s)) b g n named c t l 0 (cut 0 []) refl refl (omega arith))
+      ∙ ap (λ (r : ConditionRead). r.tree) (condition_reads (places_of (tokens s)) b g n named c t l 0 (cut 0 []) refl refl (omega arith))
 
   -- THE LEFT OPERAND
   left_cuts : (o : Op) (a e : Condition) → terms_below n a ≡ true → terms_below n e ≡ true
@@ -393,21 +393,21 @@ module _ (b : Block) (h : well_formed b ≡ true) where
     abbrev taken : List Item → Condition
     taken xs = (plain (parenthesis d) (at f xs b w)).tree
 
-    not-open : (xs : List Item) → eqb (head_kind xs) OPEN ≡ false → form (taken xs) ≤ 1
+    not_open : (xs : List Item) → eqb (head_kind xs) OPEN ≡ false → form (taken xs) ≤ 1
     unfolding plain
-    not-open xs e =
+    not_open xs e =
         subst (λ (q : Bool). form (if q then parenthesis d (at f xs b w) else subcondition (at f xs b w)).tree ≤ 1)
         (sym (is_head OPEN f xs b w ∙ e)) (subcondition_form (at f xs b w))
 
-    taken-apart : (c a : Condition) (rest : List Item) → 1 < form a → size c ≤ size a → terms_below n c ≡ true → depth c ≤ d → w + size c ≤ word_limit
+    taken_apart : (c a : Condition) (rest : List Item) → 1 < form a → size c ≤ size a → terms_below n c ≡ true → depth c ≤ d → w + size c ≤ word_limit
         → taken (condition_items g c ++ rest) ≡ a → ⊥
     unfolding condition_items size depth terms_below
-    taken-apart (term t) a rest l s q e v k = let z = not-open (condition_items g (term t) ++ rest) refl in absurd (omega (arith, ap form k))
-    taken-apart (neg (term t)) a rest l s q e v k = let z = not-open (condition_items g (neg (term t)) ++ rest) refl in absurd (omega (arith, ap form k))
-    taken-apart (neg (neg c)) a rest l s q e v k = let z = not-open (condition_items g (neg (neg c)) ++ rest) refl in absurd (omega (arith, ap form k))
-    taken-apart (neg (two o x y)) a rest l s q e v k = let z = not-open (condition_items g (neg (two o x y)) ++ rest) refl in absurd (omega (arith, ap form k))
-    taken-apart (two o x y) a rest l s q e v k =
-        go (λ later i u r. taken-apart x a later l i (both (terms_below n x) (terms_below n y) q).0 u (omega arith) r) (ltb (bare_left o) (form x)) refl
+    taken_apart (term t) a rest l s q e v k = let z = not_open (condition_items g (term t) ++ rest) refl in absurd (omega (arith, ap form k))
+    taken_apart (neg (term t)) a rest l s q e v k = let z = not_open (condition_items g (neg (term t)) ++ rest) refl in absurd (omega (arith, ap form k))
+    taken_apart (neg (neg c)) a rest l s q e v k = let z = not_open (condition_items g (neg (neg c)) ++ rest) refl in absurd (omega (arith, ap form k))
+    taken_apart (neg (two o x y)) a rest l s q e v k = let z = not_open (condition_items g (neg (two o x y)) ++ rest) refl in absurd (omega (arith, ap form k))
+    taken_apart (two o x y) a rest l s q e v k =
+        go (λ later i u r. taken_apart x a later l i (both (terms_below n x) (terms_below n y) q).0 u (omega arith) r) (ltb (bare_left o) (form x)) refl
       where
         later : List Item
         later = (Items.operator o ∷ placed g (bare_right o) y) ++ rest
@@ -419,7 +419,7 @@ module _ (b : Block) (h : well_formed b ≡ true) where
             → (t : Bool) → ltb (bare_left o) (form x) ≡ t → ⊥
         go less true loose =
             let p = both (terms_below n x) (terms_below n y) q in
-            let reads = paren-read f b g (bare_left o) x loose (whole f b g x (all-ok f b g n named x p.0).oOk) d w later (omega arith) (omega arith) in
+            let reads = paren_read f b g (bare_left o) x loose (whole f b g x (all_ok f b g n named x p.0).oOk) d w later (omega arith) (omega arith) in
             apart x a (omega arith) (sym (ap (λ (r : ConditionRead). r.tree) reads) ∙ moved)
         go less false tight =
             let same : placed g (bare_left o) x ≡ condition_items g x = rw tight in
@@ -441,8 +441,8 @@ module _ (b : Block) (h : well_formed b ≡ true) where
       let op = operand (parenthesis depth_limit) in
       let deeper : deep 1 c ≡ suc (depth c) = rw loose in
       let first : P (op (at f (Items.word "NOT" ∷ xs) b 0)).tree =
-      λ e. taken-apart f depth_limit 1 c c (cut 0 []) (ltb-true 1 (form c) loose) (omega arith) t (omega arith) (omega arith)
-      (ap negated_in (sym (ap (λ (r : ConditionRead). r.tree) (operand-not f b g (parenthesis depth_limit) xs 0 (omega arith))) ∙ e)) in
+      λ e. taken_apart f depth_limit 1 c c (cut 0 []) (ltb-true 1 (form c) loose) (omega arith) t (omega arith) (omega arith)
+      (ap negated_in (sym (ap (λ (r : ConditionRead). r.tree) (operand_not f b g (parenthesis depth_limit) xs 0 (omega arith))) ∙ e)) in
       chain_keeps P (chain op AND and) OR or (λ x y e. clash (ap is_two e)) _ _
       (chain_keeps P op AND and (λ x y e. clash (ap is_two e)) _ _ first)
       (sym (tree_of s (Items.word "NOT" ∷ condition_items g c) (not_cuts c t)) ∙ k)

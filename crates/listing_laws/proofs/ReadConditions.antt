@@ -81,9 +81,9 @@ module _ (f : ℕ → ℕ) (b : Block) (g : ℕ → TermNames) where
     abbrev i : ℕ
     i = input_of n.variable b
 
-    plain-term : term_or_not i (at f (name n.term ∷ rest) b w) ≡ read rest w (term t)
+    plain_term : term_or_not i (at f (name n.term ∷ rest) b w) ≡ read rest w (term t)
     unfolding term_or_not at kind
-    plain-term = term_read i n t refl h rest w
+    plain_term = term_read i n t refl h rest w
 
     not_term : w < word_limit → term_or_not i (at f (keyword "NOT" ∷ name n.term ∷ rest) b w) ≡ read rest (w + 1) (neg (term t))
     unfolding term_or_not at kind
@@ -101,18 +101,18 @@ module _ (f : ℕ → ℕ) (b : Block) (g : ℕ → TermNames) where
 
   -- OPERANDS
   module _ (inner : Parse → ConditionRead) where
-    operand-plain : (xs : List Item) (w : ℕ) → eqb (head_kind xs) NOT ≡ false → operand inner (at f xs b w) ≡ plain inner (at f xs b w)
+    operand_plain : (xs : List Item) (w : ℕ) → eqb (head_kind xs) NOT ≡ false → operand inner (at f xs b w) ≡ plain inner (at f xs b w)
     unfolding operand
-    operand-plain xs w h = rw (is_head NOT f xs b w ∙ h)
+    operand_plain xs w h = rw (is_head NOT f xs b w ∙ h)
 
-    pub operand-not : (xs : List Item) (w : ℕ) → w < word_limit
+    pub operand_not : (xs : List Item) (w : ℕ) → w < word_limit
         → operand inner (at f (keyword "NOT" ∷ xs) b w) ≡ negated_read (plain inner (at f xs b (w + 1)))
     unfolding operand at kind
-    operand-not xs w l = ap (λ (r : Parse). negated_read (plain inner r)) (word_at (keyword "NOT") xs w l)
+    operand_not xs w l = ap (λ (r : Parse). negated_read (plain inner r)) (word_at (keyword "NOT") xs w l)
 
-    plain-name : (v : List ℕ) (xs : List Item) (w : ℕ) → plain inner (at f (name v ∷ xs) b w) ≡ subcondition (at f (name v ∷ xs) b w)
+    plain_name : (v : List ℕ) (xs : List Item) (w : ℕ) → plain inner (at f (name v ∷ xs) b w) ≡ subcondition (at f (name v ∷ xs) b w)
     unfolding plain at kind
-    plain-name v xs w = refl
+    plain_name v xs w = refl
 
   plain_open : (d : ℕ) (xs : List Item) (w : ℕ)
       → plain (parenthesis (suc d)) (at f (opening ∷ xs) b w) ≡ closed (condition_with (parenthesis d) (at f xs b w))
@@ -121,10 +121,10 @@ module _ (f : ℕ → ℕ) (b : Block) (g : ℕ → TermNames) where
 
   -- CHAINS
   module _ (part : Parse → ConditionRead) (k : ℕ) (o : Op) where
-    chain-stop : (n : ℕ) (rest : List Item) (w : ℕ) (c : Condition) → eqb (head_kind rest) k ≡ false → chain_on n part k o (read rest w c) ≡ read rest w c
+    chain_stop : (n : ℕ) (rest : List Item) (w : ℕ) (c : Condition) → eqb (head_kind rest) k ≡ false → chain_on n part k o (read rest w c) ≡ read rest w c
     unfolding chain_on
-    chain-stop zero rest w c h = refl
-    chain-stop (suc n) rest w c h = rw (chain_on, is_head k f rest b w ∙ h)
+    chain_stop zero rest w c h = refl
+    chain_stop (suc n) rest w c h = rw (chain_on, is_head k f rest b w ∙ h)
 
     chain_more : (n : ℕ) (t : List ℕ) (xs : List Item) (w : ℕ) (c e : Condition) (rest : List Item) (v : ℕ) → w < word_limit
         → part (at f xs b (w + 1)) ≡ read rest v e
@@ -134,10 +134,10 @@ module _ (f : ℕ → ℕ) (b : Block) (g : ℕ → TermNames) where
         rw (chain_on, is_head k f (item k t ∷ xs) b w ∙ eq-eqb k k refl)
         (ap (λ (r : ConditionRead). chain_on n part k o (condition_read r.parse (two o c r.tree))) (ap part (word_at (item k t) xs w l) ∙ h))
 
-    chain-reads : (xs : List Item) (w n : ℕ) (x : ConditionRead) → n ≤ suc (length xs)
+    chain_reads : (xs : List Item) (w n : ℕ) (x : ConditionRead) → n ≤ suc (length xs)
         → ((m : ℕ) → n ≤ m → chain_on m part k o (part (at f xs b w)) ≡ x) → chain part k o (at f xs b w) ≡ x
     unfolding chain
-    chain-reads xs w n x l h = h (suc (length (at f xs b w).rest)) (omega (arith, length_rest f xs b w))
+    chain_reads xs w n x l h = h (suc (length (at f xs b w).rest)) (omega (arith, length_rest f xs b w))
 
   -- WHAT EACH LEVEL READS, where forms up to l stand bare
   abbrev pub shown : ℕ → Condition → List Item
@@ -172,10 +172,10 @@ module _ (f : ℕ → ℕ) (b : Block) (g : ℕ → TermNames) where
       → (n : ℕ) → j + length (shown 4 c) ≤ n → chain_on n (ands d) OR or (ands d (at f (shown 4 c ++ rest) b w)) ≡ x
 
   pub record Ok (c : Condition) : Type 0 where
-    pub pOk : POk c
-    pub nOk : NOk c
-    pub aOk : AOk c
-    pub oOk : OOk c
+    pub p_ok : POk c
+    pub n_ok : NOk c
+    pub a_ok : AOk c
+    pub o_ok : OOk c
 
   -- a whole condition
   abbrev pub COk : Condition → Type 0
@@ -186,8 +186,8 @@ module _ (f : ℕ → ℕ) (b : Block) (g : ℕ → TermNames) where
   and_read : (c : Condition) → AOk c → (d w : ℕ) (rest : List Item) → eqb (head_kind rest) AND ≡ false → deep 3 c ≤ d → w + size c ≤ word_limit
       → ands d (at f (shown 3 c ++ rest) b w) ≡ read rest (w + size c) c
   and_read c a d w rest h hd hw =
-      chain-reads (op d) AND and (shown 3 c ++ rest) w (length (shown 3 c)) (read rest (w + size c) c) (omega (arith, length-append (shown 3 c) rest))
-      (λ n l. a d w 0 rest (read rest (w + size c) c) hd hw (λ m k. chain-stop (op d) AND and m rest (w + size c) c h) n (omega arith))
+      chain_reads (op d) AND and (shown 3 c ++ rest) w (length (shown 3 c)) (read rest (w + size c) c) (omega (arith, length-append (shown 3 c) rest))
+      (λ n l. a d w 0 rest (read rest (w + size c) c) hd hw (λ m k. chain_stop (op d) AND and m rest (w + size c) c h) n (omega arith))
 
   from_not : (c : Condition) → shown 3 c ≡ shown 2 c → deep 3 c ≡ deep 2 c → NOk c → AOk c
   from_not c e e' o d w j rest x hd hw go n h =
@@ -206,18 +206,18 @@ module _ (f : ℕ → ℕ) (b : Block) (g : ℕ → TermNames) where
       let e : shown 4 c ≡ condition_items g c = rw (bare c) in
       let e' : deep 4 c ≡ depth c = rw (bare c) in
       ap (λ (l : List Item). chain (ands d) OR or (at f (l ++ rest) b w)) (sym e)
-      ∙ chain-reads (ands d) OR or (shown 4 c ++ rest) w (length (shown 4 c)) x (omega (arith, length-append (shown 4 c) rest))
-      (λ n l. o d w 0 rest x u (omega arith) hw (λ m k. chain-stop (ands d) OR or m rest (w + size c) c v) n (omega arith))
+      ∙ chain_reads (ands d) OR or (shown 4 c ++ rest) w (length (shown 4 c)) x (omega (arith, length-append (shown 4 c) rest))
+      (λ n l. o d w 0 rest x u (omega arith) hw (λ m k. chain_stop (ands d) OR or m rest (w + size c) c v) n (omega arith))
 
   -- IN PARENTHESES
   module _ (l : ℕ) (c : Condition) (loose : ltb l (form c) ≡ true) (o : COk c) where
     in_parentheses : shown l c ≡ opening ∷ (condition_items g c ++ (closing ∷ []))
     in_parentheses = rw loose
 
-    pub paren-read : (d w : ℕ) (rest : List Item) → deep l c ≤ d → w + size c ≤ word_limit
+    pub paren_read : (d w : ℕ) (rest : List Item) → deep l c ≤ d → w + size c ≤ word_limit
         → plain (parenthesis d) (at f (shown l c ++ rest) b w) ≡ read rest (w + size c) c
-    paren-read zero w rest hd hw = let e : deep l c ≡ suc (depth c) = rw loose in absurd (omega arith)
-    paren-read (suc d) w rest hd hw =
+    paren_read zero w rest hd hw = let e : deep l c ≡ suc (depth c) = rw loose in absurd (omega arith)
+    paren_read (suc d) w rest hd hw =
         let e : deep l c ≡ suc (depth c) = rw loose in
         let s = condition_items g c in
         ap (λ (k : List Item). plain (parenthesis (suc d)) (at f (k ++ rest) b w)) in_parentheses
@@ -226,42 +226,42 @@ module _ (f : ℕ → ℕ) (b : Block) (g : ℕ → TermNames) where
         ∙ ap closed (o d w (closing ∷ rest) refl refl (omega arith) hw)
         ∙ ap (λ (r : Parse). condition_read r c) (expects CLOSE f _ rest b (w + size c))
 
-    paren-operand : (d w : ℕ) (rest : List Item) → deep l c ≤ d → w + size c ≤ word_limit
+    paren_operand : (d w : ℕ) (rest : List Item) → deep l c ≤ d → w + size c ≤ word_limit
         → op d (at f (shown l c ++ rest) b w) ≡ read rest (w + size c) c
-    paren-operand d w rest hd hw =
-        operand-plain (parenthesis d) (shown l c ++ rest) w (ap (λ (k : List Item). eqb (head_kind (k ++ rest)) NOT) in_parentheses)
-        ∙ paren-read d w rest hd hw
+    paren_operand d w rest hd hw =
+        operand_plain (parenthesis d) (shown l c ++ rest) w (ap (λ (k : List Item). eqb (head_kind (k ++ rest)) NOT) in_parentheses)
+        ∙ paren_read d w rest hd hw
 
   -- TERMS
   module _ (t : ℕ) (h : Named b (g t) t) where
-    ok-term : Ok (term t)
+    ok_term : Ok (term t)
     unfolding form depth size condition_items
-    ok-term = record { pOk = p; nOk = n; aOk = a; oOk = from_and (term t) refl refl a }
+    ok_term = record { p_ok = p; n_ok = n; a_ok = a; o_ok = from_and (term t) refl refl a }
       where
         p : POk (term t)
         p d w rest hd hw =
-            plain-name (parenthesis d) (g t).variable (keyword "IS" ∷ name (g t).term ∷ rest) w
-            ∙ variable_read (g t) t h (name (g t).term ∷ rest) w (omega arith) ∙ plain-term (g t) t h rest (w + 1)
+            plain_name (parenthesis d) (g t).variable (keyword "IS" ∷ name (g t).term ∷ rest) w
+            ∙ variable_read (g t) t h (name (g t).term ∷ rest) w (omega arith) ∙ plain_term (g t) t h rest (w + 1)
 
         n : NOk (term t)
-        n d w rest hd hw = operand-plain (parenthesis d) (shown 2 (term t) ++ rest) w refl ∙ p d w rest hd hw
+        n d w rest hd hw = operand_plain (parenthesis d) (shown 2 (term t) ++ rest) w refl ∙ p d w rest hd hw
 
         a : AOk (term t)
         a = from_not (term t) refl refl n
 
-    ok-not-term : Ok (neg (term t))
+    ok_not_term : Ok (neg (term t))
     unfolding form depth size condition_items
-    ok-not-term = record { pOk = p; nOk = n; aOk = a; oOk = from_and (neg (term t)) refl refl a }
+    ok_not_term = record { p_ok = p; n_ok = n; a_ok = a; o_ok = from_and (neg (term t)) refl refl a }
       where
         p : POk (neg (term t))
         p d w rest hd hw =
-            plain-name (parenthesis d) (g t).variable (keyword "IS" ∷ keyword "NOT" ∷ name (g t).term ∷ rest) w
+            plain_name (parenthesis d) (g t).variable (keyword "IS" ∷ keyword "NOT" ∷ name (g t).term ∷ rest) w
             ∙ variable_read (g t) t h (keyword "NOT" ∷ name (g t).term ∷ rest) w (omega arith)
             ∙ not_term (g t) t h rest (w + 1) (omega arith)
             ∙ ap (λ (v : ℕ). read rest v (neg (term t))) (omega arith)
 
         n : NOk (neg (term t))
-        n d w rest hd hw = operand-plain (parenthesis d) (shown 2 (neg (term t)) ++ rest) w refl ∙ p d w rest hd hw
+        n d w rest hd hw = operand_plain (parenthesis d) (shown 2 (neg (term t)) ++ rest) w refl ∙ p d w rest hd hw
 
         a : AOk (neg (term t))
         a = from_not (neg (term t)) refl refl n
@@ -275,14 +275,14 @@ module _ (f : ℕ → ℕ) (b : Block) (g : ℕ → TermNames) where
 
   ok_neg : (c : Condition) → eqb (form c) 0 ≡ false → POk c → Ok (neg c)
   unfolding size depth
-  ok_neg c h q = record { pOk = paren-read 1 (neg c) (rw (neg_form c h)) (whole (neg c) o); nOk = n; aOk = a; oOk = o }
+  ok_neg c h q = record { p_ok = paren_read 1 (neg c) (rw (neg_form c h)) (whole (neg c) o); n_ok = n; a_ok = a; o_ok = o }
     where
       n : NOk (neg c)
       n d w rest hd hw =
           let e : shown 2 (neg c) ≡ keyword "NOT" ∷ shown 1 c = rw (neg_form c h) (neg_items c h) in
           let e' : deep 2 (neg c) ≡ deep 1 c = rw (neg_form c h) in
           ap (λ (k : List Item). op d (at f (k ++ rest) b w)) e
-          ∙ operand-not (parenthesis d) (shown 1 c ++ rest) w (omega arith)
+          ∙ operand_not (parenthesis d) (shown 1 c ++ rest) w (omega arith)
           ∙ ap negated_read (q d (w + 1) rest (omega arith) (omega arith))
           ∙ ap (λ (v : ℕ). read rest v (neg c)) (omega arith)
 
@@ -294,9 +294,9 @@ module _ (f : ℕ → ℕ) (b : Block) (g : ℕ → TermNames) where
 
   -- OPERATORS
   module _ (a e : Condition) (oa : Ok a) (oe : Ok e) where
-    ok-and : Ok (two and a e)
+    ok_and : Ok (two and a e)
     unfolding form depth size condition_items
-    ok-and = record { pOk = paren-read 1 (two and a e) refl c; nOk = paren-operand 2 (two and a e) refl c; aOk = q; oOk = o }
+    ok_and = record { p_ok = paren_read 1 (two and a e) refl c; n_ok = paren_operand 2 (two and a e) refl c; a_ok = q; o_ok = o }
       where
         q : AOk (two and a e)
         q d w j rest x hd hw go n h =
@@ -319,7 +319,7 @@ module _ (f : ℕ → ℕ) (b : Block) (g : ℕ → TermNames) where
 
     ok_or : Ok (two or a e)
     unfolding form depth size condition_items
-    ok_or = record { pOk = paren-read 1 (two or a e) refl (whole (two or a e) o); nOk = n; aOk = from_not (two or a e) refl refl n; oOk = o }
+    ok_or = record { p_ok = paren_read 1 (two or a e) refl (whole (two or a e) o); n_ok = n; a_ok = from_not (two or a e) refl refl n; o_ok = o }
       where
         o : OOk (two or a e)
         o d w j rest x t hd hw go n h =
@@ -335,21 +335,21 @@ module _ (f : ℕ → ℕ) (b : Block) (g : ℕ → TermNames) where
                 ∙ go n (omega arith)
 
         n : NOk (two or a e)
-        n = paren-operand 2 (two or a e) refl (whole (two or a e) o)
+        n = paren_operand 2 (two or a e) refl (whole (two or a e) o)
 
   -- ALL FORMS
   module _ (m : ℕ) (named : (t : ℕ) → t < m → Named b (g t) t) where
-    pub all-ok : (c : Condition) → terms_below m c ≡ true → Ok c
+    pub all_ok : (c : Condition) → terms_below m c ≡ true → Ok c
     unfolding terms_below
-    all-ok (term t) h = ok-term t (named t (ltb-true t m h))
-    all-ok (neg (term t)) h = ok-not-term t (named t (ltb-true t m h))
-    all-ok (neg (neg c)) h = ok_neg (neg c) (neg_not_term c) (all-ok (neg c) h).pOk
-    all-ok (neg (two o a e)) h = ok_neg (two o a e) (two_not_term o a e) (all-ok (two o a e) h).pOk
-    all-ok (two and a e) h = let q = both (terms_below m a) (terms_below m e) h in ok-and a e (all-ok a q.0) (all-ok e q.1)
-    all-ok (two or a e) h = let q = both (terms_below m a) (terms_below m e) h in ok_or a e (all-ok a q.0) (all-ok e q.1)
+    all_ok (term t) h = ok_term t (named t (ltb-true t m h))
+    all_ok (neg (term t)) h = ok_not_term t (named t (ltb-true t m h))
+    all_ok (neg (neg c)) h = ok_neg (neg c) (neg_not_term c) (all_ok (neg c) h).pOk
+    all_ok (neg (two o a e)) h = ok_neg (two o a e) (two_not_term o a e) (all_ok (two o a e) h).pOk
+    all_ok (two and a e) h = let q = both (terms_below m a) (terms_below m e) h in ok_and a e (all_ok a q.0) (all_ok e q.1)
+    all_ok (two or a e) h = let q = both (terms_below m a) (terms_below m e) h in ok_or a e (all_ok a q.0) (all_ok e q.1)
 
-    pub condition-reads : (c : Condition) → terms_below m c ≡ true → depth c ≤ depth_limit
+    pub condition_reads : (c : Condition) → terms_below m c ≡ true → depth c ≤ depth_limit
         → (w : ℕ) (rest : List Item) → eqb (head_kind rest) AND ≡ false → eqb (head_kind rest) OR ≡ false → w + size c ≤ word_limit
         → condition (at f (condition_items g c ++ rest) b w) ≡ condition_read (at f rest b (w + size c)) c
     unfolding condition
-    condition-reads c h hd w rest u v hw = whole c (all-ok c h).oOk depth_limit w rest u v hd hw
+    condition_reads c h hd w rest u v hw = whole c (all_ok c h).oOk depth_limit w rest u v hd hw

@@ -21,7 +21,7 @@ use Rattle.laws.proofs.Tests.{both}
 use Rattle.laws.proofs.Lists.{all_append}
 use Rattle.laws.proofs.Finding.{all_map, distinct_fresh, fresh, fresh_map, named, none_of, not_found, filled}
 use Rattle.listing_laws.proofs.Items.{Item, name, word, colon, semicolon, type_item, input_items, output_items}
-use Rattle.listing_laws.proofs.Facts.{BlockFacts, input-at, input_new, output-at}
+use Rattle.listing_laws.proofs.Facts.{BlockFacts, input_at, input_new, output_at}
 use Rattle.listing_laws.proofs.Reading.{at, head_kind, judged_pass, expects, listed_one, some_read}
 use Rattle.listing_laws.proofs.Stages.{staged, bare_input, bare_output}
 
@@ -62,19 +62,19 @@ module _ (f : ℕ → ℕ) where
       abbrev before : Block
       before = staged b.name (map bare_input ds) []
 
-      input-name : variable add_input input_count input_limit (at f (name v.name ∷ xs) before w)
+      input_name : variable add_input input_count input_limit (at f (name v.name ∷ xs) before w)
           ≡ at f xs (staged b.name (map bare_input ds ++ (record { name = v.name; type = real; terms = [] } ∷ [])) []) w
       unfolding add_input all
-      input-name =
+      input_name =
           variable_read add_input input_count input_limit v.name xs before w
-          (input-at b h ds v es e).name
+          (input_at b h ds v es e).name
           (not_input v.name b.name ds [] (input_new b h ds v es e)) (not_output v.name b.name [] [] (map bare_input ds) refl)
           (lt-ltb (length (map bare_input ds)) input_limit (omega (arith, length-map ds bare_input, ap length e, length-append ds (v ∷ es), h.inputs.1)))
 
-    input-read : (ds : List Input) (v : Input) (es : List Input) (xs : List Item) → b.inputs ≡ ds ++ (v ∷ es) → (w : ℕ)
+    input_read : (ds : List Input) (v : Input) (es : List Input) (xs : List Item) → b.inputs ≡ ds ++ (v ∷ es) → (w : ℕ)
         → input_declaration (at f (input_items v ++ xs) (staged b.name (map bare_input ds) []) w)
         ≡ at f xs (staged b.name (map bare_input (ds ++ (v ∷ []))) []) w
-    input-read ds v es xs e w =
+    input_read ds v es xs e w =
         let is = map bare_input ds in
         let x₁ = type_item v.type ∷ semicolon ∷ xs in
         let c = staged b.name (is ++ (record { name = v.name; type = real; terms = [] } ∷ [])) [] in
@@ -82,7 +82,7 @@ module _ (f : ℕ → ℕ) where
         input_start b.name is [] (name v.name ∷ colon ∷ x₁) w
         ∙ ap (λ (p : Parse). expect SEMICOLON (input_type (length is) (expect COLON p)))
         (listed_one (variable add_input input_count input_limit) (at f (name v.name ∷ colon ∷ x₁) (staged b.name is []) w) f (colon ∷ x₁) c w
-        (input-name ds v es e (colon ∷ x₁) w) refl)
+        (input_name ds v es e (colon ∷ x₁) w) refl)
         ∙ ap (λ (p : Parse). expect SEMICOLON (input_type (length is) p)) (expects COLON f _ x₁ c w)
         ∙ ap (expect SEMICOLON) (type_read b.name v.name is [] v.type (semicolon ∷ xs) w)
         ∙ expects SEMICOLON f _ xs d w
@@ -94,7 +94,7 @@ module _ (f : ℕ → ℕ) where
     inputs_read rest w stops =
         let first = filled b.inputs h.inputs.0 in
         some_read NAME input_declaration input_items (λ ds. staged b.name (map bare_input ds) []) (λ ds. w) f b.inputs (λ v. (_, _, refl))
-        (λ ds v es ys e. input-read ds v es ys e w) rest stops first.0 first.1 first.2
+        (λ ds v es ys e. input_read ds v es ys e w) rest stops first.0 first.1 first.2
 
     abbrev ins : List Input
     ins = map bare_input b.inputs
@@ -110,8 +110,8 @@ module _ (f : ℕ → ℕ) where
           ∙ ap (λ (l : List (List ℕ)). names ++ l) (sym (ap (map (λ u. u.name)) e ∙ map-append (λ u. u.name) ds (v ∷ es))))
           ∙ h.apart)
 
-      new-parts : (fresh v.name names ≡ true) × (fresh v.name (map (λ u. u.name) ds) ≡ true)
-      new-parts =
+      new_parts : (fresh v.name names ≡ true) × (fresh v.name (map (λ u. u.name) ds) ≡ true)
+      new_parts =
           both (fresh v.name names) (fresh v.name (map (λ u. u.name) ds))
           (sym (all_append (λ m. not (same_name v.name m)) names (map (λ u. u.name) ds)) ∙ new_name)
 
@@ -121,16 +121,16 @@ module _ (f : ℕ → ℕ) where
       unfolding add_output
       output_name xs w =
           variable_read add_output output_count output_limit v.name xs (staged b.name ins (map bare_output ds)) w
-          (output-at b h ds v es e).name
-          (not_input v.name b.name b.inputs (map bare_output ds) (fresh_map (λ u. u.name) v.name b.inputs new-parts.0))
-          (not_output v.name b.name [] ds ins (fresh_map (λ u. u.name) v.name ds new-parts.1))
+          (output_at b h ds v es e).name
+          (not_input v.name b.name b.inputs (map bare_output ds) (fresh_map (λ u. u.name) v.name b.inputs new_parts.0))
+          (not_output v.name b.name [] ds ins (fresh_map (λ u. u.name) v.name ds new_parts.1))
           (lt-ltb (length (map bare_output ds)) output_limit (omega (arith, length-map ds bare_output, ap length e, length-append ds (v ∷ es), h.outputs.1)))
 
-      output-read : (xs : List Item) (w : ℕ)
+      output_read : (xs : List Item) (w : ℕ)
           → output_declaration (at f (output_items v ++ xs) (staged b.name ins (map bare_output ds)) w)
           ≡ at f xs (staged b.name ins (map bare_output (ds ++ (v ∷ [])))) w
       unfolding output_declaration
-      output-read xs w =
+      output_read xs w =
           let x₁ = word "REAL" ∷ semicolon ∷ xs in
           let c = staged b.name ins (map bare_output ds) in
           let d = staged b.name ins (map bare_output ds ++ (bare_output v ∷ [])) in
@@ -142,11 +142,11 @@ module _ (f : ℕ → ℕ) where
           ∙ expects SEMICOLON f _ xs d w
           ∙ ap (λ (l : List Output). at f xs (staged b.name ins l) w) (sym (map-append bare_output ds (v ∷ [])))
 
-    pub outputs-read : (rest : List Item) (w : ℕ) → eqb (head_kind rest) NAME ≡ false
+    pub outputs_read : (rest : List Item) (w : ℕ) → eqb (head_kind rest) NAME ≡ false
         → repeated NAME output_declaration
         (output_declaration (at f (gather output_items b.outputs ++ rest) (staged b.name (map bare_input b.inputs) []) w))
         ≡ at f rest (staged b.name (map bare_input b.inputs) (map bare_output b.outputs)) w
-    outputs-read rest w stops =
+    outputs_read rest w stops =
         let first = filled b.outputs h.outputs.0 in
         some_read NAME output_declaration output_items (λ ds. staged b.name ins (map bare_output ds)) (λ ds. w) f b.outputs (λ v. (_, _, refl))
-        (λ ds v es ys e. output-read ds v es e ys w) rest stops first.0 first.1 first.2
+        (λ ds v es ys e. output_read ds v es e ys w) rest stops first.0 first.1 first.2

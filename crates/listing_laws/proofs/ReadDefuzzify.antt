@@ -120,10 +120,10 @@ module _ (f : ℕ → ℕ) (n : List ℕ) (is : List Input) (ds rest : List Outp
           ap (λ (l : List Singleton). not (ltb (index_of (named (λ u. u.name) s.name) l) (length l))) (singletons_here (having ss))
           ∙ ap not (not_found (named (λ u. u.name) s.name) ss (distinct_split (λ u. u.name) ss s es e h.apart))
 
-      body-read : singleton_body i (at f (name s.name ∷ assign ∷ number (crisp_text s.at) ∷ semicolon ∷ xs) (holding (having ss)) w)
+      body_read : singleton_body i (at f (name s.name ∷ assign ∷ number (crisp_text s.at) ∷ semicolon ∷ xs) (holding (having ss)) w)
           ≡ at f xs (holding (having (ss ++ (s ∷ [])))) w
       unfolding singleton_body singleton_ok at kind text advance
-      body-read =
+      body_read =
           let b = both (is_name s.name) (figure_ok v.range s.at) ok in
           let with : ℤ → Output → Output = λ x. with_singleton (record { name = s.name; at = x }) in
           judged_pass _ _ _ (refl, (name_fits s.name b.0, (new, tt)))
@@ -142,7 +142,7 @@ module _ (f : ℕ → ℕ) (n : List ℕ) (is : List Input) (ds rest : List Outp
               tt,
             ),
           )
-          ∙ body-read
+          ∙ body_read
 
     terms_read : (xs : List Item) (w : ℕ) → eqb (head_kind xs) TERM ≡ false
         → repeated TERM (output_term i) (output_term i (at f (gather singleton_items v.terms ++ xs) (holding (having [])) w))
@@ -153,9 +153,9 @@ module _ (f : ℕ → ℕ) (n : List ℕ) (is : List Input) (ds rest : List Outp
         some_read TERM (output_term i) singleton_items (λ ss. holding (having ss)) (λ ss. w) f v.terms (λ s. (_, _, refl))
         (λ ss s es ys e. term_read ss s es e ys w) xs stops first.0 first.1 first.2
 
-    default-read : (xs : List Item) (w : ℕ) → default_value i (at f (default_item v.default ∷ xs) (holding (having v.terms)) w) ≡ at f xs (holding v) w
+    default_read : (xs : List Item) (w : ℕ) → default_value i (at f (default_item v.default ∷ xs) (holding (having v.terms)) w) ≡ at f xs (holding v) w
     unfolding default_value at kind advance
-    default-read xs w = go v.default h.default
+    default_read xs w = go v.default h.default
       where
         go : (d : Option ℤ) → default_ok v.range d ≡ true
             → default_value i (at f (default_item d ∷ xs) (holding (having v.terms)) w)
@@ -181,16 +181,16 @@ module _ (f : ℕ → ℕ) (n : List ℕ) (is : List Input) (ds rest : List Outp
     behind xs =
         word "METHOD" ∷ colon ∷ word "CoGS" ∷ semicolon ∷ word "DEFAULT" ∷ assign ∷ default_item v.default ∷ semicolon ∷ word "END_DEFUZZIFY" ∷ xs
 
-    terms-head : (xs : List Item) → eqb (head_kind (gather singleton_items v.terms ++ behind xs)) RANGE ≡ false
+    terms_head : (xs : List Item) → eqb (head_kind (gather singleton_items v.terms ++ behind xs)) RANGE ≡ false
     unfolding singleton_items gather
-    terms-head xs =
+    terms_head xs =
         let first = filled v.terms h.count.0 in
         ap (λ (l : List Singleton). eqb (head_kind (gather singleton_items l ++ behind xs)) RANGE) first.2
 
-    method-read : (xs : List Item) (c : Block) (w : ℕ)
+    method_read : (xs : List Item) (c : Block) (w : ℕ)
         → expect ASSIGN (expect DEFAULT (expect SEMICOLON (expect CoGS (expect COLON (expect METHOD
         (at f (word "METHOD" ∷ colon ∷ word "CoGS" ∷ semicolon ∷ word "DEFAULT" ∷ assign ∷ xs) c w)))))) ≡ at f xs c w
-    method-read xs c w = simp expects
+    method_read xs c w = simp expects
 
     body : (xs : List Item) (w : ℕ)
         → defuzzify_of i (at f (name v.name ∷ (range_items v.range ++ (gather singleton_items v.terms ++ behind xs))) (holding (bare_output v)) w)
@@ -204,16 +204,16 @@ module _ (f : ℕ → ℕ) (n : List ℕ) (is : List Input) (ds rest : List Outp
         (expect ASSIGN (expect DEFAULT (expect SEMICOLON (expect CoGS (expect COLON (expect METHOD p)))))))) in
         judged_pass _ _ _ (refl, (h.name, (ap is_empty (singletons_here (bare_output v)), (declared, tt))))
         ∙ ap (λ (p : Parse). method (repeated TERM (output_term i) (output_term i p)))
-        (range_read v.range h.range v.name (gather singleton_items v.terms ++ behind xs) (terms-head xs) w)
+        (range_read v.range h.range v.name (gather singleton_items v.terms ++ behind xs) (terms_head xs) w)
         ∙ ap method (terms_read (behind xs) w refl)
-        ∙ ap (λ (p : Parse). expect END_DEFUZZIFY (expect SEMICOLON (default_value i p))) (method-read x₂ c w)
-        ∙ ap (λ (p : Parse). expect END_DEFUZZIFY (expect SEMICOLON p)) (default-read x₁ w)
+        ∙ ap (λ (p : Parse). expect END_DEFUZZIFY (expect SEMICOLON (default_value i p))) (method_read x₂ c w)
+        ∙ ap (λ (p : Parse). expect END_DEFUZZIFY (expect SEMICOLON p)) (default_read x₁ w)
         ∙ ap (expect END_DEFUZZIFY) (expects SEMICOLON f _ (word "END_DEFUZZIFY" ∷ xs) (holding v) w)
         ∙ expects END_DEFUZZIFY f _ xs (holding v) w
 
-    pub defuzzify-read : (xs : List Item) (w : ℕ) → defuzzify (at f (defuzzify_items v ++ xs) (holding (bare_output v)) w) ≡ at f xs (holding v) w
+    pub defuzzify_read : (xs : List Item) (w : ℕ) → defuzzify (at f (defuzzify_items v ++ xs) (holding (bare_output v)) w) ≡ at f xs (holding v) w
     unfolding defuzzify defuzzify_items
-    defuzzify-read xs w =
+    defuzzify_read xs w =
         let c = holding (bare_output v) in
         let r = range_items v.range in
         let g = gather singleton_items v.terms in

@@ -88,9 +88,9 @@ module _ (f : ℕ → ℕ) (n : List ℕ) (os : List Output) (ds rest : List Inp
           order_at [] (map (λ q. q.at) ps) p.at (map (λ q. q.at) qs)
           (sym (ap (in_order []) (ap (map (λ q. q.at)) z ∙ map-append (λ q. q.at) ps (p ∷ qs))) ∙ facts.ordered)
 
-      position-read : (xs : List Item) (w : ℕ) → point_position i (at f (number (crisp_text p.at) ∷ xs) (drawn ps) w) ≡ at f xs (drawn ps) w
+      position_read : (xs : List Item) (w : ℕ) → point_position i (at f (number (crisp_text p.at) ∷ xs) (drawn ps) w) ≡ at f xs (drawn ps) w
       unfolding point_position at kind text advance
-      position-read xs w =
+      position_read xs w =
           judged_pass _ _ _ (
             refl,
             (
@@ -99,10 +99,10 @@ module _ (f : ℕ → ℕ) (n : List ℕ) (os : List Output) (ds rest : List Inp
             ),
           )
 
-      degree-read : (xs : List Item) (w : ℕ)
+      degree_read : (xs : List Item) (w : ℕ)
           → point_degree i p.at (at f (number (unit_text p.degree) ∷ xs) (drawn ps) w) ≡ at f xs (drawn (ps ++ (p ∷ []))) w
       unfolding point_degree at kind text advance change
-      degree-read xs w =
+      degree_read xs w =
           judged_pass _ _ _ (refl, (is_unit_lem p.degree ok.1, tt))
           ∙ ap (λ (m : ℕ). at f xs (add_point i (record { at = p.at; degree = m }) (drawn ps)) w) (unit_back p.degree ok.1)
           ∙ ap (λ (c : Block). at f xs c w) (point_added p ts (record { name = t.name; points = ps }))
@@ -112,17 +112,17 @@ module _ (f : ℕ → ℕ) (n : List ℕ) (os : List Output) (ds rest : List Inp
           ap (λ (l : List Point). ltb (length l) point_limit) (points_here ts (record { name = t.name; points = ps }))
           ∙ lt-ltb (length ps) point_limit (omega (arith, ap length z, length-append ps (p ∷ qs), facts.count.1))
 
-      point-read : (xs : List Item) (w : ℕ) → point i (at f (point_items p ++ xs) (drawn ps) w) ≡ at f xs (drawn (ps ++ (p ∷ []))) w
+      point_read : (xs : List Item) (w : ℕ) → point i (at f (point_items p ++ xs) (drawn ps) w) ≡ at f xs (drawn (ps ++ (p ∷ []))) w
       unfolding point at kind advance
-      point-read xs w =
+      point_read xs w =
           let x₁ = number (unit_text p.degree) ∷ closing ∷ xs in
           let s = crisp_text p.at in
           judged_pass _ _ _ (refl, (fewer, tt))
           ∙ body_start f i s (comma ∷ x₁) (drawn ps) w
-          ∙ ap (λ (r : Parse). expect CLOSE (point_degree i (value_of s) (expect COMMA r))) (position-read (comma ∷ x₁) w)
+          ∙ ap (λ (r : Parse). expect CLOSE (point_degree i (value_of s) (expect COMMA r))) (position_read (comma ∷ x₁) w)
           ∙ ap (λ (r : Parse). expect CLOSE (point_degree i (value_of s) r)) (expects COMMA f _ x₁ (drawn ps) w)
           ∙ ap (λ (x : ℤ). expect CLOSE (point_degree i x (at f x₁ (drawn ps) w))) (value_crisp p.at)
-          ∙ ap (expect CLOSE) (degree-read (closing ∷ xs) w)
+          ∙ ap (expect CLOSE) (degree_read (closing ∷ xs) w)
           ∙ expects CLOSE f _ xs (drawn (ps ++ (p ∷ []))) w
 
     end_read : (xs : List Item) (w : ℕ) → end_of_points i (at f (semicolon ∷ xs) (drawn t.points) w) ≡ at f xs (having (ts ++ (t ∷ []))) w
@@ -137,9 +137,9 @@ module _ (f : ℕ → ℕ) (n : List ℕ) (os : List Output) (ds rest : List Inp
         ap (λ (l : List Term). not (ltb (index_of (named (λ u. u.name) t.name) l) (length l))) (terms_here ts)
         ∙ ap not (not_found (named (λ u. u.name) t.name) ts (distinct_split (λ u. u.name) ts t es e h.apart))
 
-    name-read : (xs : List Item) (w : ℕ) → term_name i (at f (name t.name ∷ xs) (having ts) w) ≡ at f xs (drawn []) w
+    name_read : (xs : List Item) (w : ℕ) → term_name i (at f (name t.name ∷ xs) (having ts) w) ≡ at f xs (drawn []) w
     unfolding term_name at kind text advance change
-    name-read xs w =
+    name_read xs w =
         judged_pass _ _ _ (refl, (facts.name, (new, tt))) ∙ ap (λ (c : Block). at f xs c w) (term_added t.name ts)
 
     term_read : (xs : List Item) (w : ℕ) → input_term i (at f (term_items t ++ xs) (having ts) w) ≡ at f xs (having (ts ++ (t ∷ []))) w
@@ -158,10 +158,10 @@ module _ (f : ℕ → ℕ) (n : List ℕ) (os : List Output) (ds rest : List Inp
           ),
         )
         ∙ ap (λ (l : List Item). parts (expect ASSIGN (term_name i (at f (name t.name ∷ assign ∷ l) (having ts) w)))) (append_assoc k (semicolon ∷ []) xs)
-        ∙ ap (λ (r : Parse). parts (expect ASSIGN r)) (name-read (assign ∷ x₁) w)
+        ∙ ap (λ (r : Parse). parts (expect ASSIGN r)) (name_read (assign ∷ x₁) w)
         ∙ ap parts (expects ASSIGN f _ x₁ (drawn []) w)
         ∙ ap (end_of_points i)
-        (listed_reads (point i) point_items drawn (λ ps. w) f t.points (λ ps p qs ys z. point-read ps p qs z ys w) (semicolon ∷ xs) refl
+        (listed_reads (point i) point_items drawn (λ ps. w) f t.points (λ ps p qs ys z. point_read ps p qs z ys w) (semicolon ∷ xs) refl
         first.0 first.1 first.2)
         ∙ end_read xs w
 

@@ -17,12 +17,12 @@ use Rattle.model.specs.WellFormed.{input_ok, output_ok, well_formed}
 use Rattle.laws.proofs.Tests.{and_i}
 use Rattle.laws.proofs.Finding.{all_imp, filled, some_there}
 use Rattle.listing_laws.proofs.Items.{Item, item, item_of, name, word, input_items, output_items, fuzzify_items, defuzzify_items, rule_block_items, listing_items}
-use Rattle.listing_laws.proofs.Facts.{BlockFacts, block_facts, input_facts, output_facts, input-at, input_new, output-at, output_new}
+use Rattle.listing_laws.proofs.Facts.{BlockFacts, block_facts, input_facts, output_facts, input_at, input_new, output_at, output_new}
 use Rattle.listing_laws.proofs.Reading.{laid, laid_back, places_of, at, own_name_lem, head_kind, judged_pass, expects, some_read}
 use Rattle.listing_laws.proofs.Stages.{staged, bare_input, bare_output, partly, partly_at, partly_next, partly_all}
-use Rattle.listing_laws.proofs.ReadDeclarations.{inputs_read, outputs-read}
+use Rattle.listing_laws.proofs.ReadDeclarations.{inputs_read, outputs_read}
 use Rattle.listing_laws.proofs.ReadFuzzify.{fuzzify_read}
-use Rattle.listing_laws.proofs.ReadDefuzzify.{defuzzify-read}
+use Rattle.listing_laws.proofs.ReadDefuzzify.{defuzzify_read}
 use Rattle.listing_laws.proofs.ReadRules.{rule_block_read}
 
 module _ (f : ℕ → ℕ) (b : Block) (h : BlockFacts b) where
@@ -36,7 +36,7 @@ module _ (f : ℕ → ℕ) (b : Block) (h : BlockFacts b) where
   fuzzify_next ds v es xs e w =
       ap (λ (l : List Input). fuzzify (at f (fuzzify_items v ++ xs) (staged b.name l bare_outputs) w)) (partly_at bare_input b.inputs ds (v ∷ es) e)
       ∙ fuzzify_read f b.name bare_outputs ds (map bare_input es) v
-      (input-at b h ds v es e) (input_new b h ds v es e) xs w
+      (input_at b h ds v es e) (input_new b h ds v es e) xs w
       ∙ ap (λ (l : List Input). at f xs (staged b.name l bare_outputs) w) (sym (partly_next bare_input b.inputs ds v es e))
 
   fuzzifies_read : (rest : List Item) (w : ℕ) → eqb (head_kind rest) FUZZIFY ≡ false
@@ -55,8 +55,8 @@ module _ (f : ℕ → ℕ) (b : Block) (h : BlockFacts b) where
       ≡ at f xs (staged b.name b.inputs (partly bare_output b.outputs (ds ++ (v ∷ [])))) w
   defuzzify_next ds v es xs e w =
       ap (λ (l : List Output). defuzzify (at f (defuzzify_items v ++ xs) (staged b.name b.inputs l) w)) (partly_at bare_output b.outputs ds (v ∷ es) e)
-      ∙ defuzzify-read f b.name b.inputs ds (map bare_output es) v
-      (output-at b h ds v es e) (output_new b h ds v es e) xs w
+      ∙ defuzzify_read f b.name b.inputs ds (map bare_output es) v
+      (output_at b h ds v es e) (output_new b h ds v es e) xs w
       ∙ ap (λ (l : List Output). at f xs (staged b.name b.inputs l) w) (sym (partly_next bare_output b.outputs ds v es e))
 
   defuzzifies_read : (rest : List Item) (w : ℕ) → eqb (head_kind rest) DEFUZZIFY ≡ false
@@ -123,7 +123,7 @@ module _ (f : ℕ → ℕ) (b : Block) (h : BlockFacts b) where
       ∙ ap (λ (p : Parse). p₂ (expect VAR_OUTPUT (expect END_VAR p))) (inputs_read f b h (word "END_VAR" ∷ word "VAR_OUTPUT" ∷ x₂) 0 refl)
       ∙ ap (λ (p : Parse). p₂ (expect VAR_OUTPUT p)) (expects END_VAR f _ (word "VAR_OUTPUT" ∷ x₂) (staged n is []) 0)
       ∙ ap p₂ (expects VAR_OUTPUT f _ x₂ (staged n is []) 0)
-      ∙ ap (λ (p : Parse). p₃ (expect END_VAR p)) (outputs-read f b h (word "END_VAR" ∷ x₃) 0 refl)
+      ∙ ap (λ (p : Parse). p₃ (expect END_VAR p)) (outputs_read f b h (word "END_VAR" ∷ x₃) 0 refl)
       ∙ ap p₃ (expects END_VAR f _ x₃ (staged n is bare_outputs) 0)
       ∙ ap p₄ (fuzzifies_read x₄ 0 (defuzzify_head (rule_block_items b ++ x₅)))
       ∙ ap p₅ (defuzzifies_read (rule_block_items b ++ x₅) 0 (rules_head x₅))

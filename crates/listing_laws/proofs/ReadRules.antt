@@ -32,7 +32,7 @@ use Rattle.listing_laws.proofs.Numbers.{decimal_digits, is_rule_number_lem, is_u
 use Rattle.listing_laws.proofs.Facts.{BlockFacts, RuleFacts, rule_facts, conclusion_facts, inputs_apart, outputs_apart}
 use Rattle.listing_laws.proofs.Reading.{at, own_name_lem, head_kind, judged_pass, expects, change_at, listed_reads, some_read}
 use Rattle.listing_laws.proofs.Stages.{staged}
-use Rattle.listing_laws.proofs.ReadConditions.{condition-reads}
+use Rattle.listing_laws.proofs.ReadConditions.{condition_reads}
 use Rattle.listing_laws.proofs.ReadNames.{named_term, Concluded, concluded}
 
 -- THE HEAD OF A RULE BLOCK
@@ -102,10 +102,10 @@ module _ (f : ℕ → ℕ) (b : Block) (h : BlockFacts b) where
     abbrev concluding : List Conclusion → Block
     concluding ks = ruled (ds ++ (given ks ∷ []))
 
-    weight-read : (xs : List Item) (w : ℕ)
+    weight_read : (xs : List Item) (w : ℕ)
         → weighted (at f (weight_items r.weight ++ (semicolon ∷ xs)) (concluding r.conclusions) w)
         ≡ at f (semicolon ∷ xs) (ruled (ds ++ (r ∷ []))) w
-    weight-read xs w = go (eqb r.weight M) refl
+    weight_read xs w = go (eqb r.weight M) refl
       where
         go : (t : Bool) → eqb r.weight M ≡ t
             → weighted (at f ((if t then [] else word "WITH" ∷ number (unit_text r.weight) ∷ []) ++ (semicolon ∷ xs)) (concluding r.conclusions) w)
@@ -115,8 +115,8 @@ module _ (f : ℕ → ℕ) (b : Block) (h : BlockFacts b) where
             ∙ ap (λ (m : ℕ). at f (semicolon ∷ xs) (ruled (ds ++ (with_weight m r ∷ []))) w) (sym (eqb-true r.weight M z))
         go false z = some_weight r.weight facts.weight ds (given r.conclusions) (semicolon ∷ xs) w
 
-    new-number : all (λ q. not (eqb q.number r.number)) ds ≡ true
-    new-number =
+    new_number : all (λ q. not (eqb q.number r.number)) ds ≡ true
+    new_number =
         sym (all_map (λ m. not (eqb m r.number)) (λ q. q.number) ds)
         ∙ distinct_earlier eqb (map (λ q. q.number) ds) r.number (map (λ q. q.number) es)
         (sym (ap (distinct eqb) (ap (map (λ q. q.number)) e ∙ map-append (λ q. q.number) ds (r ∷ es))) ∙ h.numbers)
@@ -128,7 +128,7 @@ module _ (f : ℕ → ℕ) (b : Block) (h : BlockFacts b) where
           refl,
           (
             is_rule_number_lem r.number facts.number,
-            (ap (λ (m : ℕ). all (λ q. not (eqb q.number m)) ds) (decimal_digits r.number) ∙ new-number, tt),
+            (ap (λ (m : ℕ). all (λ q. not (eqb q.number m)) ds) (decimal_digits r.number) ∙ new_number, tt),
           ),
         )
 
@@ -154,37 +154,37 @@ module _ (f : ℕ → ℕ) (b : Block) (h : BlockFacts b) where
       abbrev its : List ℕ
       its = get_or (map (λ t. t.name) (terms b)) k.term []
 
-      ok-here : conclusion_ok now k ≡ true
+      ok_here : conclusion_ok now k ≡ true
       unfolding conclusion_ok output_first singletons_of
-      ok-here = all_split (conclusion_ok b) kds k kes z facts.conclusions
+      ok_here = all_split (conclusion_ok b) kds k kes z facts.conclusions
 
       back : Concluded now k variable its
       back =
-          concluded now h.outputs_ok (outputs_apart b h) k (conclusion_facts now k ok-here)
+          concluded now h.outputs_ok (outputs_apart b h) k (conclusion_facts now k ok_here)
 
-      concluded-read : concluded_term (output_of variable now) (at f (name its ∷ ys) now w) ≡ at f ys (concluding (kds ++ (k ∷ []))) w
+      concluded_read : concluded_term (output_of variable now) (at f (name its ∷ ys) now w) ≡ at f ys (concluding (kds ++ (k ∷ []))) w
       unfolding concluded_term at kind text advance change
-      concluded-read =
+      concluded_read =
           judged_pass _ _ _ (refl, (back.term_fits, (back.has, tt)))
           ∙ ap (λ (c : Conclusion). at f ys (change_rule (with_conclusion c) now) w) (λ j. record { output = back.output j; term = back.term j })
           ∙ ap (λ (c : Block). at f ys c w) (changed (with_conclusion k) ds (given kds))
 
-      conclusion-read : conclusion (at f (conclusion_items b k ++ ys) now w) ≡ at f ys (concluding (kds ++ (k ∷ []))) w
+      conclusion_read : conclusion (at f (conclusion_items b k ++ ys) now w) ≡ at f ys (concluding (kds ++ (k ∷ []))) w
       unfolding conclusion conclusion_items at kind text advance
-      conclusion-read =
+      conclusion_read =
           judged_pass _ _ _ (refl, (back.variable_fits, (back.declared, (lt-ltb (length (conclusions now)) conclusion_limit (room kds k kes z), tt))))
           ∙ ap (concluded_term (output_of variable now)) (expects IS f _ (name its ∷ ys) now w)
-          ∙ concluded-read
+          ∙ concluded_read
 
     -- what follows the condition
     abbrev behind : List Item → List Item
     behind ys = word "THEN" ∷ (commas (map (conclusion_items b) r.conclusions) ++ (weight_items r.weight ++ (semicolon ∷ ys)))
 
-    given-read : (n : ℕ) → n ≡ r.number → (ys : List Item) (w : ℕ)
+    given_read : (n : ℕ) → n ≡ r.number → (ys : List Item) (w : ℕ)
         → rule_given n (condition_read (at f (behind ys) (ruled ds) w) r.condition)
         ≡ at f ys (ruled (ds ++ (r ∷ []))) w
     unfolding rule_given add_rule
-    given-read n z ys w =
+    given_read n z ys w =
         let ks = r.conclusions in
         let more = weight_items r.weight ++ (semicolon ∷ ys) in
         let items = commas (map (conclusion_items b) ks) ++ more in
@@ -193,35 +193,35 @@ module _ (f : ℕ → ℕ) (b : Block) (h : BlockFacts b) where
         ∙ ap (λ (p : Parse). expect SEMICOLON (weighted (listed conclusion (expect THEN p)))) (change_at f (word "THEN" ∷ items) (ruled ds) w _)
         ∙ ap (λ (p : Parse). expect SEMICOLON (weighted (listed conclusion p))) (expects THEN f _ items (concluding []) w)
         ∙ ap (λ (p : Parse). expect SEMICOLON (weighted p))
-        (listed_reads conclusion (conclusion_items b) concluding (λ cs. w) f ks (λ kds k kes xs y. conclusion-read kds k kes y xs w)
+        (listed_reads conclusion (conclusion_items b) concluding (λ cs. w) f ks (λ kds k kes xs y. conclusion_read kds k kes y xs w)
         more (weight_stops r.weight ys) first.0 first.1 first.2)
-        ∙ ap (expect SEMICOLON) (weight-read ys w)
+        ∙ ap (expect SEMICOLON) (weight_read ys w)
         ∙ expects SEMICOLON f _ ys (ruled (ds ++ (r ∷ []))) w
 
-    from-read : (t : List ℕ) (xs : List Item) (w : ℕ)
+    from_read : (t : List ℕ) (xs : List Item) (w : ℕ)
         → rule_from (at f (number t ∷ xs) (ruled ds) w)
         ≡ rule_given (decimal t) (condition (expect IF (expect COLON (rule_number (at f (number t ∷ xs) (ruled ds) w)))))
     unfolding rule_from at text
-    from-read t xs w = refl
+    from_read t xs w = refl
 
-    rule-start : (xs : List Item) (w : ℕ) → rule (at f (word "RULE" ∷ xs) (ruled ds) w) ≡ rule_from (at f xs (ruled ds) w)
+    rule_start : (xs : List Item) (w : ℕ) → rule (at f (word "RULE" ∷ xs) (ruled ds) w) ≡ rule_from (at f xs (ruled ds) w)
     unfolding rule at kind advance
-    rule-start xs w =
+    rule_start xs w =
         judged_pass _ _ _ (refl, (lt-ltb (length ds) rule_limit (omega (arith, ap length e, length-append ds (r ∷ es), h.rules.1)), tt))
 
-    condition-read : (rest : List Item) → eqb (head_kind rest) AND ≡ false → eqb (head_kind rest) OR ≡ false
+    condition_read_lem : (rest : List Item) → eqb (head_kind rest) AND ≡ false → eqb (head_kind rest) OR ≡ false
         → condition (at f (condition_items (input_term_name b) r.condition ++ rest) (ruled ds) (words_of ds))
         ≡ condition_read (at f rest (ruled ds) (words_of ds + size r.condition)) r.condition
     unfolding input_term_name input_term_names total
-    condition-read rest u v =
-        condition-reads f (ruled ds) (input_term_name b) (length (input_terms b))
+    condition_read_lem rest u v =
+        condition_reads f (ruled ds) (input_term_name b) (length (input_terms b))
         (named_term (ruled ds) h.inputs_ok (inputs_apart b h))
         r.condition facts.terms facts.deep (words_of ds) rest u v
         (omega (arith, h.words, ap words_of e, total_append (λ q. size q.condition) ds (r ∷ es)))
 
-    rule-read : (ys : List Item) → rule (at f (rule_items b r ++ ys) (ruled ds) (words_of ds)) ≡ at f ys (ruled (ds ++ (r ∷ []))) (words_of (ds ++ (r ∷ [])))
+    rule_read : (ys : List Item) → rule (at f (rule_items b r ++ ys) (ruled ds) (words_of ds)) ≡ at f ys (ruled (ds ++ (r ∷ []))) (words_of (ds ++ (r ∷ [])))
     unfolding rule_items
-    rule-read ys =
+    rule_read ys =
         let n = digits r.number in
         let c = condition_items (input_term_name b) r.condition in
         let k = commas (map (conclusion_items b) r.conclusions) in
@@ -229,13 +229,13 @@ module _ (f : ℕ → ℕ) (b : Block) (h : BlockFacts b) where
         let xs = colon ∷ word "IF" ∷ (c ++ behind ys) in
         ap (λ (l : List Item). rule (at f (word "RULE" ∷ number n ∷ colon ∷ word "IF" ∷ l) (ruled ds) w))
         (regroup c k (weight_items r.weight) ys (word "THEN") semicolon)
-        ∙ rule-start (number n ∷ xs) w
-        ∙ from-read n xs w
+        ∙ rule_start (number n ∷ xs) w
+        ∙ from_read n xs w
         ∙ ap (λ (p : Parse). rule_given (decimal n) (condition (expect IF (expect COLON p)))) (number_read xs w)
         ∙ ap (λ (p : Parse). rule_given (decimal n) (condition (expect IF p))) (expects COLON f _ (word "IF" ∷ (c ++ behind ys)) (ruled ds) w)
         ∙ ap (λ (p : Parse). rule_given (decimal n) (condition p)) (expects IF f _ (c ++ behind ys) (ruled ds) w)
-        ∙ ap (rule_given (decimal n)) (condition-read (behind ys) refl refl)
-        ∙ given-read (decimal n) (decimal_digits r.number) ys (w + size r.condition)
+        ∙ ap (rule_given (decimal n)) (condition_read_lem (behind ys) refl refl)
+        ∙ given_read (decimal n) (decimal_digits r.number) ys (w + size r.condition)
         ∙ ap (λ (m : ℕ). at f ys (ruled (ds ++ (r ∷ []))) m) (sym (total_last (λ q. size q.condition) ds r))
 
   -- THE WHOLE RULE BLOCK
@@ -244,7 +244,7 @@ module _ (f : ℕ → ℕ) (b : Block) (h : BlockFacts b) where
   unfolding rule_items total
   rules_read rest stops =
       let first = filled b.rules h.rules.0 in
-      some_read RULE rule (rule_items b) ruled words_of f b.rules (λ r. (_, _, refl)) (λ ds r es ys e. rule-read ds r es e ys) rest stops
+      some_read RULE rule (rule_items b) ruled words_of f b.rules (λ r. (_, _, refl)) (λ ds r es ys e. rule_read ds r es e ys) rest stops
       first.0 first.1 first.2
 
   pub rule_block_read : (rest : List Item)

@@ -89,15 +89,15 @@ module _ (s : List ℕ) (n : ℕ) (e : n ≡ tidy_end false 0 s) where
     keyword = failed 4
 
     -- the first of them begins a name where it is no digit
-    first-starts : is_digit (get_or s 0 0) ≡ false → starts_name (get_or s 0 0) ≡ true
-    first-starts d =
+    first_starts : is_digit (get_or s 0 0) ≡ false → starts_name (get_or s 0 0) ≡ true
+    first_starts d =
         let c = get_or s 0 0 in
         sym (or-false (starts_name c)) ∙ ap (λ (b : Bool). starts_name c || b) (sym d) ∙ run_first is_name_byte s (omega (arith, (tidy_ends n s e h).0))
 
     pub spelt : n ≤ length s → n ≤ name_limit → is_digit (get_or s 0 0) ≡ false → Every (take 4 (name_tests (take n s)))
     spelt l g d =
         let few : length (take n s) ≤ name_limit = omega (arith, length-take-le n s l) in (
-          starts_take starts_name s n h l ∙ first-starts d,
+          starts_take starts_name s n h l ∙ first_starts d,
           (
             ap (λ (k : ℕ). all is_name_byte (take k s)) (tidy_ends n s e h).0 ∙ run_all is_name_byte s,
             ((tidy_ends n s e h).1, (le-leb _ _ few, tt)),

@@ -39,28 +39,28 @@ module _ (s : List ℕ) (c : Cursor) where
   piece_is = part c.start c.end s
 
   module _ (h : c.kind ≡ NUMBER → ⊥) (b : Block) (n : ℕ) where
-    pub crisp-none : 2 ≡ fault (a_crisp (seen s c b n) [])
+    pub crisp_none : 2 ≡ fault (a_crisp (seen s c b n) [])
     unfolding fault
-    crisp-none = simp (kind_seen, ne_eqb _ _ h)
+    crisp_none = simp (kind_seen, ne_eqb _ _ h)
 
-    pub unit-none : 2 ≡ fault (a_unit (seen s c b n))
+    pub unit_none : 2 ≡ fault (a_unit (seen s c b n))
     unfolding fault
-    unit-none = simp (kind_seen, ne_eqb _ _ h)
+    unit_none = simp (kind_seen, ne_eqb _ _ h)
 
-    pub number-none : 2 ≡ fault ((is NUMBER (seen s c b n), 2) ∷ (is_rule_number (text (seen s c b n)), 3) ∷ [])
+    pub number_none : 2 ≡ fault ((is NUMBER (seen s c b n), 2) ∷ (is_rule_number (text (seen s c b n)), 3) ∷ [])
     unfolding fault
-    number-none = simp (kind_seen, ne_eqb _ _ h)
+    number_none = simp (kind_seen, ne_eqb _ _ h)
 
   module _ (h : c.kind ≡ NUMBER) (w : ℕ) (b : Block) (n : ℕ) where
-    pub crisp-fault : (t : Bool) → is_crisp piece ≡ t → w ≡ (if t then 0 else 3) → w ≡ fault (a_crisp (seen s c b n) [])
+    pub crisp_fault : (t : Bool) → is_crisp piece ≡ t → w ≡ (if t then 0 else 3) → w ≡ fault (a_crisp (seen s c b n) [])
     unfolding fault
-    crisp-fault true q e = e ∙ sym (simp (kind_seen, text_seen, eq-eqb _ _ h, sym piece_is, q))
-    crisp-fault false q e = e ∙ sym (simp (kind_seen, text_seen, eq-eqb _ _ h, sym piece_is, q))
+    crisp_fault true q e = e ∙ sym (simp (kind_seen, text_seen, eq-eqb _ _ h, sym piece_is, q))
+    crisp_fault false q e = e ∙ sym (simp (kind_seen, text_seen, eq-eqb _ _ h, sym piece_is, q))
 
-    pub unit-fault : (t : Bool) → is_unit piece ≡ t → w ≡ (if t then 0 else 3) → w ≡ fault (a_unit (seen s c b n))
+    pub unit_fault : (t : Bool) → is_unit piece ≡ t → w ≡ (if t then 0 else 3) → w ≡ fault (a_unit (seen s c b n))
     unfolding fault
-    unit-fault true q e = e ∙ sym (simp (kind_seen, text_seen, eq-eqb _ _ h, sym piece_is, q))
-    unit-fault false q e = e ∙ sym (simp (kind_seen, text_seen, eq-eqb _ _ h, sym piece_is, q))
+    unit_fault true q e = e ∙ sym (simp (kind_seen, text_seen, eq-eqb _ _ h, sym piece_is, q))
+    unit_fault false q e = e ∙ sym (simp (kind_seen, text_seen, eq-eqb _ _ h, sym piece_is, q))
 
     pub number_fault : (t : Bool) → is_rule_number piece ≡ t → w ≡ (if t then 0 else 3)
         → w ≡ fault ((is NUMBER (seen s c b n), 2) ∷ (is_rule_number (text (seen s c b n)), 3) ∷ [])

@@ -67,8 +67,8 @@ module _ (w : List ℕ) where
 
   -- t thousandths, by the digits
   module _ (t : ℕ) (e : t ≡ magnitude_written w) where
-    pub high-crisp : digits_fit w ≡ true → crisp_limit < t → (false ≡ is_crisp w) × (pos 0 ≡ crisp_written w)
-    high-crisp f h = no_crisp (rw (crisp_by, f, written w f, sym e, lt-leb t crisp_limit h) refl)
+    pub high_crisp : digits_fit w ≡ true → crisp_limit < t → (false ≡ is_crisp w) × (pos 0 ≡ crisp_written w)
+    high_crisp f h = no_crisp (rw (crisp_by, f, written w f, sym e, lt-leb t crisp_limit h) refl)
 
     pub crisp_is : digits_fit w ≡ true → t ≤ crisp_limit → (b : Bool) → starts (eqb 45) w ≡ b → (z : ℤ) → z ≡ signed b t
         → (true ≡ is_crisp w) × (z ≡ crisp_written w)
@@ -77,12 +77,12 @@ module _ (w : List ℕ) where
         let k : is_crisp w ≡ true = rw (crisp_by, f, written w f, sym e, le-leb t crisp_limit h) refl in
         (sym k, rw (k, s, written w f, sym e) q)
 
-    pub high-unit : digits_fit w ≡ true → unit_limit w < t → (false ≡ is_unit w) × (0 ≡ unit_written w)
-    high-unit f h = no_unit (rw (unit_by, f, written w f, sym e, lt-leb t (unit_limit w) h) refl)
+    pub high_unit : digits_fit w ≡ true → unit_limit w < t → (false ≡ is_unit w) × (0 ≡ unit_written w)
+    high_unit f h = no_unit (rw (unit_by, f, written w f, sym e, lt-leb t (unit_limit w) h) refl)
 
-    pub unit-is : digits_fit w ≡ true → t ≤ unit_limit w → (true ≡ is_unit w) × (t * 1000 ≡ unit_written w)
+    pub unit_is : digits_fit w ≡ true → t ≤ unit_limit w → (true ≡ is_unit w) × (t * 1000 ≡ unit_written w)
     unfolding unit_written unit_of
-    unit-is f h =
+    unit_is f h =
         let k : is_unit w ≡ true = rw (unit_by, f, written w f, sym e, le-leb t (unit_limit w) h) refl in
         (sym k, rw (k, written w f, sym e) refl)
 
@@ -110,16 +110,16 @@ module _ (w : List ℕ) where
   rule_other h = none (rw (all_run is_digit w, lt-leb (length w) (run is_digit w) h) refl)
 
   module _ (a : length w ≤ run is_digit w) (l : length w ≤ 7) where
-    rule-by : is_rule_number w ≡ between 1 rule_number_limit (decimal w)
+    rule_by : is_rule_number w ≡ between 1 rule_number_limit (decimal w)
     unfolding is_rule_number
-    rule-by = rw (all_run is_digit w, le-leb (length w) (run is_digit w) a, le-leb (length w) 7 l) refl
+    rule_by = rw (all_run is_digit w, le-leb (length w) (run is_digit w) a, le-leb (length w) 7 l) refl
 
-    pub rule-high : rule_number_limit < decimal w → 0 ≡ rule_number_written w
-    rule-high h = none (rw (rule-by, lt-leb (decimal w) rule_number_limit h) (and-false (leb 1 (decimal w))))
+    pub rule_high : rule_number_limit < decimal w → 0 ≡ rule_number_written w
+    rule_high h = none (rw (rule_by, lt-leb (decimal w) rule_number_limit h) (and-false (leb 1 (decimal w))))
 
-    pub rule-is : decimal w ≤ rule_number_limit → decimal w ≡ rule_number_written w
+    pub rule_is : decimal w ≤ rule_number_limit → decimal w ≡ rule_number_written w
     unfolding rule_number_written
-    rule-is h = rw (rule-by, le-leb (decimal w) rule_number_limit h) (go (decimal w))
+    rule_is h = rw (rule_by, le-leb (decimal w) rule_number_limit h) (go (decimal w))
       where
         go : (n : ℕ) → n ≡ (if leb 1 n && true then n else 0)
         go zero = refl

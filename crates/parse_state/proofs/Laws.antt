@@ -164,7 +164,7 @@ module _ (k : ℕ) (part : Part) (s : List ℕ) where
   unfolding view
   turns_none p d t h w y =
       let z : Reads (repeated k part) s (at d t) (at d t) =
-      also (none s (at d t) y.good) (sym (cursor.lost-repeated s d y.good.fits w (block_view s t) 0 k part h)) in
+      also (none s (at d t) y.good) (sym (cursor.lost_repeated s d y.good.fits w (block_view s t) 0 k part h)) in
       next y z
 
   -- the same where a loop tests at its end
@@ -182,8 +182,8 @@ module _ (k : ℕ) (part : Part) (s : List ℕ) where
   )
 
   module _ (p₀ p r : ParseState) (g : Leading p₀ p) (q : Reads part s p r) (m : Moves s p.cursor r.cursor) where
-    pub leads-on : (k ≡ END → ⊥) → r.cursor.kind ≡ k → Leading p₀ r
-    leads-on z h = (
+    pub leads_on : (k ≡ END → ⊥) → r.cursor.kind ≡ k → Leading p₀ r
+    leads_on z h = (
       q.good,
       omega (arith, g.1, q.fewer),
       λ v y n.
@@ -191,8 +191,8 @@ module _ (k : ℕ) (part : Part) (s : List ℕ) where
           (λ f. turn k part f (view s r) (eq-eqb _ _ (kind_view s r ∙ h)) ∙ ap (repeat_on f k part) (sym y.reads)) (n (λ e. z (sym h ∙ e))) (g.2 r q m),
     )
 
-    pub leads-end : (r.cursor.kind ≡ k → ⊥) → Reads all s p₀ r
-    leads-end h = record {
+    pub leads_end : (r.cursor.kind ≡ k → ⊥) → Reads all s p₀ r
+    leads_end h = record {
       reads = again_end (repeats k part) (λ f. no_turn k part f (view s r) (ne_eqb _ _ (λ y. h (sym (kind_view s r) ∙ y)))) (g.2 r q m);
       fewer = omega (arith, g.1, q.fewer);
       good = q.good;

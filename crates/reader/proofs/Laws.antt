@@ -90,32 +90,32 @@ module _ (s : List ℕ) (t : Tables) (h : Heading) where
       abbrev end : Parse
       end = function_block (start s)
 
-      why-is : f.why ≡ (function_block (start s)).why
+      why_is : f.why ≡ (function_block (start s)).why
       unfolding seen
-      why-is = x.why ∙ ap (λ (z : Parse). z.why) read_so
+      why_is = x.why ∙ ap (λ (z : Parse). z.why) read_so
 
       place_is : f.place ≡ (function_block (start s)).place
       unfolding seen
       place_is = x.place ∙ ap (λ (z : Parse). z.place) read_so
 
-      block-is : whole_view s t h rs ≡ (function_block (start s)).block
+      block_is : whole_view s t h rs ≡ (function_block (start s)).block
       unfolding seen
-      block-is = sym (whole_is rs) ∙ x.block ∙ ap (λ (z : Parse). z.block) read_so
+      block_is = sym (whole_is rs) ∙ x.block ∙ ap (λ (z : Parse). z.block) read_so
 
       pub number : (f.why ≡ 0 → ⊥) → reader_number f.why ≡ true
-      number z = ap reader_number why-is ∙ (reads_known s).number (λ e. z (why-is ∙ e))
+      number z = ap reader_number why_is ∙ (reads_known s).number (λ e. z (why_is ∙ e))
 
       module _ (room : ℕ) (l : length s ≤ text_limit) where
-        pub refused-so : (f.why ≡ 0 → ⊥) → reads_into room s ≡ refused f.why (some f.place)
+        pub refused_so : (f.why ≡ 0 → ⊥) → reads_into room s ≡ refused f.why (some f.place)
         unfolding reads_into
-        refused-so z =
-            let e : outcome_of end ≡ refused end.why (some end.place) = simp (ne_eqb _ _ (λ q. z (why-is ∙ q))) refl in
+        refused_so z =
+            let e : outcome_of end ≡ refused end.why (some end.place) = simp (ne_eqb _ _ (λ q. z (why_is ∙ q))) refl in
             ap (λ (o : Outcome Block). and_then o (λ b. into room (image b))) (text_not_too_long s l ∙ e)
-            ∙ (λ j. refused (sym why-is j) (some (sym place_is j)))
+            ∙ (λ j. refused (sym why_is j) (some (sym place_is j)))
 
-        pub accepted-so : f.why ≡ 0 → reads_into room s ≡ into room (image (whole_view s t h rs))
+        pub accepted_so : f.why ≡ 0 → reads_into room s ≡ into room (image (whole_view s t h rs))
         unfolding reads_into
-        accepted-so z =
-            let e : outcome_of end ≡ accepted end.block = simp (eq-eqb _ _ (sym why-is ∙ z)) refl in
+        accepted_so z =
+            let e : outcome_of end ≡ accepted end.block = simp (eq-eqb _ _ (sym why_is ∙ z)) refl in
             ap (λ (o : Outcome Block). and_then o (λ b. into room (image b))) (text_not_too_long s l ∙ e)
-            ∙ ap (λ (b : Block). into room (image b)) (sym block-is)
+            ∙ ap (λ (b : Block). into room (image b)) (sym block_is)

@@ -66,9 +66,9 @@ module _ (v : Input) where
     so_far : last_points v.terms ≡ g.last.points
     so_far = ap last_points g.split ∙ last_points_lem g.before g.last
 
-    point-more : (p : Point) → ltb (length (last_points v.terms)) point_limit ≡ true → may_follow (map (λ p. p.at) (last_points v.terms)) p.at ≡ true
+    point_more : (p : Point) → ltb (length (last_points v.terms)) point_limit ≡ true → may_follow (map (λ p. p.at) (last_points v.terms)) p.at ≡ true
         → point_ok p ≡ true → Growing (with_terms (update_last (with_point p)) v)
-    point-more p l f o =
+    point_more p l f o =
         let e : map (λ t. t.name) (update_last (with_point p) v.terms) ≡ map (λ t. t.name) v.terms =
         map_update_last (λ t. t.name) (with_point p) (λ t. refl) v.terms in
         let c : length (update_last (with_point p) v.terms) ≡ length v.terms =
@@ -93,9 +93,9 @@ module _ (v : Input) where
           most = omega arith;
         }
 
-    term-done : leb point_least (length (last_points v.terms)) ≡ true → InputFine v
+    term_done : leb point_least (length (last_points v.terms)) ≡ true → InputFine v
     unfolding term_ok
-    term-done l =
+    term_done l =
         let m : leb point_least (length g.last.points) ≡ true = sym (ap (λ (ps : List Point). leb point_least (length ps)) so_far) ∙ l in
         let o : term_ok g.last ≡ true =
         pass _ (g.called, (and_i _ _ m (le-leb (length g.last.points) point_limit g.most), (g.points, (g.ordered, tt)))) in
@@ -156,7 +156,7 @@ module _ (i : ℕ) where
       good_judged _ r refl (λ c.
       good_advance _ (good_change _ r (λ g.
       changed _ (λ v h.
-      point-more v h.0.0 (record { at = x; degree = unit_of (text r) }) h.0.1 h.1.0 (and_i _ _ h.1.1 (unit_value (text r) c.1.0)))
+      point_more v h.0.0 (record { at = x; degree = unit_of (text r) }) h.0.1 h.1.0 (and_i _ _ h.1.1 (unit_value (text r) c.1.0)))
       g.fact) k))
 
   good_body : Leads (Fuzzy i Fewer) (Fuzzy i Growing) (point_body i)
@@ -178,7 +178,7 @@ module _ (i : ℕ) where
       good_judged _ r refl (λ c.
       good_advance r (good_so (λ g.
       declared_so (λ x.
-      unfocus InputFine i r.block.inputs (except_so InputFine Enough InputFine (λ v h. term-done v h.0 h.1) i r.block.inputs x)) (λ x. x)
+      unfocus InputFine i r.block.inputs (except_so InputFine Enough InputFine (λ v h. term_done v h.0 h.1) i r.block.inputs x)) (λ x. x)
       (known (λ ts. leb point_least (length (last_points ts)) ≡ true) c.1.0 g.fact)) k))
 
   good_input_term : Leads (Outputs 1) (Outputs 1) (input_term i)

@@ -35,13 +35,13 @@ by_value (fin t m e) s a d p v =
     let h : n * d ≡ 1000 * a * down e =
     ap (λ (x : ℕ). x * d) (mul_assoc 1000 m (up e)) ∙ mul_assoc 1000 (m * up e) d ∙ ap (λ (x : ℕ). 1000 * x) v.1 ∙ sym (mul_assoc 1000 a (down e)) in
     ap (λ (z : ℤ). Value (record { 0 = clamped z }))
-    (exactly-is t n ∙ nearest_signed t n (down e) (down_pos e) ∙ ap (signed t) (same_fraction (side t) n (down e) (1000 * a) d (side_le t) (down_pos e) p h))
+    (exactly_is t n ∙ nearest_signed t n (down e) (down_pos e) ∙ ap (signed t) (same_fraction (side t) n (down e) (1000 * a) d (side_le t) (down_pos e) p h))
     ∙ ap (λ (z : ℤ). Value (record { 0 = z })) (clamp_signed t (magnitude_of (side t) (1000 * a) d))
     ∙ ap (λ (b : Bool). rounded b a d) v.0
   where
-    exactly-is : (t : Bool) (n : ℕ) → nearestℤ (if t then neg_ℤ (pos n) else pos n) (down e) ≡ nearestℤ (signed t n) (down e)
-    exactly-is true n = refl
-    exactly-is false n = refl
+    exactly_is : (t : Bool) (n : ℕ) → nearestℤ (if t then neg_ℤ (pos n) else pos n) (down e) ≡ nearestℤ (signed t n) (down e)
+    exactly_is true n = refl
+    exactly_is false n = refl
 
 pub finite : (s : Bool) (e t : ℕ) → (e ≡ 255 → ⊥) → real_of (of_fields binary32 s e t) ≡ rounded s (significand_of e t * 2 ^ (e - 1)) (2 ^ 149)
 unfolding of_fields

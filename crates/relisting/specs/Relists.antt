@@ -1,4 +1,4 @@
--- A helper: an image listed and read again. `relisting/proofs/Again.reads-again` ties it to the reader's rules.
+-- A helper: an image listed and read again. `relisting/proofs/Again.reads_again` ties it to the reader's rules.
 use Rattle.std.specs.Prelude.{List, ◌++◌, ℕ, ltb, length, drop, if◌then◌else◌}
 use Rattle.std.proofs.Math.Option.{none, some}
 use Rattle.model.specs.Block.{Block}

@@ -208,8 +208,8 @@ module _ (s : List ℕ) (p : Opened) where
       abbrev one_of : Part
       one_of r = if is k r then advance (change f r) else if is l r then advance (change g r) else refuse 2 r
 
-      the-first : p.cursor.kind ≡ k → p.cursor.why ≡ 0 → one_of (view s p b n) ≡ advance (seen s p.cursor (f (headed s h b)) n)
-      the-first e z = simp (kind_seen, eq-eqb _ _ e) (ap advance (changed s p.cursor (headed s h b) n f z))
+      the_first : p.cursor.kind ≡ k → p.cursor.why ≡ 0 → one_of (view s p b n) ≡ advance (seen s p.cursor (f (headed s h b)) n)
+      the_first e z = simp (kind_seen, eq-eqb _ _ e) (ap advance (changed s p.cursor (headed s h b) n f z))
 
       the_second : eqb l k ≡ false → p.cursor.kind ≡ l → p.cursor.why ≡ 0
           → one_of (view s p b n) ≡ advance (seen s p.cursor (g (headed s h b)) n)
@@ -218,38 +218,38 @@ module _ (s : List ℕ) (p : Opened) where
       neither : (p.cursor.kind ≡ k → ⊥) → (p.cursor.kind ≡ l → ⊥) → one_of (view s p b n) ≡ refuse 2 (view s p b n)
       neither u v = simp (kind_seen, ne_eqb _ _ u, ne_eqb _ _ v)
 
-    pub act-min : p.cursor.kind ≡ MIN → p.cursor.why ≡ 0 → activation (view s p b n) ≡ advance (seen s p.cursor (headed s (with_act_lem 0) b) n)
+    pub act_min : p.cursor.kind ≡ MIN → p.cursor.why ≡ 0 → activation (view s p b n) ≡ advance (seen s p.cursor (headed s (with_act_lem 0) b) n)
     unfolding activation
-    act-min = the-first MIN (with_act by-min) PROD (with_act by-prod)
+    act_min = the_first MIN (with_act by-min) PROD (with_act by-prod)
 
-    pub act-prod : p.cursor.kind ≡ PROD → p.cursor.why ≡ 0 → activation (view s p b n) ≡ advance (seen s p.cursor (headed s (with_act_lem 1) b) n)
+    pub act_prod : p.cursor.kind ≡ PROD → p.cursor.why ≡ 0 → activation (view s p b n) ≡ advance (seen s p.cursor (headed s (with_act_lem 1) b) n)
     unfolding activation
-    act-prod = the_second MIN (with_act by-min) PROD (with_act by-prod) refl
+    act_prod = the_second MIN (with_act by-min) PROD (with_act by-prod) refl
 
-    pub act-none : (p.cursor.kind ≡ MIN → ⊥) → (p.cursor.kind ≡ PROD → ⊥) → activation (view s p b n) ≡ refuse 2 (view s p b n)
+    pub act_none : (p.cursor.kind ≡ MIN → ⊥) → (p.cursor.kind ≡ PROD → ⊥) → activation (view s p b n) ≡ refuse 2 (view s p b n)
     unfolding activation
-    act-none = neither MIN (with_act by-min) PROD (with_act by-prod)
+    act_none = neither MIN (with_act by-min) PROD (with_act by-prod)
 
-    pub accu-max : p.cursor.kind ≡ MAX → p.cursor.why ≡ 0 → accumulation (view s p b n) ≡ advance (seen s p.cursor (headed s (with_accu_lem 0) b) n)
+    pub accu_max : p.cursor.kind ≡ MAX → p.cursor.why ≡ 0 → accumulation (view s p b n) ≡ advance (seen s p.cursor (headed s (with_accu_lem 0) b) n)
     unfolding accumulation
-    accu-max = the-first MAX (with_accu by-max) BSUM (with_accu by-bsum)
+    accu_max = the_first MAX (with_accu by-max) BSUM (with_accu by-bsum)
 
-    pub accu-bsum : p.cursor.kind ≡ BSUM → p.cursor.why ≡ 0 → accumulation (view s p b n) ≡ advance (seen s p.cursor (headed s (with_accu_lem 1) b) n)
+    pub accu_bsum : p.cursor.kind ≡ BSUM → p.cursor.why ≡ 0 → accumulation (view s p b n) ≡ advance (seen s p.cursor (headed s (with_accu_lem 1) b) n)
     unfolding accumulation
-    accu-bsum = the_second MAX (with_accu by-max) BSUM (with_accu by-bsum) refl
+    accu_bsum = the_second MAX (with_accu by-max) BSUM (with_accu by-bsum) refl
 
-    pub accu-none : (p.cursor.kind ≡ MAX → ⊥) → (p.cursor.kind ≡ BSUM → ⊥) → accumulation (view s p b n) ≡ refuse 2 (view s p b n)
+    pub accu_none : (p.cursor.kind ≡ MAX → ⊥) → (p.cursor.kind ≡ BSUM → ⊥) → accumulation (view s p b n) ≡ refuse 2 (view s p b n)
     unfolding accumulation
-    accu-none = neither MAX (with_accu by-max) BSUM (with_accu by-bsum)
+    accu_none = neither MAX (with_accu by-max) BSUM (with_accu by-bsum)
 
     -- ACT stands here
-    pub act-line : p.cursor.kind ≡ ACT → activation_line (view s p b n) ≡ expect SEMICOLON (activation (expect COLON (expect ACT (view s p b n))))
+    pub act_line : p.cursor.kind ≡ ACT → activation_line (view s p b n) ≡ expect SEMICOLON (activation (expect COLON (expect ACT (view s p b n))))
     unfolding activation_line expect
-    act-line k = simp (kind_seen, eq-eqb _ _ k)
+    act_line k = simp (kind_seen, eq-eqb _ _ k)
 
-    pub act-absent : (p.cursor.kind ≡ ACT → ⊥) → activation_line (view s p b n) ≡ view s p b n
+    pub act_absent : (p.cursor.kind ≡ ACT → ⊥) → activation_line (view s p b n) ≡ view s p b n
     unfolding activation_line
-    act-absent k = simp (kind_seen, ne_eqb _ _ k)
+    act_absent k = simp (kind_seen, ne_eqb _ _ k)
 
     -- AND and OR, where q stands after the first
     pub absent : (p.cursor.kind ≡ AND → ⊥) → (p.cursor.kind ≡ OR → ⊥) → algorithms (view s p b n) ≡ view s p b n
@@ -258,25 +258,25 @@ module _ (s : List ℕ) (p : Opened) where
 
     module _ (q : Opened) where
       module _ (k : p.cursor.kind ≡ AND) (x : Opens (algorithm_line false AND and_pair) s p q) where
-        then-kind : kind (algorithm_line false AND and_pair (view s p b n)) ≡ q.cursor.kind
-        then-kind = ap kind (sym (x.reads b n)) ∙ kind_seen s q.cursor (headed s q.heading b) n
+        then_kind : kind (algorithm_line false AND and_pair (view s p b n)) ≡ q.cursor.kind
+        then_kind = ap kind (sym (x.reads b n)) ∙ kind_seen s q.cursor (headed s q.heading b) n
 
-        pub and-or : q.cursor.kind ≡ OR → algorithms (view s p b n) ≡ algorithm_line true OR or_pair (algorithm_line false AND and_pair (view s p b n))
+        pub and_or : q.cursor.kind ≡ OR → algorithms (view s p b n) ≡ algorithm_line true OR or_pair (algorithm_line false AND and_pair (view s p b n))
         unfolding algorithms
-        and-or l = simp (kind_seen, eq-eqb _ _ k, then-kind, eq-eqb _ _ l)
+        and_or l = simp (kind_seen, eq-eqb _ _ k, then_kind, eq-eqb _ _ l)
 
-        pub and-alone : (q.cursor.kind ≡ OR → ⊥) → algorithms (view s p b n) ≡ algorithm_line false AND and_pair (view s p b n)
+        pub and_alone : (q.cursor.kind ≡ OR → ⊥) → algorithms (view s p b n) ≡ algorithm_line false AND and_pair (view s p b n)
         unfolding algorithms
-        and-alone l = simp (kind_seen, eq-eqb _ _ k, then-kind, ne_eqb _ _ l)
+        and_alone l = simp (kind_seen, eq-eqb _ _ k, then_kind, ne_eqb _ _ l)
 
       module _ (k : p.cursor.kind ≡ OR) (x : Opens (algorithm_line false OR or_pair) s p q) where
-        next-kind : kind (algorithm_line false OR or_pair (view s p b n)) ≡ q.cursor.kind
-        next-kind = ap kind (sym (x.reads b n)) ∙ kind_seen s q.cursor (headed s q.heading b) n
+        next_kind : kind (algorithm_line false OR or_pair (view s p b n)) ≡ q.cursor.kind
+        next_kind = ap kind (sym (x.reads b n)) ∙ kind_seen s q.cursor (headed s q.heading b) n
 
         pub or_and : q.cursor.kind ≡ AND → algorithms (view s p b n) ≡ algorithm_line true AND and_pair (algorithm_line false OR or_pair (view s p b n))
         unfolding algorithms
-        or_and l = simp (kind_seen, k, next-kind, eq-eqb _ _ l)
+        or_and l = simp (kind_seen, k, next_kind, eq-eqb _ _ l)
 
-        pub or-alone : (q.cursor.kind ≡ AND → ⊥) → algorithms (view s p b n) ≡ algorithm_line false OR or_pair (view s p b n)
+        pub or_alone : (q.cursor.kind ≡ AND → ⊥) → algorithms (view s p b n) ≡ algorithm_line false OR or_pair (view s p b n)
         unfolding algorithms
-        or-alone l = simp (kind_seen, k, next-kind, ne_eqb _ _ l)
+        or_alone l = simp (kind_seen, k, next_kind, ne_eqb _ _ l)

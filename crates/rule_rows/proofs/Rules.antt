@@ -89,10 +89,10 @@ module _ (w : ℕ → ℕ) where
   row_within i n k h = let s = (passed _ h).1.1 in (leb-true _ _ s.0, leb-true _ _ s.1.0)
 
   module _ (frame : tables_ok w ≡ true) (m : ℕ) (terms : m ≡ input_terms_in w) where
-    condition-words : (i : ℕ) → tab w (word_count w i) (w WORD_TABLE + word_first w i) ≡ tab (λ k. w (w WORD_TABLE + k)) (word_count w i) (word_first w i)
-    condition-words i = sym (tab_from w (w WORD_TABLE) (word_count w i) (word_first w i))
+    condition_words : (i : ℕ) → tab w (word_count w i) (w WORD_TABLE + word_first w i) ≡ tab (λ k. w (w WORD_TABLE + k)) (word_count w i) (word_first w i)
+    condition_words i = sym (tab_from w (w WORD_TABLE) (word_count w i) (word_first w i))
 
     -- by the words that the code reads
-    pub condition-stored : (i d n : ℕ) → d ≡ w WORD_TABLE + word_first w i → n ≡ word_count w i → condition_stored w d n m ≡ condition_right i
+    pub condition_stored_lem : (i d n : ℕ) → d ≡ w WORD_TABLE + word_first w i → n ≡ word_count w i → condition_stored w d n m ≡ condition_right i
     unfolding condition_stored condition_exact condition_ok rule_at
-    condition-stored i d n ed en = rw (ed, en) (λ j. is_condition ((terms ∙ sym (input_terms_lem w frame)) j) (condition-words i j))
+    condition_stored_lem i d n ed en = rw (ed, en) (λ j. is_condition ((terms ∙ sym (input_terms_lem w frame)) j) (condition_words i j))

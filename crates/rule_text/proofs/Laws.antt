@@ -25,7 +25,7 @@ use Rattle.laws.proofs.Again.{Again, again_more, again_end, repeats}
 use Rattle.laws.proofs.Repetition.{turn, no_turn}
 use Rattle.cursor.specs.declared.Cursor.{Cursor}
 use Rattle.cursor.specs.View.{seen, text_of, Fits, left, Step, fault}
-use Rattle.cursor.proofs.Laws.{kind_seen, text_seen, block_seen, changed, unchanged, judged_bad, judged_good, numbered, lost-is, lost-expect, lost-judged, lost-repeated}
+use Rattle.cursor.proofs.Laws.{kind_seen, text_seen, block_seen, changed, unchanged, judged_bad, judged_good, numbered, lost_is, lost_expect, lost_judged, lost_repeated}
 use Rattle.block_tables.specs.declared.Totals.{Totals}
 use Rattle.block_tables.specs.Stored.{rule_row}
 use Rattle.symbol_table.specs.Symbols.{Describes, output_count, term_count, first, among}
@@ -101,23 +101,23 @@ module _ (s : List ℕ) (c : Cursor) (b : Block) (m : ℕ) where
       ((all (λ q. not (eqb q.number (decimal (text now)))) now.block.rules, 4) ∷ []) (sym e) h
 
   module _ (e : 0 ≡ fault ((is NUMBER now, 2) ∷ (is_rule_number (text now), 3) ∷ [])) (x : ℕ) (v : x ≡ decimal (text_of s c)) where
-    number-formed : rule_number now ≡ (if all (λ q. not (eqb q.number x)) b.rules then advance now else refuse 4 now)
+    number_formed : rule_number now ≡ (if all (λ q. not (eqb q.number x)) b.rules then advance now else refuse 4 now)
     unfolding rule_number judged numbered
-    number-formed =
+    number_formed =
         judged_good now (advance now) ((is NUMBER now, 2) ∷ (is_rule_number (text now), 3) ∷ [])
         ((all (λ q. not (eqb q.number (decimal (text now)))) now.block.rules, 4) ∷ []) refl (sym e)
         ∙ ap (λ (y : ℕ). if all (λ q. not (eqb q.number y)) now.block.rules then advance now else refuse 4 now) (ap decimal (text_seen s c b m) ∙ sym v)
         ∙ ap (λ (y : Block). if all (λ q. not (eqb q.number x)) y.rules then advance now else refuse 4 now) (block_seen s c b m)
 
-    pub number-used : true ≡ not (all (λ q. not (eqb q.number x)) b.rules) → rule_number now ≡ refuse 4 now
-    number-used h = number-formed ∙ by (all (λ q. not (eqb q.number x)) b.rules) h
+    pub number_used : true ≡ not (all (λ q. not (eqb q.number x)) b.rules) → rule_number now ≡ refuse 4 now
+    number_used h = number_formed ∙ by (all (λ q. not (eqb q.number x)) b.rules) h
       where
         by : (t : Bool) → true ≡ not t → (if t then advance now else refuse 4 now) ≡ refuse 4 now
         by false h = refl
         by true h = clash (sym h)
 
-    pub number-free : false ≡ not (all (λ q. not (eqb q.number x)) b.rules) → rule_number now ≡ advance now
-    number-free h = number-formed ∙ by (all (λ q. not (eqb q.number x)) b.rules) h
+    pub number_free : false ≡ not (all (λ q. not (eqb q.number x)) b.rules) → rule_number now ≡ advance now
+    number_free h = number_formed ∙ by (all (λ q. not (eqb q.number x)) b.rules) h
       where
         by : (t : Bool) → false ≡ not t → (if t then advance now else refuse 4 now) ≡ advance now
         by true h = refl
@@ -211,23 +211,23 @@ module _ (s names symbols : List ℕ) (b : Block) (D : Describes s names symbols
   D' = describes (rs ++ (q ∷ [])) D
 
   module _ (w : ℕ) (e : w ≡ fault (a_name here [])) (h : w ≡ 0 → ⊥) where
-    pub term-fault : (o : ℕ) → concluded_term o here ≡ refuse w here
+    pub term_fault : (o : ℕ) → concluded_term o here ≡ refuse w here
     unfolding concluded_term
-    term-fault o =
+    term_fault o =
         judged_bad here
         (advance (change (change_rule (with_conclusion (record
         { output = o; term = output_first o here.block + singleton_of o (text here) here.block }))) here))
         w (a_name here []) ((is_singleton o (text here) here.block, 5) ∷ []) (sym e) h
 
-    pub output-fault : conclusion here ≡ refuse w here
+    pub output_fault : conclusion here ≡ refuse w here
     unfolding conclusion
-    output-fault =
+    output_fault =
         judged_bad here (concluded_term (output_of (text here) here.block) (expect IS (advance here)))
         w (a_name here []) ((is_output (text here) here.block, 5) ∷ (ltb (length (conclusions here.block)) conclusion_limit, 6) ∷ []) (sym e) h
 
   module _ (e : 0 ≡ fault (a_name here [])) (o : ℕ) (f : o ≡ among s names (text_of s c) (output_count symbols) input_limit) where
-    the-output : output_of (text here) here.block ≡ o
-    the-output = simp (text_seen, block_seen) (D'.output (text_of s c) ∙ sym f)
+    the_output : output_of (text here) here.block ≡ o
+    the_output = simp (text_seen, block_seen) (D'.output (text_of s c) ∙ sym f)
 
     output_named : conclusion here ≡ judged ((ltb o (output_count symbols), 5) ∷ (ltb (length (conclusions here.block)) conclusion_limit, 6) ∷ []) here
         (concluded_term o (expect IS (advance here)))
@@ -235,23 +235,23 @@ module _ (s names symbols : List ℕ) (b : Block) (D : Describes s names symbols
     output_named =
         judged_good here (concluded_term (output_of (text here) here.block) (expect IS (advance here)))
         (a_name here []) ((is_output (text here) here.block, 5) ∷ (ltb (length (conclusions here.block)) conclusion_limit, 6) ∷ []) refl (sym e)
-        ∙ simp (the-output, ap (λ (y : Block). length y.outputs) (block_seen s c (midst b rs q) m) ∙ D'.outputs)
+        ∙ simp (the_output, ap (λ (y : Block). length y.outputs) (block_seen s c (midst b rs q) m) ∙ D'.outputs)
 
-    pub output-unknown : output_count symbols ≤ o → conclusion here ≡ refuse 5 here
+    pub output_unknown : output_count symbols ≤ o → conclusion here ≡ refuse 5 here
     unfolding judged
-    output-unknown h = output_named ∙ simp (le-ltb _ _ h)
+    output_unknown h = output_named ∙ simp (le-ltb _ _ h)
 
     module _ (n : ℕ) (k : length (gather (λ x. x.conclusions) (midst b rs q).rules) ≡ n) (g : o < output_count symbols) where
-      how-many : length (conclusions here.block) ≡ n
-      how-many = ap (λ (y : Block). length (conclusions y)) (block_seen s c (midst b rs q) m) ∙ k
+      how_many : length (conclusions here.block) ≡ n
+      how_many = ap (λ (y : Block). length (conclusions y)) (block_seen s c (midst b rs q) m) ∙ k
 
-      pub output-full : conclusion_limit ≤ n → conclusion here ≡ refuse 6 here
+      pub output_full : conclusion_limit ≤ n → conclusion here ≡ refuse 6 here
       unfolding judged
-      output-full h = output_named ∙ simp (lt-ltb _ _ g, how-many, le-ltb _ _ h)
+      output_full h = output_named ∙ simp (lt-ltb _ _ g, how_many, le-ltb _ _ h)
 
-      pub output-known : n < conclusion_limit → conclusion here ≡ concluded_term o (expect IS (advance here))
+      pub output_known : n < conclusion_limit → conclusion here ≡ concluded_term o (expect IS (advance here))
       unfolding judged
-      output-known h = output_named ∙ simp (lt-ltb _ _ g, how-many, lt-ltb _ _ h)
+      output_known h = output_named ∙ simp (lt-ltb _ _ g, how_many, lt-ltb _ _ h)
 
   module _ (e : 0 ≡ fault (a_name here [])) (o : ℕ) (g : o < output_count symbols) (j : ℕ)
       (f : j ≡ among s names (text_of s c) (term_count symbols (input_limit + o)) (variable_limit + (input_limit + o) * term_limit)) where
@@ -274,12 +274,12 @@ module _ (s names symbols : List ℕ) (b : Block) (D : Describes s names symbols
           ap (output_first o) (block_seen s c (midst b rs q) m) ∙ D'.output_first o g,
         )
 
-    pub term-unknown : term_count symbols (input_limit + o) ≤ j → concluded_term o here ≡ refuse 5 here
-    term-unknown h = term_named ∙ simp (le-ltb _ _ h)
+    pub term_unknown : term_count symbols (input_limit + o) ≤ j → concluded_term o here ≡ refuse 5 here
+    term_unknown h = term_named ∙ simp (le-ltb _ _ h)
 
-    pub term-known : j < term_count symbols (input_limit + o) → c.why ≡ 0 → concluded_term o here ≡ advance (seen s c (midst b rs (gives (its ∷ []) q)) m)
+    pub term_known : j < term_count symbols (input_limit + o) → c.why ≡ 0 → concluded_term o here ≡ advance (seen s c (midst b rs (gives (its ∷ []) q)) m)
     unfolding change_rule
-    term-known h z =
+    term_known h z =
         term_named ∙ simp (lt-ltb _ _ h)
         (ap advance (changed s c (midst b rs q) m (change_rule (with_conclusion its)) z
         ∙ ap (λ (l : List Rule). seen s c (holding l b) m) (update_last_snoc (with_conclusion its) rs q)))
@@ -369,28 +369,28 @@ module _ (s : List ℕ) (b : Block) (rs : List Rule) (q : Rule) (m : ℕ) (c : C
   weight_none k h = unweighed c h ∙ sym (simp (kind_seen, ne_eqb _ _ k))
 
   module _ (d : Cursor) (k : c.kind ≡ WITH) (a : Step advance s c d) where
-    weight-follows : weighted (seen s c whole m) ≡ weight (seen s d whole m)
+    weight_follows : weighted (seen s c whole m) ≡ weight (seen s d whole m)
     unfolding weighted
-    weight-follows = simp (kind_seen, eq-eqb _ _ k) (ap weight (sym (a.reads whole m)))
+    weight_follows = simp (kind_seen, eq-eqb _ _ k) (ap weight (sym (a.reads whole m)))
 
-    pub weight-fault : (w : ℕ) (e : Cursor) → w ≡ fault (a_unit (seen s d whole m)) → (w ≡ 0 → ⊥) → Step (refuse w) s d e → q.weight ≡ M
+    pub weight_fault : (w : ℕ) (e : Cursor) → w ≡ fault (a_unit (seen s d whole m)) → (w ≡ 0 → ⊥) → Step (refuse w) s d e → q.weight ≡ M
         → seen s e (midst b rs (with_weight M q)) m ≡ weighted (seen s c whole m)
     unfolding weight
-    weight-fault w e f z x h =
+    weight_fault w e f z x h =
         unweighed e h ∙ x.reads whole m
-        ∙ sym (weight-follows ∙ judged_bad (seen s d whole m)
+        ∙ sym (weight_follows ∙ judged_bad (seen s d whole m)
         (advance (change (change_rule (with_weight (unit_of (text (seen s d whole m))))) (seen s d whole m))) w (a_unit (seen s d whole m)) [] (sym f) z)
 
-    pub weight-given : (w : ℕ) (e : Cursor) → 0 ≡ fault (a_unit (seen s d whole m)) → Step advance s d e → d.why ≡ 0 → w ≡ unit_of (text_of s d)
+    pub weight_given : (w : ℕ) (e : Cursor) → 0 ≡ fault (a_unit (seen s d whole m)) → Step advance s d e → d.why ≡ 0 → w ≡ unit_of (text_of s d)
         → seen s e (midst b rs (with_weight w q)) m ≡ weighted (seen s c whole m)
     unfolding weight judged numbered change_rule
-    weight-given w e f x z v =
+    weight_given w e f x z v =
         let u : unit_of (text (seen s d whole m)) ≡ w = ap unit_of (text_seen s d whole m) ∙ sym v in
         x.reads (midst b rs (with_weight w q)) m
         ∙ ap advance (sym (changed s d whole m (change_rule (with_weight w)) z
         ∙ ap (λ (l : List Rule). seen s d (holding l b) m) (update_last_snoc (with_weight w) rs q)))
         ∙ ap (λ (y : ℕ). advance (change (change_rule (with_weight y)) (seen s d whole m))) (sym u)
-        ∙ sym (weight-follows ∙ judged_good (seen s d whole m)
+        ∙ sym (weight_follows ∙ judged_good (seen s d whole m)
         (advance (change (change_rule (with_weight (unit_of (text (seen s d whole m))))) (seen s d whole m))) (a_unit (seen s d whole m)) [] refl (sym f))
 
 -- A RULE, whole
@@ -401,15 +401,15 @@ unfolding rule_given listed conclusion weighted
 given_lost s d b m n g f h e =
     ap (λ (y : Parse). expect SEMICOLON (weighted (listed conclusion (expect THEN (change (add_rule n g.tree) y))))) (sym e)
     ∙ ap (λ (y : Parse). expect SEMICOLON (weighted (listed conclusion (expect THEN y)))) (unchanged s d b m (add_rule n g.tree) h)
-    ∙ ap (λ (y : Parse). expect SEMICOLON (weighted (listed conclusion y))) (lost-expect s d f h b m THEN (λ z. omega arith))
+    ∙ ap (λ (y : Parse). expect SEMICOLON (weighted (listed conclusion y))) (lost_expect s d f h b m THEN (λ z. omega arith))
     ∙ ap (λ (y : Parse). expect SEMICOLON (weighted (repeated COMMA (λ q. conclusion (expect COMMA q)) y)))
-    (lost-judged s d f h b m NAME _ _ (λ z. omega arith))
-    ∙ ap (λ (y : Parse). expect SEMICOLON (weighted y)) (lost-repeated s d f h b m COMMA (λ q. conclusion (expect COMMA q)) (λ z. omega arith))
-    ∙ ap (expect SEMICOLON) lost-weighted
-    ∙ lost-expect s d f h b m SEMICOLON (λ z. omega arith)
+    (lost_judged s d f h b m NAME _ _ (λ z. omega arith))
+    ∙ ap (λ (y : Parse). expect SEMICOLON (weighted y)) (lost_repeated s d f h b m COMMA (λ q. conclusion (expect COMMA q)) (λ z. omega arith))
+    ∙ ap (expect SEMICOLON) lost_weighted
+    ∙ lost_expect s d f h b m SEMICOLON (λ z. omega arith)
   where
-    lost-weighted : weighted (seen s d b m) ≡ seen s d b m
-    lost-weighted = simp (lost-is s d f h b m WITH (λ z. omega arith))
+    lost_weighted : weighted (seen s d b m) ≡ seen s d b m
+    lost_weighted = simp (lost_is s d f h b m WITH (λ z. omega arith))
 
 pub from_number : (s : List ℕ) (c f : Cursor) (b : Block) (m : ℕ) → seen s f b m ≡ expect IF (expect COLON (rule_number (seen s c b m)))
     → rule_from (seen s c b m) ≡ rule_given (decimal (text_of s c)) (condition_with (parenthesis depth_limit) (seen s f b m))
@@ -479,16 +479,16 @@ module _ (s : List ℕ) (b : Block) (c : Cursor) (m : ℕ) where
   rule_none k = simp (kind_seen, ne_eqb _ _ k)
 
   module _ (k : c.kind ≡ RULE) (n : ℕ) (l : length b.rules ≡ n) where
-    how-many-rules : length (seen s c b m).block.rules ≡ n
-    how-many-rules = ap (λ (y : Block). length y.rules) (block_seen s c b m) ∙ l
+    how_many_rules : length (seen s c b m).block.rules ≡ n
+    how_many_rules = ap (λ (y : Block). length y.rules) (block_seen s c b m) ∙ l
 
-    pub rule-full : rule_limit ≤ n → rule (seen s c b m) ≡ refuse 6 (seen s c b m)
+    pub rule_full : rule_limit ≤ n → rule (seen s c b m) ≡ refuse 6 (seen s c b m)
     unfolding rule judged
-    rule-full h = simp (kind_seen, eq-eqb _ _ k, how-many-rules, le-ltb _ _ h)
+    rule_full h = simp (kind_seen, eq-eqb _ _ k, how_many_rules, le-ltb _ _ h)
 
     pub rule_room : n < rule_limit → rule (seen s c b m) ≡ rule_from (advance (seen s c b m))
     unfolding rule judged
-    rule_room h = simp (kind_seen, eq-eqb _ _ k, how-many-rules, lt-ltb _ _ h)
+    rule_room h = simp (kind_seen, eq-eqb _ _ k, how_many_rules, lt-ltb _ _ h)
 
 pub goes_none : {part : Part} {s : List ℕ} {b : Block} {p r : Progress} {rows ws ks : List ℕ} (w : ℕ) → Step (refuse w) s p.cursor r.cursor
     → r.totals ≡ p.totals → (r.cursor.why ≡ 0 → ⊥)

@@ -25,16 +25,16 @@ module _ (w : ℕ → ℕ) (o q : ℕ) where
       three k = omega arith
 
   module _ (a : Bool) (e₀ : a ≡ eqb (w o) (w q)) where
-    pub first-differs : a ≡ false → false ≡ same (tab w 4 o) (tab w 4 q)
-    first-differs h = sym (spread ∙ simp (sym e₀ ∙ h))
+    pub first_differs : a ≡ false → false ≡ same (tab w 4 o) (tab w 4 q)
+    first_differs h = sym (spread ∙ simp (sym e₀ ∙ h))
 
     module _ (b : Bool) (e₁ : b ≡ eqb (w (o + 1)) (w (q + 1))) where
-      pub second-differs : a ≡ true → b ≡ false → false ≡ same (tab w 4 o) (tab w 4 q)
-      second-differs h k = sym (spread ∙ simp (sym e₀ ∙ h, sym e₁ ∙ k))
+      pub second_differs : a ≡ true → b ≡ false → false ≡ same (tab w 4 o) (tab w 4 q)
+      second_differs h k = sym (spread ∙ simp (sym e₀ ∙ h, sym e₁ ∙ k))
 
       module _ (c : Bool) (e₂ : c ≡ eqb (w (o + 2)) (w (q + 2))) where
-        pub third-differs : a ≡ true → b ≡ true → c ≡ false → false ≡ same (tab w 4 o) (tab w 4 q)
-        third-differs h k l = sym (spread ∙ simp (sym e₀ ∙ h, sym e₁ ∙ k, sym e₂ ∙ l))
+        pub third_differs : a ≡ true → b ≡ true → c ≡ false → false ≡ same (tab w 4 o) (tab w 4 q)
+        third_differs h k l = sym (spread ∙ simp (sym e₀ ∙ h, sym e₁ ∙ k, sym e₂ ∙ l))
 
-        pub fourth-decides : (d : Bool) → d ≡ eqb (w (o + 3)) (w (q + 3)) → a ≡ true → b ≡ true → c ≡ true → d ≡ same (tab w 4 o) (tab w 4 q)
-        fourth-decides d e₃ h k l = e₃ ∙ sym (spread ∙ simp (sym e₀ ∙ h, sym e₁ ∙ k, sym e₂ ∙ l) (and-true (eqb (w (o + 3)) (w (q + 3)))))
+        pub fourth_decides : (d : Bool) → d ≡ eqb (w (o + 3)) (w (q + 3)) → a ≡ true → b ≡ true → c ≡ true → d ≡ same (tab w 4 o) (tab w 4 q)
+        fourth_decides d e₃ h k l = e₃ ∙ sym (spread ∙ simp (sym e₀ ∙ h, sym e₁ ∙ k, sym e₂ ∙ l) (and-true (eqb (w (o + 3)) (w (q + 3)))))

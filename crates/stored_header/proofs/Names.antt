@@ -87,27 +87,27 @@ module _ (x : ℕ) where
       (λ z. below_1 x z.1.1.0 z.1.0 z.0 e) (λ g. (omega arith, (omega arith, (omega arith, tt))))
 
   module _ (a : x % 256 ≡ 0 → ⊥) where
-    pub pad-1 : x / 256 % 256 ≡ 0 → pad_run 0 (word_bytes x) ≡ if ltb x 256 then 1 else 2
-    pad-1 e =
+    pub pad_1 : x / 256 % 256 ≡ 0 → pad_run 0 (word_bytes x) ≡ if ltb x 256 then 1 else 2
+    pad_1 e =
         pad_letter _ _ a
         ∙ pad_zero _ _ e
         ∙ padding 1 (λ z. omega arith) (x / 65536 % 256 ∷ x / 16777216 ∷ []) x 256
         (λ z. below_2 x z.1.0 z.0 e) (λ g. (omega arith, (omega arith, tt)))
 
     module _ (b : x / 256 % 256 ≡ 0 → ⊥) where
-      pub pad-2 : x / 65536 % 256 ≡ 0 → pad_run 0 (word_bytes x) ≡ if ltb x 65536 then 1 else 2
-      pad-2 e =
+      pub pad_2 : x / 65536 % 256 ≡ 0 → pad_run 0 (word_bytes x) ≡ if ltb x 65536 then 1 else 2
+      pad_2 e =
           pad_letter _ _ a
           ∙ pad_letter _ _ b
           ∙ pad_zero _ _ e
           ∙ padding 1 (λ z. omega arith) (x / 16777216 ∷ []) x 65536 (λ z. below_3 x z.0 e) (λ g. (omega arith, tt))
 
       module _ (d : x / 65536 % 256 ≡ 0 → ⊥) where
-        pub pad-3 : x / 16777216 ≡ 0 → pad_run 0 (word_bytes x) ≡ 1
-        pad-3 e = pad_letter _ _ a ∙ pad_letter _ _ b ∙ pad_letter _ _ d ∙ pad_zero _ _ e ∙ unfold pad_run in refl
+        pub pad_3 : x / 16777216 ≡ 0 → pad_run 0 (word_bytes x) ≡ 1
+        pad_3 e = pad_letter _ _ a ∙ pad_letter _ _ b ∙ pad_letter _ _ d ∙ pad_zero _ _ e ∙ unfold pad_run in refl
 
-        pub pad-4 : (x / 16777216 ≡ 0 → ⊥) → pad_run 0 (word_bytes x) ≡ 0
-        pad-4 f = pad_letter _ _ a ∙ pad_letter _ _ b ∙ pad_letter _ _ d ∙ pad_letter _ _ f ∙ unfold pad_run in refl
+        pub pad_4 : (x / 16777216 ≡ 0 → ⊥) → pad_run 0 (word_bytes x) ≡ 0
+        pad_4 f = pad_letter _ _ a ∙ pad_letter _ _ b ∙ pad_letter _ _ d ∙ pad_letter _ _ f ∙ unfold pad_run in refl
 
 -- ALL BYTES
 zeros : (l : List ℕ) → leb (pad_run 1 l) 1 ≡ true → (k : ℕ) → 0 ≡ get_or l k 0

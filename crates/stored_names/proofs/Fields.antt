@@ -112,8 +112,8 @@ module _ (s : List ℕ) where
               let z : letters s ≡ n = omega (arith, name_within s, ltb-false (run is_name_byte s) (letters s) q, named.0) in
               absurd (f (ap (λ (k : ℕ). get_or s k 0) (sym z) ∙ zero_after s))
 
-      pub name-ends : eqb (get_or s n 0) 0 ≡ is_name (front s)
-      name-ends = go (eqb (get_or s n 0) 0) refl
+      pub name_ends : eqb (get_or s n 0) 0 ≡ is_name (front s)
+      name_ends = go (eqb (get_or s n 0) 0) refl
         where
           go : (b : Bool) → eqb (get_or s n 0) 0 ≡ b → eqb (get_or s n 0) 0 ≡ is_name (front s)
           go true q = q ∙ sym (whole (omega (arith, name_within s, zero_ends s n (eqb-true _ _ q), named.0)) ∙ named.1)

@@ -27,19 +27,19 @@ module _ (w : ℕ → ℕ) where
     no_range e h = simp (eq-eqb (w (o + 6)) 0 (sym e ∙ h))
 
     module _ (a b : ℤ) (ef : f ≡ w (o + 6)) (ea : a ≡ crisp_of (w (o + 7))) (eb : b ≡ crisp_of (w (o + 8))) where
-      pub range-spelt : (f ≡ 0 → ⊥) → in_crisp a && (in_crisp b && lt_z a b) ≡ range_ok (range_at w o)
+      pub range_spelt : (f ≡ 0 → ⊥) → in_crisp a && (in_crisp b && lt_z a b) ≡ range_ok (range_at w o)
       unfolding range_at
-      range-spelt h = simp (ne_eqb (w (o + 6)) 0 (λ q. h (ef ∙ q)), ea, eb)
+      range_spelt h = simp (ne_eqb (w (o + 6)) 0 (λ q. h (ef ∙ q)), ea, eb)
 
-      pub figure-spelt : (x : ℤ) → in_range (range_given (not (eqb f 0)) a b) x ≡ in_range (range_at w o) x
+      pub figure_spelt : (x : ℤ) → in_range (range_given (not (eqb f 0)) a b) x ≡ in_range (range_at w o) x
       unfolding range_at
-      figure-spelt x = rw (ef, ea, eb) (ap (λ (g : Option Range). in_range g x) (given (eqb (w (o + 6)) 0) (crisp_of (w (o + 7))) (crisp_of (w (o + 8)))))
+      figure_spelt x = rw (ef, ea, eb) (ap (λ (g : Option Range). in_range g x) (given (eqb (w (o + 6)) 0) (crisp_of (w (o + 7))) (crisp_of (w (o + 8)))))
 
     pub no_default : (g : Option Range) → f ≡ w (o + 9) → f ≡ 0 → default_ok g (default_at w o) ≡ true
     unfolding default_at
     no_default g e h = simp (eq-eqb (w (o + 9)) 0 (sym e ∙ h))
 
-    pub default-spelt : (g : Option Range) (x : ℤ) → f ≡ w (o + 9) → (f ≡ 0 → ⊥) → x ≡ crisp_of (w (o + 10))
+    pub default_spelt : (g : Option Range) (x : ℤ) → f ≡ w (o + 9) → (f ≡ 0 → ⊥) → x ≡ crisp_of (w (o + 10))
         → figure_ok g x ≡ default_ok g (default_at w o)
     unfolding default_at
-    default-spelt g x e h ex = simp (ne_eqb (w (o + 9)) 0 (λ q. h (e ∙ q)), ex)
+    default_spelt g x e h ex = simp (ne_eqb (w (o + 9)) 0 (λ q. h (e ∙ q)), ex)

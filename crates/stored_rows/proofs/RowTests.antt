@@ -107,11 +107,11 @@ module _ (w : ℕ → ℕ) where
       ∙ last_out (name_exact w o) (eqb (w (o + 4)) p) (eqb (w (o + 5)) 1)
 
   module _ (fits : (k : ℕ) → w k ≤ 4294967295) where
-    range-row : (o : ℕ)
+    range_row : (o : ℕ)
         → same (tab w 3 (o + 6)) (range_words (if eqb (w (o + 6)) 0 then none else some (record { least = crisp_of (w (o + 7)); most = crisp_of (w (o + 8)) })))
         ≡ range_test w o
     unfolding range_test tab
-    range-row o =
+    range_row o =
         let e1 : suc (o + 6) ≡ o + 7 = omega arith in
         let e2 : suc (suc (o + 6)) ≡ o + 8 = omega arith in
         let g : Option Range = if eqb (w (o + 6)) 0 then none else some (record { least = crisp_of (w (o + 7)); most = crisp_of (w (o + 8)) }) in
@@ -136,7 +136,7 @@ module _ (w : ℕ → ℕ) where
         let e9 : o + 6 + 3 ≡ o + 9 = omega arith in
         let long = length_tab (singleton_at w) (w (o + 5)) (w (o + 4)) in
         let count : eqb (w (suc (o + 4))) (length (output_at w i).terms) ≡ true = eq-eqb _ _ (ap w e5 ∙ sym long) in
-        let range : same (tab w 3 (o + 6)) R ≡ range_test w o = range-row o in
+        let range : same (tab w 3 (o + 6)) R ≡ range_test w o = range_row o in
         let default : same (tab w 2 (o + 6 + 3)) D ≡ default_test w o && true =
         ap (λ (k : ℕ). same (tab w 2 k) D) e9 ∙ default_row o ∙ sym (and-true (default_test w o)) in
         let tail : same (tab w 5 (suc (suc (o + 4)))) (R ++ D) ≡ range_test w o && (default_test w o && true) =
@@ -146,9 +146,9 @@ module _ (w : ℕ → ℕ) where
         ∙ (λ j. range j && default j) in
         row_name 7 o (p ∷ length (output_at w i).terms ∷ (R ++ D)) ∙ (λ j. name_exact w o && (eqb (w (o + 4)) p && (count j && tail j)))
 
-    pub point-row : (i : ℕ) → same (tab w 2 (w POINT_TABLE + i * 2)) (point_words (output_point_at w i)) ≡ eqb (w (w POINT_TABLE + i * 2 + 1)) M
+    pub point_row_lem : (i : ℕ) → same (tab w 2 (w POINT_TABLE + i * 2)) (point_words (output_point_at w i)) ≡ eqb (w (w POINT_TABLE + i * 2 + 1)) M
     unfolding point_at tab
-    point-row i =
+    point_row_lem i =
         let o = w POINT_TABLE + i * 2 in
         let e1 : suc o ≡ o + 1 = omega arith in
         let at : eqb (w o) (crisp_word (crisp_of (w o))) ≡ true = crisp_same (w o) (fits o) in

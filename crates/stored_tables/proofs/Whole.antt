@@ -21,14 +21,14 @@ module _ (t x k a b : ℕ) (et : t ≡ x) (ek : k ≡ a) where
   too_few h = ne_eqb x (a + b) (λ q. omega arith)
 
   module _ (s : ℕ) (es : s ≡ k + b) where
-    pub not-all : (s ≡ t → ⊥) → eqb x (a + b) ≡ false
-    not-all h = ne_eqb x (a + b) (λ q. h (omega arith))
+    pub not_all : (s ≡ t → ⊥) → eqb x (a + b) ≡ false
+    not_all h = ne_eqb x (a + b) (λ q. h (omega arith))
 
     pub all_there : s ≡ t → eqb x (a + b) ≡ true
     all_there h = eq-eqb x (a + b) (omega arith)
 
-    pub rest-are : s ≡ t → t - k ≡ b
-    rest-are h = omega arith
+    pub rest_are : s ≡ t → t - k ≡ b
+    rest_are h = omega arith
 
 pub tables_left : (w : ℕ → ℕ) (k n : ℕ) → k ≡ input_terms_in w → n ≡ output_terms_in w
     → header_ok w ≡ true → input_rows w ≡ true → output_rows w ≡ true → eqb (w TERMS) (input_terms_in w + output_terms_in w) ≡ true

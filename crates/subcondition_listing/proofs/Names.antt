@@ -77,9 +77,9 @@ module _ (w : ℕ → ℕ) (t : ℕ) where
               ∙ get_or-append-add (names_in (input_at w i)) rest (t - (p + input_count w i)) nameless,
         )
 
-    pub among-found : t < first + count → Among i → input_term_name (decode w) t ≡ names_by i
+    pub among_found : t < first + count → Among i → input_term_name (decode w) t ≡ names_by i
     unfolding Among gather tab Runs
-    among-found l (p, q, r, e) =
+    among_found l (p, q, r, e) =
         let s : w INPUTS - i ≡ suc (w INPUTS - (i + 1)) = omega arith in
         let r' = rw s at r in
         let e' = rw s at e in

@@ -152,8 +152,8 @@ module _ (t : Tables) (w : List ℕ) (e : w ≡ symbols_in t) where
         by false y true = g.output_terms (v - input_limit)
         by false y false = omega arith
 
-    pub is-symbols : Symbols s t.names w
-    is-symbols = record {
+    pub is_symbols : Symbols s t.names w
+    is_symbols = record {
       placed = g.placed;
       inputs = let q = g.input_count in omega (arith, inputs_are);
       outputs = let q = g.output_count in omega (arith, outputs_are);
@@ -170,16 +170,16 @@ module _ (t : Tables) (w : List ℕ) (e : w ≡ symbols_in t) where
           ∙ sum.sums_ext (λ k. length (input_view s t k).terms) (terms_at t) i
           (λ v m. length_tab (term_view s t v) (input_row t v).terms 0 ∙ sym (input_terms_lem v (omega arith) (omega arith)))
 
-      input-firsts : (i : ℕ) → i < t.input_count → input_first i b ≡ sums (terms_at t) i
+      input_firsts : (i : ℕ) → i < t.input_count → input_first i b ≡ sums (terms_at t) i
       unfolding input_first
-      input-firsts i h =
+      input_firsts i h =
           ap (λ (vs : List block.Input). total (λ v. length v.terms) (take i vs)) bi
           ∙ ap (total (λ v. length v.terms)) (take_tab (input_view s t) t.input_count i 0 (omega arith))
           ∙ counted i (omega arith)
 
       -- past the last input nothing is added
-      to-inputs : sums (terms_at t) input_limit ≡ sums (terms_at t) t.input_count
-      to-inputs =
+      to_inputs : sums (terms_at t) input_limit ≡ sums (terms_at t) t.input_count
+      to_inputs =
           let q = g.input_count in
           let m : ℕ = t.input_count in
           let z : m + (input_limit - m) ≡ input_limit = omega arith in
@@ -188,11 +188,11 @@ module _ (t : Tables) (w : List ℕ) (e : w ≡ symbols_in t) where
           (λ v h. input_none (m + v) (omega arith) (omega arith)) ∙ sum.sums_none (input_limit - m))
           ∙ omega arith
 
-      output-firsts : (o : ℕ) → o < t.output_count → output_first o b ≡ sums (terms_at t) (input_limit + o)
+      output_firsts : (o : ℕ) → o < t.output_count → output_first o b ≡ sums (terms_at t) (input_limit + o)
       unfolding output_first output_view
-      output-firsts o h =
+      output_firsts o h =
           (λ j. (ap (λ (vs : List block.Input). length (gather (λ v. v.terms) vs)) bi
-          ∙ length_gather (λ (v : block.Input). v.terms) _ (λ v. refl) (inputs_view s t) ∙ counted t.input_count (omega arith) ∙ sym to-inputs) j
+          ∙ length_gather (λ (v : block.Input). v.terms) _ (λ v. refl) (inputs_view s t) ∙ counted t.input_count (omega arith) ∙ sym to_inputs) j
           + (ap (λ (vs : List block.Output). total (λ v. length v.terms) (take o vs)) bo
           ∙ ap (total (λ v. length v.terms)) (take_tab (output_view s t) t.output_count o 0 (omega arith))
           ∙ sum.total_tab (λ (v : block.Output). length v.terms) (output_view s t) o
@@ -219,9 +219,9 @@ module _ (t : Tables) (w : List ℕ) (e : w ≡ symbols_in t) where
             singleton = λ x o h. let k : o < t.output_count = omega (arith, outputs_are) in
                 lookups.singleton_of_lem s t b bo g x o k ∙ ap (λ (n : ℕ). among s t.names x n (variable_limit + (input_limit + o) * term_limit))
                 (sym (count_is (input_limit + o) (omega arith) ∙ output_terms_lem o k));
-            input_first = λ i h. let k : i < t.input_count = omega (arith, inputs_are) in input-firsts i k ∙ sym (first_is i (omega arith));
+            input_first = λ i h. let k : i < t.input_count = omega (arith, inputs_are) in input_firsts i k ∙ sym (first_is i (omega arith));
             output_first = λ o h. let k : o < t.output_count = omega (arith, outputs_are) in
-                output-firsts o k ∙ sym (first_is (input_limit + o) (omega arith));
+                output_firsts o k ∙ sym (first_is (input_limit + o) (omega arith));
           }
 
 pub rows_in : (t : Tables) (i : ℕ) → i < input_limit → terms_at t i ≡ (if ltb i t.input_count then (input_row t i).terms else 0)

@@ -53,15 +53,15 @@ module _ (f : ℕ → Point) (s k i : ℕ) where
       subst (λ (ps : List ℤ). Ends ps (i + 1) (last_with last y)) more (ends_more (taken f s i) i last y h)
 
   module _ (h : i < k) where
-    pub point-bad : point_ok (f (s + i)) ≡ false → points_after (taken f s i) (left f s k i) ≡ false
-    point-bad e = ap (points_after (taken f s i)) (next h) ∙ not_right (taken f s i) (f (s + i)) _ e
+    pub point_bad : point_ok (f (s + i)) ≡ false → points_after (taken f s i) (left f s k i) ≡ false
+    point_bad e = ap (points_after (taken f s i)) (next h) ∙ not_right (taken f s i) (f (s + i)) _ e
 
-    pub place-bad : may_follow (taken f s i) (f (s + i)).at ≡ false → points_after (taken f s i) (left f s k i) ≡ false
-    place-bad e = ap (points_after (taken f s i)) (next h) ∙ no_place (taken f s i) (f (s + i)) _ e
+    pub place_bad : may_follow (taken f s i) (f (s + i)).at ≡ false → points_after (taken f s i) (left f s k i) ≡ false
+    place_bad e = ap (points_after (taken f s i)) (next h) ∙ no_place (taken f s i) (f (s + i)) _ e
 
-    pub point-good : point_ok (f (s + i)) ≡ true → may_follow (taken f s i) (f (s + i)).at ≡ true
+    pub point_good : point_ok (f (s + i)) ≡ true → may_follow (taken f s i) (f (s + i)).at ≡ true
         → points_after (taken f s i) (left f s k i) ≡ points_after (taken f s (i + 1)) (left f s k (i + 1))
-    point-good e g =
+    point_good e g =
         ap (points_after (taken f s i)) (next h) ∙ goes_on_lem (taken f s i) (f (s + i)) _ e g
         ∙ ap (λ (b : List ℤ). points_after b (left f s k (i + 1))) (sym taken_more)
 

@@ -84,109 +84,109 @@ module _ (s : List ℕ) (t : Tables) where
   all_terms = gather (λ v. v.terms) (inputs_view s t) ++ map singleton_term (gather (λ v. v.terms) (outputs_view s t))
 
   module _ (own others : Slots) (order : Ordered t own others) where
-    abbrev own-term : ℕ → Term
-    own-term k = theTerm t (get_or own.at k 0)
+    abbrev own_term : ℕ → Term
+    own_term k = theTerm t (get_or own.at k 0)
 
-    abbrev other-term : ℕ → Singleton
-    other-term k = singleton_row t (get_or others.at k 0)
+    abbrev other_term : ℕ → Singleton
+    other_term k = singleton_row t (get_or others.at k 0)
 
-    term-at : ℕ → block.Term
-    term-at k = a_term s (own-term k)
+    term_at : ℕ → block.Term
+    term_at k = a_term s (own_term k)
 
-    single-at : ℕ → block.Term
-    single-at k = singleton_term (a_singleton s (other-term k))
+    single_at : ℕ → block.Term
+    single_at k = singleton_term (a_singleton s (other_term k))
 
-    input-terms-are : gather (λ v. v.terms) (inputs_view s t) ≡ tab term-at own.count 0
-    unfolding slots_of term-at term_in
-    input-terms-are =
+    input_terms_are : gather (λ v. v.terms) (inputs_view s t) ≡ tab term_at own.count 0
+    unfolding slots_of term_at term_in
+    input_terms_are =
         input_terms_lem t.input_count 0 ∙ ap (map term_in) (sym order.inputs)
         ∙ map_take term_in own.at own.count 0 (omega (arith, order.own_listed.size, order.own_few))
 
-    output-terms-are : map singleton_term (gather (λ v. v.terms) (outputs_view s t)) ≡ tab single-at others.count 0
-    unfolding slots_of single-at singleton_in
-    output-terms-are =
+    output_terms_are : map singleton_term (gather (λ v. v.terms) (outputs_view s t)) ≡ tab single_at others.count 0
+    unfolding slots_of single_at singleton_in
+    output_terms_are =
         ap (map singleton_term) (output_terms_lem t.output_count 0 ∙ ap (map singleton_in) (sym order.outputs)
         ∙ map_take singleton_in others.at others.count 0 (omega (arith, order.others_listed.size, order.others_few)))
         ∙ map_tab singleton_term (λ k. singleton_in (get_or others.at k 0)) others.count 0
 
     pub first_output : length (gather (λ v. v.terms) (inputs_view s t)) ≡ own.count
-    first_output = ap length input-terms-are ∙ length_tab term-at own.count 0
+    first_output = ap length input_terms_are ∙ length_tab term_at own.count 0
 
-    terms_are : all_terms ≡ tab term-at own.count 0 ++ tab single-at others.count 0
-    terms_are = λ j. input-terms-are j ++ output-terms-are j
+    terms_are : all_terms ≡ tab term_at own.count 0 ++ tab single_at others.count 0
+    terms_are = λ j. input_terms_are j ++ output_terms_are j
 
     pub terms_count : length all_terms ≡ own.count + others.count
     terms_count =
-        ap length terms_are ∙ length-append (tab term-at own.count 0) (tab single-at others.count 0)
-        ∙ (λ j. length_tab term-at own.count 0 j + length_tab single-at others.count 0 j)
+        ap length terms_are ∙ length-append (tab term_at own.count 0) (tab single_at others.count 0)
+        ∙ (λ j. length_tab term_at own.count 0 j + length_tab single_at others.count 0 j)
 
     -- how many points
-    size-at : (k : ℕ) → length (term-at k).points ≡ (own-term k).count
-    unfolding term-at
-    size-at k = length_tab (point_at (own-term k).points) (own-term k).count 0
+    size_at : (k : ℕ) → length (term_at k).points ≡ (own_term k).count
+    unfolding term_at
+    size_at k = length_tab (point_at (own_term k).points) (own_term k).count 0
 
-    points-before : (n i σ : ℕ) → after term_next term-at n i σ ≡ σ + sums (λ k. (own-term k).count) n i
+    points_before : (n i σ : ℕ) → after term_next term_at n i σ ≡ σ + sums (λ k. (own_term k).count) n i
     unfolding after sums
-    points-before zero i σ = omega arith
-    points-before (suc n) i σ = points-before n (suc i) (term_next σ (term-at i)) ∙ (let z = size-at i in omega arith)
+    points_before zero i σ = omega arith
+    points_before (suc n) i σ = points_before n (suc i) (term_next σ (term_at i)) ∙ (let z = size_at i in omega arith)
 
-    points-in : (n i : ℕ) → length (gather (λ v. v.points) (tab term-at n i)) ≡ sums (λ k. (own-term k).count) n i
+    points_in : (n i : ℕ) → length (gather (λ v. v.points) (tab term_at n i)) ≡ sums (λ k. (own_term k).count) n i
     unfolding gather tab sums
-    points-in zero i = refl
-    points-in (suc n) i = length-append (term-at i).points _ ∙ (λ j. size-at i j + points-in n (suc i) j)
+    points_in zero i = refl
+    points_in (suc n) i = length-append (term_at i).points _ ∙ (λ j. size_at i j + points_in n (suc i) j)
 
-    single-points : (n i : ℕ) → length (gather (λ v. v.points) (tab single-at n i)) ≡ n
-    unfolding gather tab single-at
-    single-points zero i = refl
-    single-points (suc n) i = ap suc (single-points n (suc i))
+    single_points : (n i : ℕ) → length (gather (λ v. v.points) (tab single_at n i)) ≡ n
+    unfolding gather tab single_at
+    single_points zero i = refl
+    single_points (suc n) i = ap suc (single_points n (suc i))
 
     pub points_count : length (gather (λ v. v.points) all_terms) ≡ held_in t.input_terms own.at own.count + others.count
     unfolding held_in
     points_count =
         ap (λ (l : List block.Term). length (gather (λ v. v.points) l)) terms_are
-        ∙ ap length (gather_append (λ v. v.points) (tab term-at own.count 0) (tab single-at others.count 0))
-        ∙ length-append (gather (λ v. v.points) (tab term-at own.count 0)) _
-        ∙ (λ j. points-in own.count 0 j + single-points others.count 0 j)
+        ∙ ap length (gather_append (λ v. v.points) (tab term_at own.count 0) (tab single_at others.count 0))
+        ∙ length-append (gather (λ v. v.points) (tab term_at own.count 0)) _
+        ∙ (λ j. points_in own.count 0 j + single_points others.count 0 j)
 
     -- their rows
-    term_row_lem : (n i : ℕ) → term_row n (term-at i) ≡ term_words s (own-term i) n
-    unfolding term_words term-at
-    term_row_lem n i = ap (λ (x : ℕ). name_words (slice (own-term i).start (own-term i).end s) ++ (n ∷ x ∷ [])) (size-at i)
+    term_row_lem : (n i : ℕ) → term_row n (term_at i) ≡ term_words s (own_term i) n
+    unfolding term_words term_at
+    term_row_lem n i = ap (λ (x : ℕ). name_words (slice (own_term i).start (own_term i).end s) ++ (n ∷ x ∷ [])) (size_at i)
 
-    single-row : (n i : ℕ) → term_row n (single-at i) ≡ singleton_words s (other-term i) n
-    unfolding singleton_words single-at
-    single-row n i = refl
+    single_row : (n i : ℕ) → term_row n (single_at i) ≡ singleton_words s (other_term i) n
+    unfolding singleton_words single_at
+    single_row n i = refl
 
-    single-next : (n i : ℕ) → term_next n (single-at i) ≡ n + 1
-    unfolding single-at
-    single-next n i = refl
+    single_next : (n i : ℕ) → term_next n (single_at i) ≡ n + 1
+    unfolding single_at
+    single_next n i = refl
 
     pub terms_laid : term_table 0 all_terms ≡ term_rows s t.input_terms own.at own.count
         ++ singleton_rows s t.output_terms others.at others.count (held_in t.input_terms own.at own.count)
     unfolding term_rows singleton_rows held_in
     terms_laid =
-        ap (term_table 0) terms_are ∙ term_table_lem 0 _ ∙ laid_append term_row term_next term-at own.count 0 0 (tab single-at others.count 0)
-        ∙ (λ j. rows_laid term_row term_next term-at _ _ term_row_lem (λ n i. ap (λ (x : ℕ). n + x) (size-at i)) own.count 0 0 j
-        ++ laid term_row term_next (points-before own.count 0 0 j) (tab single-at others.count 0))
-        ∙ (let z : 0 + sums (λ k. (own-term k).count) own.count 0 ≡ sums (λ k. (own-term k).count) own.count 0 = omega arith in
-        λ j. rows (λ n i. term_words s (own-term i) n) (λ n i. n + (own-term i).count) own.count 0 0
-        ++ laid term_row term_next (z j) (tab single-at others.count 0))
-        ∙ ap (λ (l : List ℕ). rows (λ n i. term_words s (own-term i) n) (λ n i. n + (own-term i).count) own.count 0 0 ++ l)
-        (rows_laid term_row term_next single-at _ _ single-row single-next others.count 0 _)
+        ap (term_table 0) terms_are ∙ term_table_lem 0 _ ∙ laid_append term_row term_next term_at own.count 0 0 (tab single_at others.count 0)
+        ∙ (λ j. rows_laid term_row term_next term_at _ _ term_row_lem (λ n i. ap (λ (x : ℕ). n + x) (size_at i)) own.count 0 0 j
+        ++ laid term_row term_next (points_before own.count 0 0 j) (tab single_at others.count 0))
+        ∙ (let z : 0 + sums (λ k. (own_term k).count) own.count 0 ≡ sums (λ k. (own_term k).count) own.count 0 = omega arith in
+        λ j. rows (λ n i. term_words s (own_term i) n) (λ n i. n + (own_term i).count) own.count 0 0
+        ++ laid term_row term_next (z j) (tab single_at others.count 0))
+        ∙ ap (λ (l : List ℕ). rows (λ n i. term_words s (own_term i) n) (λ n i. n + (own_term i).count) own.count 0 0 ++ l)
+        (rows_laid term_row term_next single_at _ _ single_row single_next others.count 0 _)
 
     -- and those of their points
-    points-of : (ps : List Point) (n i : ℕ) → gather point_words (tab (point_at ps) n i) ≡ rows (point_row ps) onward n i tt
+    points_of_lem : (ps : List Point) (n i : ℕ) → gather point_words (tab (point_at ps) n i) ≡ rows (point_row ps) onward n i tt
     unfolding gather tab rows point_at
-    points-of ps zero i = refl
-    points-of ps (suc n) i = ap (λ (x : List ℕ). point_row ps tt i ++ x) (points-of ps n (suc i))
+    points_of_lem ps zero i = refl
+    points_of_lem ps (suc n) i = ap (λ (x : List ℕ). point_row ps tt i ++ x) (points_of_lem ps n (suc i))
 
-    words_at : (i : ℕ) → gather point_words (term-at i).points ≡ points_of (own-term i)
-    unfolding term-at
-    words_at i = points-of (own-term i).points (own-term i).count 0
+    words_at : (i : ℕ) → gather point_words (term_at i).points ≡ points_of (own_term i)
+    unfolding term_at
+    words_at i = points_of_lem (own_term i).points (own_term i).count 0
 
-    single-words : (i : ℕ) → gather point_words (single-at i).points ≡ crisp_word (other-term i).at.0 ∷ M ∷ []
-    unfolding gather single-at
-    single-words i = refl
+    single_words : (i : ℕ) → gather point_words (single_at i).points ≡ crisp_word (other_term i).at.0 ∷ M ∷ []
+    unfolding gather single_at
+    single_words i = refl
 
     pointing : (f : ℕ → block.Term) (row : ℕ → List ℕ) (n : ℕ) → ((i : ℕ) → gather point_words (f i).points ≡ row i)
         → gather point_words (gather (λ v. v.points) (tab f n 0)) ≡ rows (λ σ i. row i) onward n 0 tt
@@ -199,6 +199,6 @@ module _ (s : List ℕ) (t : Tables) where
     unfolding point_rows singleton_points
     points_laid =
         ap (λ (l : List block.Term). gather point_words (gather (λ v. v.points) l)) terms_are
-        ∙ ap (gather point_words) (gather_append (λ v. v.points) (tab term-at own.count 0) (tab single-at others.count 0))
-        ∙ gather_append point_words (gather (λ v. v.points) (tab term-at own.count 0)) _
-        ∙ (λ j. pointing term-at _ own.count words_at j ++ pointing single-at _ others.count single-words j)
+        ∙ ap (gather point_words) (gather_append (λ v. v.points) (tab term_at own.count 0) (tab single_at others.count 0))
+        ∙ gather_append point_words (gather (λ v. v.points) (tab term_at own.count 0)) _
+        ∙ (λ j. pointing term_at _ own.count words_at j ++ pointing single_at _ others.count single_words j)

@@ -10,7 +10,7 @@ use Rattle.model.specs.Degrees.{prod_of}
 use Rattle.model.specs.Evaluation.{rule_degree}
 use Rattle.model.specs.Image.{word_at, decode, rule_place, rule_at, conclusion_at}
 use Rattle.laws.proofs.Places.{field}
-use Rattle.layout.proofs.Rules.{rules_few, rule-conclusions}
+use Rattle.layout.proofs.Rules.{rules_few, rule_conclusions}
 use Rattle.layout.proofs.Within.{conclusions_within}
 use Rattle.aggregation.proofs.Degrees.{low_turn, number_at}
 use Rattle.degrees.specs.Tables.{numbers}
@@ -153,7 +153,7 @@ loop-i-preserved c =
     let d = c.rule_degree-d in
     let k = read (goal.at.loop-i-preserved c).After-whole_word-count in
     let accu = c.stored_accumulation-accu.result in
-    let ks = rule-conclusions w c.requires.0.sound l.i (inside (goal.at.loop-i-preserved c).After-whole_word-count) (rule_place w l.i) _ _ refl k.0 k.1 in
+    let ks = rule_conclusions w c.requires.0.sound l.i (inside (goal.at.loop-i-preserved c).After-whole_word-count) (rule_place w l.i) _ _ refl k.0 k.1 in
     let own : degree_by w (numbers c.condition_degrees-conditions.result) l.i ≡ d.result.0 =
     ap (λ (x : ℕ). prod_of x (rule_at w l.i).weight) (sym (number_at c.condition_degrees-conditions.result l.i)) ∙ sym d.ensures.0 in
     let after : List Conclusion → ℕ → ℕ = λ ks p. after_conclusions accu d.result.0 (a.m + p) ks (get_or (numbers l.hs) p 0) in

@@ -6,7 +6,7 @@ use Rattle.model.specs.Degrees.{prod_of}
 use Rattle.model.specs.Image.{word_at, rule_at, RULES}
 use Rattle.laws.proofs.Places.{field}
 use Rattle.layout.proofs.Rules.{rules_few}
-use Rattle.accumulation.proofs.Rules.{weight-small}
+use Rattle.accumulation.proofs.Rules.{weight_small}
 use Rattle.accumulation.proofs.rule_degree.Goals as goal
 use Rattle.accumulation.proofs.rule_degree.Goals.{After-whole_word-weight}
 
@@ -21,7 +21,7 @@ weight c =
     let i = c.args.i in
     let inside : i < w RULES = omega (arith, c.requires.1, hd.rules) in
     let e = field w _ _ 5 _ c.whole_word-weight.ensures.0 (c.rule_row.ensures.by_index w hd) in
-    (e, omega (arith, e, weight-small w c.requires.0.sound i inside))
+    (e, omega (arith, e, weight_small w c.requires.0.sound i inside))
 
 pub rule_row-requires : goal.rule_row-requires
 rule_row-requires c =

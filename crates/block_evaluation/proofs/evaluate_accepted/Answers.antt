@@ -13,22 +13,22 @@ use Rattle.model.specs.declared.Answer.{Answer}
 use Rattle.layout.proofs.Whole.{inputs_count}
 use Rattle.aggregation.proofs.Degrees.{number_at}
 use Rattle.input_values.specs.Values.{values_read}
-use Rattle.block_evaluation.proofs.Laws.{tells_as, called_12, called-13, called-14, called-ok, answers_are}
+use Rattle.block_evaluation.proofs.Laws.{tells_as, called_12, called_13, called_14, called_ok, answers_are}
 use Rattle.block_evaluation.proofs.evaluate_accepted.Goals as goal
 use Rattle.block_evaluation.proofs.evaluate_accepted.Goals.{Else-n-inputs, Else-not-kept, Start}
 
 inputs_are : (s : Start) → length (decode (word_at s.args.img.now)).inputs ≡ s.args.a.header.inputs
 inputs_are s = inputs_count (word_at s.args.img.now) ∙ sym s.requires.checked.heads.inputs
 
-count-right : (c : Else-n-inputs) →
+count_right : (c : Else-n-inputs) →
     let a = c.args in
     a.n ≡ length (decode (word_at a.img.now)).inputs
-count-right c = c.if-n-inputs.false ∙ sym (inputs_count (word_at c.args.img.now) ∙ sym c.requires.checked.heads.inputs)
+count_right c = c.if-n-inputs.false ∙ sym (inputs_count (word_at c.args.img.now) ∙ sym c.requires.checked.heads.inputs)
 
-held-right : (c : Else-not-kept) →
+held_right : (c : Else-not-kept) →
     let a = c.args in
     held_ok (decode (word_at a.img.now)).outputs (figures_of a.before) ≡ true
-held-right c = let k = c.record_ok-kept in sym k.ensures ∙ c.if-not-kept.false
+held_right c = let k = c.record_ok-kept in sym k.ensures ∙ c.if-not-kept.false
 
 pub returns-then-n-inputs : goal.returns-then-n-inputs
 returns-then-n-inputs c =
@@ -41,7 +41,7 @@ returns-then-not-kept c =
     let k = c.record_ok-kept in
     let a = c.args in
     let no = sym k.ensures ∙ c.if-not-kept.true in
-    tells_as _ a.before _ _ (called-13 (decode (word_at a.img.now)) a.rs a.n a.before (count-right (goal.at.returns-then-not-kept c).Else-n-inputs) no) c.refused-then-not-kept.ensures
+    tells_as _ a.before _ _ (called_13 (decode (word_at a.img.now)) a.rs a.n a.before (count_right (goal.at.returns-then-not-kept c).Else-n-inputs) no) c.refused-then-not-kept.ensures
 
 pub returns-then-wrong-inputs : goal.returns-then-wrong-inputs
 returns-then-wrong-inputs c =
@@ -49,7 +49,7 @@ returns-then-wrong-inputs c =
     let b = decode (word_at a.img.now) in
     let ew = c.input_values-v.ensures.wrong_value in
     let few : length (values_read b.inputs a.rs) < length b.inputs = omega (arith, inputs_are (goal.at.returns-then-wrong-inputs c).Start, ew, c.if-wrong-inputs.true) in
-    let e = called-14 b a.rs a.n a.before (count-right (goal.at.returns-then-wrong-inputs c).Else-n-inputs) (held-right (goal.at.returns-then-wrong-inputs c).Else-not-kept) few ∙ ap (λ (k : ℕ). refused 14 (some k)) (sym ew) in
+    let e = called_14 b a.rs a.n a.before (count_right (goal.at.returns-then-wrong-inputs c).Else-n-inputs) (held_right (goal.at.returns-then-wrong-inputs c).Else-not-kept) few ∙ ap (λ (k : ℕ). refused 14 (some k)) (sym ew) in
     tells_as _ a.before _ _ e c.refused-then-wrong-inputs.ensures
 
 pub outputs-given-requires : goal.outputs-given-requires
@@ -71,5 +71,5 @@ returns c =
     let g = answers_are w sound a.rs a.before _ c.requires.input_terms_lem u.result.at c.term_degrees-ds.result c.heights-hs.result all
     u.ensures.at c.term_degrees-ds.ensures.result_value c.heights-hs.ensures.by_index in
     let r = c.outputs-given.ensures in
-    tells_as _ a.before _ _ (called-ok b a.rs a.n a.before (count-right (goal.at.returns c).Else-n-inputs) (held-right (goal.at.returns c).Else-not-kept) all)
+    tells_as _ a.before _ _ (called_ok b a.rs a.n a.before (count_right (goal.at.returns c).Else-n-inputs) (held_right (goal.at.returns c).Else-not-kept) all)
     (record { verdict = refl; answers = r.answers_value ∙ ap (padded no_answer) g; held = r.held_value ∙ ap (λ (x : List Answer). held_of (map (λ y. y.thousandths.0) x)) g })

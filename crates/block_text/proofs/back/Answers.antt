@@ -29,5 +29,5 @@ pub returns : goal.returns
 returns c =
     let x = c.expect-d.ensures.step in
     let r = c.refuse-2 in
-    laws.not-at-end _ _ _ _ x c.if-d.false c.advance-e.result c.if-not-complete.false c.advance-e.ensures.step r.result
+    laws.not_at_end _ _ _ _ x c.if-d.false c.advance-e.result c.if-not-complete.false c.advance-e.ensures.step r.result
     c.if-e-eq-END.false (r.ensures.by_index _ c.advance-e.ensures.step.fits)

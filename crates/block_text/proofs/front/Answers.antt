@@ -12,15 +12,15 @@ inputs-i-requires c =
 
 pub outputs-o-requires : goal.outputs-o-requires
 outputs-o-requires c =
-    laws.ready-outputs _ _ _ _ c.expect-b.ensures.step c.block_name-name.ensures _ _ c.inputs-i.ensures
+    laws.ready_outputs _ _ _ _ c.expect-b.ensures.step c.block_name-name.ensures _ _ c.inputs-i.ensures
 
 pub input_terms-p-requires : goal.input_terms-p-requires
 input_terms-p-requires c =
-    laws.ready-terms _ _ _ _ c.expect-b.ensures.step c.block_name-name.ensures _ _ c.inputs-i.ensures _ _ c.outputs-o.ensures
+    laws.ready_terms _ _ _ _ c.expect-b.ensures.step c.block_name-name.ensures _ _ c.inputs-i.ensures _ _ c.outputs-o.ensures
 
 pub output_terms-q-requires : goal.output_terms-q-requires
 output_terms-q-requires c =
-    laws.ready-singletons _ _ _ _ c.expect-b.ensures.step c.block_name-name.ensures _ _ c.inputs-i.ensures _ _ c.outputs-o.ensures
+    laws.ready_singletons _ _ _ _ c.expect-b.ensures.step c.block_name-name.ensures _ _ c.inputs-i.ensures _ _ c.outputs-o.ensures
     _ _ c.input_terms-p.ensures
 
 pub returns : goal.returns

@@ -7,7 +7,7 @@ use borrow.Author.Rules.{rules}
 use borrow.Author.Tests.{not-true, not-false}
 use Rattle.model.specs.Outcome.{verdict_in}
 use Rattle.model.specs.Chunks.{chunk, TextState, is_open}
-use Rattle.chunk_store.proofs.Laws.{answer-over, state-over, room, few, chunk-long, chunk_kept}
+use Rattle.chunk_store.proofs.Laws.{answer_over, state_over, room, few, chunk_long, chunk_kept}
 use Rattle.chunk_store.proofs.append.Goals as goal
 use Rattle.chunk_store.proofs.append.Goals.{Else-is_over, Start}
 
@@ -23,14 +23,14 @@ pub returns-then-is_over : goal.returns-then-is_over
 returns-then-is_over c =
     let d = c.args.chunk.now in
     let shut = not-true (is_open (state (goal.at.returns-then-is_over c).Start)) (sym c.is_over.ensures ∙ c.if-is_over.true) in
-    (sym (ap verdict_in (answer-over (state (goal.at.returns-then-is_over c).Start) shut (chunk d))), sym (state-over (state (goal.at.returns-then-is_over c).Start) shut (chunk d)))
+    (sym (ap verdict_in (answer_over (state (goal.at.returns-then-is_over c).Start) shut (chunk d))), sym (state_over (state (goal.at.returns-then-is_over c).Start) shut (chunk d)))
 
 pub overflow_sub-n : goal.overflow_sub-n
 overflow_sub-n c = few (state (goal.at.overflow_sub-n c).Start) (ready (goal.at.overflow_sub-n c).Else-is_over)
 
 pub returns-then-n-chunk : goal.returns-then-n-chunk
 returns-then-n-chunk c =
-    let k = chunk-long (state (goal.at.returns-then-n-chunk c).Start) (ready (goal.at.returns-then-n-chunk c).Else-is_over) c.args.chunk.now (omega (arith, c.if-n-chunk.true, few (state (goal.at.returns-then-n-chunk c).Start) (ready (goal.at.returns-then-n-chunk c).Else-is_over))) in
+    let k = chunk_long (state (goal.at.returns-then-n-chunk c).Start) (ready (goal.at.returns-then-n-chunk c).Else-is_over) c.args.chunk.now (omega (arith, c.if-n-chunk.true, few (state (goal.at.returns-then-n-chunk c).Start) (ready (goal.at.returns-then-n-chunk c).Else-is_over))) in
     (sym (ap verdict_in k.0), sym k.1)
 
 pub put-requires : goal.put-requires

@@ -5,7 +5,7 @@ use lib.Seq.{length-take-le}
 use borrow.Author.Tests.{not-true, not-false}
 use Rattle.model.specs.Outcome.{length_in, buffer_after}
 use Rattle.model.specs.Chunks.{finish, TextState, is_open}
-use Rattle.chunk_store.proofs.Laws.{answer-over, state-over, room, few, end_read}
+use Rattle.chunk_store.proofs.Laws.{answer_over, state_over, room, few, end_read}
 use Rattle.chunked_text.proofs.finish.Goals as goal
 use Rattle.chunked_text.proofs.finish.Goals.{Else-is_over, Start}
 
@@ -21,8 +21,8 @@ pub returns-then-is_over : goal.returns-then-is_over
 returns-then-is_over c =
     let b = c.args.out.now in
     let shut = not-true (is_open (state (goal.at.returns-then-is_over c).Start)) (sym c.is_over.ensures ∙ c.if-is_over.true) in
-    let o = answer-over (state (goal.at.returns-then-is_over c).Start) shut (finish b) in
-    ((sym (ap length_in o), sym (ap (buffer_after b) o)), sym (state-over (state (goal.at.returns-then-is_over c).Start) shut (finish b)))
+    let o = answer_over (state (goal.at.returns-then-is_over c).Start) shut (finish b) in
+    ((sym (ap length_in o), sym (ap (buffer_after b) o)), sym (state_over (state (goal.at.returns-then-is_over c).Start) shut (finish b)))
 
 pub slice_bounds-read-end : goal.slice_bounds-read-end
 slice_bounds-read-end c =

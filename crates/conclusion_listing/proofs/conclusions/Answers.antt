@@ -9,7 +9,7 @@ use Rattle.model.specs.Listing.{conclusion_text}
 use Rattle.model.specs.WellFormed.{conclusion_ok}
 use Rattle.laws.proofs.Places.{field}
 use Rattle.layout.proofs.Within.{conclusions_within}
-use Rattle.layout.proofs.Rules.{rules_few, rule-conclusions, conclusion-here}
+use Rattle.layout.proofs.Rules.{rules_few, rule_conclusions, conclusion_here}
 use Rattle.listing_writer.proofs.Lists.{commaed_empty, commaed_last, commaed_more, commaed_all}
 use Rattle.conclusion_listing.proofs.conclusions.Goals as goal
 use Rattle.conclusion_listing.proofs.conclusions.Goals.{After-rule_row-o, After-whole_word-n}
@@ -21,7 +21,7 @@ here : (c : After-whole_word-n) (j : ℕ) →
 here c j l =
     let w = word_at c.args.img.now in
     let o = c.rule_row-o.ensures.by_index w c.requires.0.heads in
-    conclusion-here w c.requires.0.sound c.args.i (omega (arith, c.requires.1, c.requires.0.heads.rules)) _ _ _ o c.whole_word-first.ensures.0 c.whole_word-n.ensures.0 j l
+    conclusion_here w c.requires.0.sound c.args.i (omega (arith, c.requires.1, c.requires.0.heads.rules)) _ _ _ o c.whole_word-first.ensures.0 c.whole_word-n.ensures.0 j l
 
 -- the row lies in the image
 within : (c : After-rule_row-o) → (c.rule_row-o.result + 6) * 4 ≤ length c.args.img.now
@@ -54,7 +54,7 @@ pub returns-then-n-eq0 : goal.returns-then-n-eq0
 returns-then-n-eq0 c =
     let w = word_at c.args.img.now in
     let row = c.rule_row-o.ensures.by_index w c.requires.0.heads in
-    let e = rule-conclusions w c.requires.0.sound c.args.i (omega (arith, c.requires.1, c.requires.0.heads.rules)) _ _ _ row c.whole_word-first.ensures.0 c.whole_word-n.ensures.0 in
+    let e = rule_conclusions w c.requires.0.sound c.args.i (omega (arith, c.requires.1, c.requires.0.heads.rules)) _ _ _ row c.whole_word-first.ensures.0 c.whole_word-n.ensures.0 in
     rw (← e) (commaed_empty (conclusion_text (decode w)) (conclusion_at w) _ _ c.if-n-eq0.true)
 
 pub conclusion-p-requires : goal.conclusion-p-requires
@@ -88,7 +88,7 @@ returns c =
     let f = conclusion_text (decode w) in
     let g = conclusion_at w in
     let row = c.rule_row-o.ensures.by_index w c.requires.0.heads in
-    let e = rule-conclusions w c.requires.0.sound c.args.i (omega (arith, c.requires.1, c.requires.0.heads.rules)) _ _ _ row c.whole_word-first.ensures.0 c.whole_word-n.ensures.0 in
+    let e = rule_conclusions w c.requires.0.sound c.args.i (omega (arith, c.requires.1, c.requires.0.heads.rules)) _ _ _ row c.whole_word-first.ensures.0 c.whole_word-n.ensures.0 in
     let from = c.whole_word-first.result in
     let n = c.whole_word-n.result in
     let last = commaed_last f g from n _ n _ (omega (arith, c.if-n-eq0.false)) refl c.conclusion-p.ensures in

@@ -16,7 +16,7 @@ condition-returns-then-w-ge-TERM_WORD-clause-writes t c =
     let w = word_at c.args.img.now in
     let g = input_term_name (decode w) in
     let e = c.whole_word-w.ensures.0 in
-    texts.left-done w g _ _ _ _ _ _ _ _ _ l.invariant.1
+    texts.left_done w g _ _ _ _ _ _ _ _ _ l.invariant.1
     (texts.term_written w g l.d _ _ _ _ (omega (arith, e)) (rw e at c.term-n.ensures))
 
 pub condition-returns-then-w-eq-NOT_WORD-clause-writes : goal.condition-returns-then-w-eq-NOT_WORD-clause-writes
@@ -25,7 +25,7 @@ condition-returns-then-w-eq-NOT_WORD-clause-writes t c =
     let w = word_at c.args.img.now in
     let g = input_term_name (decode w) in
     let e = c.whole_word-w.ensures.0 in
-    texts.left-done w g _ _ _ _ _ _ _ _ _ l.invariant.1
+    texts.left_done w g _ _ _ _ _ _ _ _ _ l.invariant.1
     (texts.not_written w g l.d _ _ _ _ _ (omega (arith, e, c.if-w-eq-NOT_WORD.true)) c.negation.ensures.writes)
 
 pub condition-returns-then-own-form-clause-writes : goal.condition-returns-then-own-form-clause-writes
@@ -36,7 +36,7 @@ condition-returns-then-own-form-clause-writes t c =
     let e = c.whole_word-w.ensures.0 in
     let o = operator_of (w (l.d - 1)) in
     let f = c.operator_form-own.ensures.value ∙ ap (λ (x : ℕ). rank (operator_of x)) e in
-    texts.left-done w g _ _ _ _ _ _ _ _ _ l.invariant.1
+    texts.left_done w g _ _ _ _ _ _ _ _ _ l.invariant.1
     (texts.two_written w g o l.d _ _ _ _ _ _ _ _ _ _
     (spans.operator_form w l.d (omega (arith, e, c.if-w-ge-TERM_WORD.false)) (λ z. c.if-w-eq-NOT_WORD.false (e ∙ z)))
     (rw f at c.operand-m.ensures.writes) (rw e at c.operator-n.ensures) (rw f at c.operand.ensures.writes))
@@ -50,7 +50,7 @@ condition-loop-d-preserved t c =
     let o = operator_of (w (l.d - 1)) in
     let f = c.operator_form-own.ensures.value ∙ ap (λ (x : ℕ). rank (operator_of x)) e in (
       search rules,
-      texts.left-next w g _ _ _ o l.d _ _ _ _ _ _ _ _ l.invariant.1
+      texts.left_next w g _ _ _ o l.d _ _ _ _ _ _ _ _ l.invariant.1
           (spans.operator_form w l.d (omega (arith, e, c.if-w-ge-TERM_WORD.false)) (λ z. c.if-w-eq-NOT_WORD.false (e ∙ z)))
           (rw f at c.operand-m.ensures.writes) (rw e at c.operator-n.ensures) c.form.ensures (rw f at c.if-own-form.false),
       omega arith,
@@ -61,7 +61,7 @@ condition-returns-clause-writes t c =
     let l = c.loop-d in
     let w = word_at c.args.img.now in
     let g = input_term_name (decode w) in
-    texts.left-done w g _ _ _ _ _ _ _ _ _ l.invariant.1 (texts.none_written w g (condition_text g) _ _ _ _ _ _ (search rules))
+    texts.left_done w g _ _ _ _ _ _ _ _ _ l.invariant.1 (texts.none_written w g (condition_text g) _ _ _ _ _ _ (search rules))
 
 pub negation-returns-then-e-lt1-clause-writes : goal.negation-returns-then-e-lt1-clause-writes
 negation-returns-then-e-lt1-clause-writes t c =

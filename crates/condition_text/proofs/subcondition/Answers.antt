@@ -13,7 +13,7 @@ returns-then-w-ne0 c =
     let z = c.refused.ensures.stops in
     record {
       reads_condition = (λ b d. laws.refuses _ z a
-          (laws.input-fault s _ _ b d p.cursor p.words _ (c.name_fault-w.ensures.by_index s g.0.fits b p.words)
+          (laws.input_fault s _ _ b d p.cursor p.words _ (c.name_fault-w.ensures.by_index s g.0.fits b p.words)
           c.if-w-ne0.true _ a z.why));
       within = laws.stopped 0 _ g.0 a z;
     }
@@ -27,7 +27,7 @@ returns-then-symbols-i c =
     let z = c.refused-then-symbols-i.ensures.stops in
     record {
       reads_condition = (λ b d. laws.refuses _ z a
-          (laws.input-unknown s _ _ b d p.cursor p.words (sym c.if-w-ne0.false ∙ c.name_fault-w.ensures.by_index s g.0.fits b p.words) _
+          (laws.input_unknown s _ _ b d p.cursor p.words (sym c.if-w-ne0.false ∙ c.name_fault-w.ensures.by_index s g.0.fits b p.words) _
           c.input_of-i.ensures.value _ c.if-symbols-i.true a z.why));
       within = laws.stopped 0 _ g.0 a z;
     }
@@ -53,7 +53,7 @@ returns c =
     let z = g.0.fits.halted (λ z. let k = c.name_fault-w.ensures.kind c.if-w-ne0.false in omega arith) in
     record {
       reads_condition = (λ b d. simp (
-        sym (laws.input-known s _ _ b d p.cursor p.words (sym c.if-w-ne0.false ∙ c.name_fault-w.ensures.by_index s g.0.fits b p.words) _
+        sym (laws.input_known s _ _ b d p.cursor p.words (sym c.if-w-ne0.false ∙ c.name_fault-w.ensures.by_index s g.0.fits b p.words) _
             c.input_of-i.ensures.value (search rules)),
         sym (c.count-q.ensures.words_value b),
         sym (a.reads b c.count-q.result.words),

@@ -11,7 +11,7 @@ returns-then-w-ne0 c =
     let a = c.refused.ensures.by_index s g.0.fits in
     record {
       reads_condition = (λ b d. laws.refuses _ c.refused.ensures.stops a
-          (laws.term-fault s _ _ b d p.cursor p.words _ (c.name_fault-w.ensures.by_index s g.0.fits b p.words)
+          (laws.term_fault s _ _ b d p.cursor p.words _ (c.name_fault-w.ensures.by_index s g.0.fits b p.words)
           c.if-w-ne0.true _));
       within = laws.stopped 1 _ g.0 a c.refused.ensures.stops;
     }
@@ -28,7 +28,7 @@ returns-then-symbols-i c =
     let a = c.refused-then-symbols-i.ensures.by_index s g.0.fits in
     record {
       reads_condition = (λ b d. laws.refuses _ c.refused-then-symbols-i.ensures.stops a
-          (laws.term-unknown s _ _ b d p.cursor p.words (sym c.if-w-ne0.false ∙ c.name_fault-w.ensures.by_index s g.0.fits b p.words) _ g.2
+          (laws.term_unknown s _ _ b d p.cursor p.words (sym c.if-w-ne0.false ∙ c.name_fault-w.ensures.by_index s g.0.fits b p.words) _ g.2
           _ c.term_of-j.ensures.value c.if-symbols-i.true));
       within = laws.stopped 1 _ g.0 a c.refused-then-symbols-i.ensures.stops;
     }
@@ -65,7 +65,7 @@ returns c =
       reads_condition = (λ b d.
           let e = sym c.if-w-ne0.false ∙ c.name_fault-w.ensures.by_index s g.0.fits b p.words in
           laws.names_term a c.put.ensures
-          (laws.term-known s _ _ b d p.cursor p.words e _ g.2 _ c.term_of-j.ensures.value c.if-symbols-i.false)
+          (laws.term_known s _ _ b d p.cursor p.words e _ g.2 _ c.term_of-j.ensures.value c.if-symbols-i.false)
           (laws.term_words s _ _ b d p.cursor p.words e _ g.2 _ c.term_of-j.ensures.value _ refl));
       within = laws.within_then w (laws.put_within w.room c.put.ensures);
     }

@@ -21,7 +21,7 @@ returns-then-w-ne0 c =
     let u : Tables → Tables = λ t. (with_inputs a.m a.names.now a.p t).tables in
     record {
       collects = λ t g.
-          laws.variable-bad add_input input_count input_limit a.s.now a.p.cursor (u t) _ (laws.declares a.s.now (u t) g.holds).inputs
+          laws.variable_bad add_input input_count input_limit a.s.now a.p.cursor (u t) _ (laws.declares a.s.now (u t) g.holds).inputs
           c.refuse-d.result _ (c.new_fault-w.ensures.value _ 0 (laws.declares a.s.now (u t) g.holds)) g.holds
           c.if-w-ne0.true (c.refuse-d.ensures.by_index _ g.fits);
       moves = c.refuse-d.ensures.moves _ c.requires.good.fits;
@@ -59,7 +59,7 @@ returns c =
     let z = c.if-w-ne0.false in
     record {
       collects = λ t g.
-          laws.variable-good add_input input_count input_limit a.s.now a.p.cursor (u t) _ (laws.declares a.s.now (u t) g.holds).inputs
+          laws.variable_good add_input input_count input_limit a.s.now a.p.cursor (u t) _ (laws.declares a.s.now (u t) g.holds).inputs
           c.advance-d.result _ (e.value _ 0 (laws.declares a.s.now (u t) g.holds)) _ g.fits (λ q. omega (arith, (e.passed z).0)) z
           (input_added a.s.now (u t) a.p.cursor.start a.p.cursor.end (ltb-true _ _ (e.passed z).1) g.holds g.fits.order g.fits.inside)
           c.advance-d.ensures.step;

@@ -11,10 +11,10 @@ use Rattle.defuzzify_listing.proofs.defuzzify_part.Goals as goal
 use Rattle.defuzzify_listing.proofs.defuzzify_part.Goals.{After-output_row-row, After-whole_word-n}
 
 -- the words of the output's row that were read
-reads-are : (c : After-whole_word-n) →
+reads_are : (c : After-whole_word-n) →
     let w = word_at c.args.img.now in
     (c.whole_word-first.result ≡ w (output_place w c.args.i + 4)) × (c.whole_word-n.result ≡ output_count w c.args.i)
-reads-are c =
+reads_are c =
     let w = word_at c.args.img.now in
     let e = c.output_row-row.ensures.by_index w c.requires.0.heads in
     (c.whole_word-first.ensures.0 ∙ ap (λ (o : ℕ). w (o + 4)) e, c.whole_word-n.ensures.0 ∙ ap (λ (o : ℕ). w (o + 5)) e)
@@ -39,7 +39,7 @@ whole_word-n-requires c = omega (arith, within (goal.at.whole_word-n-requires c)
 pub singletons-d-requires : goal.singletons-d-requires
 singletons-d-requires c =
     let h = c.requires.0.heads in
-    let q = reads-are (goal.at.singletons-d-requires c).After-whole_word-n in
+    let q = reads_are (goal.at.singletons-d-requires c).After-whole_word-n in
     let r = output_terms_within (word_at c.args.img.now) c.requires.0.sound.frame c.args.i (omega (arith, h.outputs, c.requires.1)) in
     (c.requires.0, omega (arith, q.0, r.0), omega (arith, q.0, q.1, h.terms, r.1))
 
@@ -60,7 +60,7 @@ unfolding defuzzify_text output_at
 returns c =
     let w = word_at c.args.img.now in
     let e = c.output_row-row.ensures.by_index w c.requires.0.heads in
-    let r = reads-are (goal.at.returns c).After-whole_word-n in
+    let r = reads_are (goal.at.returns c).After-whole_word-n in
     let below = joined (joined c.puts-a.ensures c.default_value-b.ensures) c.puts-c.ensures in
     let terms = rw (r.0, r.1) at c.singletons-d.ensures in
     let body = joined (joined below terms) c.range_line-e.ensures in

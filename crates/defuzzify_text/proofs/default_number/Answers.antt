@@ -17,7 +17,7 @@ pub returns-then-w-ne0 : goal.returns-then-w-ne0
 returns-then-w-ne0 c =
     let a = c.args in
     record {
-      by_index = λ names t g. laws.figure-none a.s.now a.p.cursor c.refuse-d.result (with_outputs names a.p t).tables a.o with_default c.requires.1 _
+      by_index = λ names t g. laws.figure_none a.s.now a.p.cursor c.refuse-d.result (with_outputs names a.p t).tables a.o with_default c.requires.1 _
           (c.figure_here-y.ensures.fault_value _ 0) c.if-w-ne0.true g.holds (c.refuse-d.ensures.by_index _ g.fits);
       count = refl;
     }
@@ -37,7 +37,7 @@ returns c =
     let z = c.if-w-ne0.false in
     record {
       by_index = λ names t g.
-          laws.figure-set a.s.now a.p.cursor c.advance-d.result (with_outputs names a.p t).tables a.o with_default c.requires.1 _ _
+          laws.figure_set a.s.now a.p.cursor c.advance-d.result (with_outputs names a.p t).tables a.o with_default c.requires.1 _ _
           (sym z ∙ e.fault_value _ 0) (e.value z).1 g.fits (λ q. omega (arith, (e.value z).0))
           (default_set a.s.now (with_outputs names a.p t).tables a.o _ c.requires.1 g.holds) c.advance-d.ensures.step;
       count = refl;

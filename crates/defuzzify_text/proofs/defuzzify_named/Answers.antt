@@ -27,7 +27,7 @@ returns-then-n-o c =
     let a = c.args in
     record {
       collects = λ t g.
-          laws.part-unknown a.s.now a.p.cursor (with_outputs a.names.now a.p t).tables
+          laws.part_unknown a.s.now a.p.cursor (with_outputs a.names.now a.p t).tables
           (sym c.if-w-ne0.false ∙ c.name_fault-w.ensures.by_index _ g.fits _ 0) _
           (laws.output_found _ _ _ _ g.holds c.find-o.ensures.value) c.refuse-d-then-n-o.result c.if-n-o.true g.holds
           (c.refuse-d-then-n-o.ensures.by_index _ g.fits);
@@ -43,7 +43,7 @@ returns-then-v-ne0 c =
     let a = c.args in
     record {
       collects = λ t g.
-          laws.part-again a.s.now a.p.cursor (with_outputs a.names.now a.p t).tables
+          laws.part_again a.s.now a.p.cursor (with_outputs a.names.now a.p t).tables
           (sym c.if-w-ne0.false ∙ c.name_fault-w.ensures.by_index _ g.fits _ 0) _
           (laws.output_found _ _ _ _ g.holds c.find-o.ensures.value) c.refuse-d-then-v-ne0.result c.if-n-o.false c.if-v-ne0.true g.holds
           (c.refuse-d-then-v-ne0.ensures.by_index _ g.fits);
@@ -64,7 +64,7 @@ returns c =
     let a = c.args in
     record {
       collects = λ t g.
-          laws.part-read a.s.now a.p.cursor (with_outputs a.names.now a.p t).tables
+          laws.part_read a.s.now a.p.cursor (with_outputs a.names.now a.p t).tables
           (sym c.if-w-ne0.false ∙ c.name_fault-w.ensures.by_index _ g.fits _ 0) _ (laws.output_found _ _ _ _ g.holds c.find-o.ensures.value)
           c.advance-d.result _
           c.if-n-o.false c.if-v-ne0.false g.holds c.advance-d.ensures.step

@@ -18,7 +18,7 @@ returns-then-y-ne0 c =
     record {
       read = λ q t u g k z. clash q;
       lost = λ q t g k.
-          laws.figure-none a.s.now a.c c.refuse-d.result t o
+          laws.figure_none a.s.now a.c c.refuse-d.result t o
           (λ x. with_singleton (record { name = slice a.start a.end a.s.now; at = x })) k.known _
           (laws.by_row a.s.now names a.c t o _ a.v k (c.figure_here-y.ensures.fault_value _ 0)) c.if-y-ne0.true g d;
       fewer = d.fewer;
@@ -43,7 +43,7 @@ returns c =
     λ names o.
     record {
       read = λ q t u g k x.
-          laws.figure-set a.s.now a.c c.advance-d.result t o
+          laws.figure_set a.s.now a.c c.advance-d.result t o
           (λ y. with_singleton (record { name = slice a.start a.end a.s.now; at = y })) k.known u _
           (laws.by_row a.s.now names a.c t o 0 a.v k (sym z ∙ e.fault_value _ 0)) (e.value z).1 h.0 (λ y. omega (arith, (e.value z).0)) x d;
       lost = λ q t g k. clash (sym q);

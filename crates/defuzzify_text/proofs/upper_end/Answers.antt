@@ -13,7 +13,7 @@ pub returns-then-w-ne0 : goal.returns-then-w-ne0
 returns-then-w-ne0 c =
     let a = c.args in
     record {
-      by_index = λ names t g. laws.upper-none a.s.now a.p.cursor c.refuse-d.result (with_outputs names a.p t).tables a.o a.x.0 _
+      by_index = λ names t g. laws.upper_none a.s.now a.p.cursor c.refuse-d.result (with_outputs names a.p t).tables a.o a.x.0 _
           (c.crisp_here-y.ensures.fault_value _ 0)
           c.if-w-ne0.true g.holds (c.refuse-d.ensures.by_index _ g.fits);
       count = refl;
@@ -38,7 +38,7 @@ returns-then-less c =
     let z = c.if-w-ne0.false in
     record {
       by_index = λ names t g.
-          laws.upper-set a.s.now a.p.cursor c.advance-d.result (with_outputs names a.p t).tables a.o a.x.0 (sym z ∙ e.fault_value _ 0) _
+          laws.upper_set a.s.now a.p.cursor c.advance-d.result (with_outputs names a.p t).tables a.o a.x.0 (sym z ∙ e.fault_value _ 0) _
           (value_here _ _ _ _ e.value z) _ (sym c.less.ensures ∙ c.if-less.true) g.fits (λ q. omega (arith, e.kind z))
           (range_set a.s.now (with_outputs names a.p t).tables a.o a.x _ c.requires.1 g.holds) c.advance-d.ensures.step;
       count = refl;
@@ -51,7 +51,7 @@ returns c =
     let z = c.if-w-ne0.false in
     record {
       by_index = λ names t g.
-          laws.upper-low a.s.now a.p.cursor c.refuse-d-2.result (with_outputs names a.p t).tables a.o a.x.0 (sym z ∙ e.fault_value _ 0) _
+          laws.upper_low a.s.now a.p.cursor c.refuse-d-2.result (with_outputs names a.p t).tables a.o a.x.0 (sym z ∙ e.fault_value _ 0) _
           (value_here _ _ _ _ e.value z) (sym c.less.ensures ∙ c.if-less.false) g.holds (c.refuse-d-2.ensures.by_index _ g.fits);
       count = refl;
     }

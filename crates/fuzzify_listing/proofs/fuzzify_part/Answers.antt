@@ -12,10 +12,10 @@ use Rattle.fuzzify_listing.proofs.fuzzify_part.Goals as goal
 use Rattle.fuzzify_listing.proofs.fuzzify_part.Goals.{After-input_row-row, After-whole_word-n}
 
 -- the words of the input's row that were read
-reads-are : (c : After-whole_word-n) →
+reads_are : (c : After-whole_word-n) →
     let w = word_at c.args.img.now in
     (c.whole_word-first.result ≡ w (input_place w c.args.i + 5)) × (c.whole_word-n.result ≡ input_count w c.args.i)
-reads-are c =
+reads_are c =
     let w = word_at c.args.img.now in
     let e = c.input_row-row.ensures.by_index w c.requires.0.heads in
     (c.whole_word-first.ensures.0 ∙ ap (λ (o : ℕ). w (o + 5)) e, c.whole_word-n.ensures.0 ∙ ap (λ (o : ℕ). w (o + 6)) e)
@@ -40,7 +40,7 @@ whole_word-n-requires c = omega (arith, within (goal.at.whole_word-n-requires c)
 pub input_terms-b-requires : goal.input_terms-b-requires
 input_terms-b-requires c =
     let w = word_at c.args.img.now in
-    let r = reads-are (goal.at.input_terms-b-requires c).After-whole_word-n in
+    let r = reads_are (goal.at.input_terms-b-requires c).After-whole_word-n in
     let i = c.args.i in
     let sound = c.requires.0.sound in
     let first = r.0 ∙ first_is w i sound c.requires.1 in
@@ -58,6 +58,6 @@ unfolding fuzzify_text input_at
 returns c =
     let w = word_at c.args.img.now in
     let e = c.input_row-row.ensures.by_index w c.requires.0.heads in
-    let r = reads-are (goal.at.returns c).After-whole_word-n in
+    let r = reads_are (goal.at.returns c).After-whole_word-n in
     let ts = rw (r.0, r.1) at c.input_terms-b.ensures in
     joined (joined (joined (joined c.puts-a.ensures ts) c.puts-c.ensures) (rw e at c.name-d.ensures)) c.puts.ensures

@@ -15,10 +15,10 @@ use Rattle.fuzzify_listing.proofs.input_term.Goals as goal
 use Rattle.fuzzify_listing.proofs.input_term.Goals.{After-term_row-row, After-whole_word-first}
 
 -- the words of the term's row that were read
-reads-are : (c : After-whole_word-first) →
+reads_are : (c : After-whole_word-first) →
     let w = word_at c.args.img.now in
     (c.whole_word-n.result ≡ term_count w c.args.t) × (c.whole_word-first.result ≡ w (term_place w c.args.t + 4))
-reads-are c =
+reads_are c =
     let w = word_at c.args.img.now in
     let e = c.term_row-row.ensures.by_index w c.requires.checked.0.heads in
     (c.whole_word-n.ensures.0 ∙ ap (λ (o : ℕ). w (o + 5)) e, c.whole_word-first.ensures.0 ∙ ap (λ (o : ℕ). w (o + 4)) e)
@@ -44,7 +44,7 @@ whole_word-first-requires c = omega (arith, within (goal.at.whole_word-first-req
 pub term_points-ps-requires : goal.term_points-ps-requires
 term_points-ps-requires c =
     let w = word_at c.args.img.now in
-    let r = reads-are (goal.at.term_points-ps-requires c).After-whole_word-first in
+    let r = reads_are (goal.at.term_points-ps-requires c).After-whole_word-first in
     let few = points_few w c.args.t c.requires.t_value in
     let ends = points_within w c.requires.checked.0.sound.frame c.args.t c.requires.checked.1 in
     (c.requires.checked.0, omega (arith, r.0, r.1, ends, c.requires.checked.0.heads.points), omega (arith, r.0, few.1))
@@ -55,14 +55,14 @@ slice_bounds-term_line-end c =
 
 pub term_line-requires : goal.term_line-requires
 term_line-requires c =
-    omega (arith, (reads-are (goal.at.term_line-requires c).After-whole_word-first).0, (points_few (word_at c.args.img.now) c.args.t c.requires.t_value).1)
+    omega (arith, (reads_are (goal.at.term_line-requires c).After-whole_word-first).0, (points_few (word_at c.args.img.now) c.args.t c.requires.t_value).1)
 
 pub returns : goal.returns
 unfolding term_at
 returns c =
     let w = word_at c.args.img.now in
     let e = c.term_row-row.ensures.by_index w c.requires.checked.0.heads in
-    let r = reads-are (goal.at.returns c).After-whole_word-first in
+    let r = reads_are (goal.at.returns c).After-whole_word-first in
     let n = name_front w c.term_row-row.result _ _ c.bytes_at-s.ensures c.first_zero-e.ensures.value ∙ ap (name_at w) e in
     let p = c.term_points-ps.ensures ∙ (λ j. tab (point_at w) (r.0 j) (r.1 j)) in
     let same : ◌≡◌ {A = Term} (record { name = _; points = _ }) (term_at w c.args.t) = λ j. record { name = n j; points = p j } in

@@ -11,10 +11,10 @@ pub returns-then-n-lt-LEAST_POINTS : goal.returns-then-n-lt-LEAST_POINTS
 returns-then-n-lt-LEAST_POINTS c =
     let a = c.args in
     let g = c.requires in
-    laws.end-few a.s.now a.c c.refuse-then-n-lt-LEAST_POINTS.result a.n c.if-c-ne-SEMICOLON.false c.if-n-lt-LEAST_POINTS.true (c.refuse-then-n-lt-LEAST_POINTS.ensures.by_index _ g)
+    laws.end_few a.s.now a.c c.refuse-then-n-lt-LEAST_POINTS.result a.n c.if-c-ne-SEMICOLON.false c.if-n-lt-LEAST_POINTS.true (c.refuse-then-n-lt-LEAST_POINTS.ensures.by_index _ g)
 
 pub returns : goal.returns
 returns c =
     let a = c.args in
     let g = c.requires in
-    laws.end-good a.s.now a.c c.advance.result a.n c.if-c-ne-SEMICOLON.false c.if-n-lt-LEAST_POINTS.false c.advance.ensures.step
+    laws.end_good a.s.now a.c c.advance.result a.n c.if-c-ne-SEMICOLON.false c.if-n-lt-LEAST_POINTS.false c.advance.ensures.step

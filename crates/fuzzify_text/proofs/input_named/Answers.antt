@@ -51,7 +51,7 @@ returns-then-n-i c =
       lost = λ z ts t g.
           let u = (inputs_in a.names.now (inputs_of a.c a.n a.rows ts) t).tables in
           reading.next (reading.step u g.holds e)
-          (laws.part-unknown a.s.now d.result u c.refuse-e-then-n-i.result (y ∙ c.name_fault-w.ensures.by_index _ e.fits _ 0) _ c.find-i.ensures.value
+          (laws.part_unknown a.s.now d.result u c.refuse-e-then-n-i.result (y ∙ c.name_fault-w.ensures.by_index _ e.fits _ 0) _ c.find-i.ensures.value
           g.holds c.if-n-i.true r);
       known = λ z. absurd (c.refuse-e-then-n-i.ensures.halted z);
       fewer = λ z. absurd (c.refuse-e-then-n-i.ensures.halted z);
@@ -77,7 +77,7 @@ returns-then-v-ne0 c =
       lost = λ z ts t g.
           let u = (inputs_in a.names.now (inputs_of a.c a.n a.rows ts) t).tables in
           reading.next (reading.step u g.holds e)
-          (laws.part-again a.s.now d.result u c.refuse-e-then-v-ne0.result (y ∙ c.name_fault-w.ensures.by_index _ e.fits _ 0) _ c.find-i.ensures.value
+          (laws.part_again a.s.now d.result u c.refuse-e-then-v-ne0.result (y ∙ c.name_fault-w.ensures.by_index _ e.fits _ 0) _ c.find-i.ensures.value
           g.holds c.if-n-i.false c.if-v-ne0.true r);
       known = λ z. absurd (c.refuse-e-then-v-ne0.ensures.halted z);
       fewer = λ z. absurd (c.refuse-e-then-v-ne0.ensures.halted z);
@@ -102,7 +102,7 @@ returns c =
       found = λ z ts t g p k x q.
           let u = (inputs_in a.names.now (inputs_of a.c a.n a.rows ts) t).tables in
           reading.next (reading.step u g.holds e)
-          (laws.part-good a.s.now d.result u c.advance-e.result (y ∙ c.name_fault-w.ensures.by_index _ e.fits _ 0) _ c.find-i.ensures.value
+          (laws.part_good a.s.now d.result u c.advance-e.result (y ∙ c.name_fault-w.ensures.by_index _ e.fits _ 0) _ c.find-i.ensures.value
           g.holds l p k c.if-v-ne0.false r.step x q);
       lost = λ z. absurd (z r.moves.1);
       known = λ z. l;

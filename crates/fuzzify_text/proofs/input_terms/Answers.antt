@@ -55,7 +55,7 @@ returns-then-d-ne0 c =
           let r = at n.result.cursor u in
           reading.turns_end TERM (input_term a.i) a.s.now p₀ r
           (reading.turns_more TERM (input_term a.i) a.s.now p₀ (at l.c u) r w c.loop-c-test.true
-          (laws.turn-lost a.s.now u a.i l.c n.result (n.ensures.reached _ (laws.terms_known a.s.now u a.i h k)) h
+          (laws.turn_lost a.s.now u a.i l.c n.result (n.ensures.reached _ (laws.terms_known a.s.now u a.i h k)) h
           m.fits m.fewer c.if-d-ne0.true) m.fewer)
           (λ z. omega (arith, lost_kind a.s.now n.result.cursor m.fits c.if-d-ne0.true));
       count = l.invariant.1;
@@ -101,7 +101,7 @@ loop-c-preserved c =
             m.order m.inside in
             reading.turns_more TERM (input_term a.i) a.s.now (inputs_in a.names.now a.p t) (at l.c u) (at q.result.cursor (term_put u a.i k.result v)) w
             c.loop-c-test.true
-            (laws.turn-good a.s.now u a.i l.c n.result (n.ensures.reached _ (laws.terms_known a.s.now u a.i h o)) q.result
+            (laws.turn_good a.s.now u a.i l.c n.result (n.ensures.reached _ (laws.terms_known a.s.now u a.i h o)) q.result
             (term_put u a.i k.result v) h o y m.fewer q.ensures z) (omega (arith, q.ensures.fewer, m.fewer));
       },
       l.invariant.1,

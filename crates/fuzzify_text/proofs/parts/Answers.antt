@@ -24,7 +24,7 @@ returns-then-d-ne0 c =
     let a = c.args in
     let m = n.ensures in
     λ t g.
-    reading.leads-end FUZZIFY fuzzify a.s.now (inputs_in a.names.now a.p t) (inputs_in l.names l.q t)
+    reading.leads_end FUZZIFY fuzzify a.s.now (inputs_in a.names.now a.p t) (inputs_in l.names l.q t)
     (inputs_in l.names (inputs_of n.result.cursor l.q.count l.q.rows l.q.terms) t) (l.invariant.leading t g)
     (m.lost c.if-d-ne0.true l.q.terms t (l.invariant.leading t g).0) m.moves
     (λ z. omega (arith, lost_kind a.s.now n.result.cursor m.fits c.if-d-ne0.true))
@@ -51,7 +51,7 @@ returns-then-f c =
     let w = l.invariant.leading t g in
     let x = c.input_terms-q.ensures.collects t (record { fits = m.fits; holds = w.0.holds }) in
     let y = m.found c.if-d-ne0.false l.q.terms t w.0 _ c.expect-f.result x e in
-    reading.leads-end FUZZIFY fuzzify a.s.now (inputs_in a.names.now a.p t) (inputs_in l.names l.q t) _ w y
+    reading.leads_end FUZZIFY fuzzify a.s.now (inputs_in a.names.now a.p t) (inputs_in l.names l.q t) _ w y
     (λ z. omega (arith, m.fewer c.if-d-ne0.false, x.fewer, e.fewer)) c.if-f.true
 
 pub loop-a-smaller : goal.loop-a-smaller
@@ -75,6 +75,6 @@ loop-a-preserved c =
           let w = l.invariant.leading t g in
           let x = c.input_terms-q.ensures.collects t (record { fits = m.fits; holds = w.0.holds }) in
           let y = m.found c.if-d-ne0.false l.q.terms t w.0 _ c.expect-f.result x e in
-          reading.leads-on FUZZIFY fuzzify a.s.now (inputs_in a.names.now a.p t) (inputs_in l.names l.q t) _ w y
+          reading.leads_on FUZZIFY fuzzify a.s.now (inputs_in a.names.now a.p t) (inputs_in l.names l.q t) _ w y
           (λ z. omega (arith, m.fewer c.if-d-ne0.false, x.fewer, e.fewer)) (λ z. omega arith) c.if-f.false;
     }

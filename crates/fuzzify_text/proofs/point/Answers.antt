@@ -18,7 +18,7 @@ returns-then-n-ge-POINTS c =
     let a = c.args in
     let g = c.requires in
     record {
-      reads_point = laws.point-full a.s.now a.c c.refuse-d-then-n-ge-POINTS.result a.n a.last c.if-c-ne-OPEN.false _ c.if-n-ge-POINTS.true
+      reads_point = laws.point_full a.s.now a.c c.refuse-d-then-n-ge-POINTS.result a.n a.last c.if-c-ne-OPEN.false _ c.if-n-ge-POINTS.true
           (c.refuse-d-then-n-ge-POINTS.ensures.by_index _ g) c.refuse-d-then-n-ge-POINTS.ensures.halted;
       few = λ z. absurd (true≢false (sym z));
     }
@@ -29,7 +29,7 @@ returns c =
     let l = c.if-n-ge-POINTS.false in
     let d = c.advance-d in
     record {
-      reads_point = laws.point-good a.s.now a.c d.result a.n a.last c.if-c-ne-OPEN.false c.point_from.result l d.ensures.step
+      reads_point = laws.point_good a.s.now a.c d.result a.n a.last c.if-c-ne-OPEN.false c.point_from.result l d.ensures.step
           c.point_from.ensures;
       few = λ z. l;
     }

@@ -6,7 +6,7 @@ pub returns-then-d-ne0 : goal.returns-then-d-ne0
 returns-then-d-ne0 c =
     let y = c.position-a in
     let a = c.args in
-    laws.from-lost a.s.now a.c y.result.cursor a.n a.last y.ensures.step _ c.if-d-ne0.true
+    laws.from_lost a.s.now a.c y.result.cursor a.n a.last y.ensures.step _ c.if-d-ne0.true
 
 pub expect-g-requires : goal.expect-g-requires
 expect-g-requires c = ((c.degree-r.ensures 0 c.args.last).fits, omega arith)
@@ -17,5 +17,5 @@ returns c =
     let y = c.position-a in
     let a = c.args in
     let r = c.degree-r in
-    laws.from-good a.s.now a.c y.result.cursor a.n a.last y.ensures.step e.result r.result c.expect-g.result _
+    laws.from_good a.s.now a.c y.result.cursor a.n a.last y.ensures.step e.result r.result c.expect-g.result _
     (y.ensures.value c.if-d-ne0.false) e.ensures.step (r.ensures a.n a.last) c.expect-g.ensures.step

@@ -13,7 +13,7 @@ returns-then-w-ne0 c =
     let a = c.args in
     let g = c.requires in
     record {
-      step = laws.position-none a.s.now a.c c.refuse-d.result a.n a.last _ c.crisp_here-w.ensures.fault_value c.if-w-ne0.true
+      step = laws.position_none a.s.now a.c c.refuse-d.result a.n a.last _ c.crisp_here-w.ensures.fault_value c.if-w-ne0.true
           (c.refuse-d.ensures.by_index _ g);
       value = λ z. absurd (c.refuse-d.ensures.halted z);
     }
@@ -30,7 +30,7 @@ returns-then-may_stand c =
     let v = value_here c.crisp_here-w.result.fault c.crisp_here-w.result.value.0 (value_of (text_of a.s.now a.c)) (pos 0)
     c.crisp_here-w.ensures.value z in
     record {
-      step = laws.position-good a.s.now a.c c.advance-d.result a.n a.last (λ b m. sym z ∙ c.crisp_here-w.ensures.fault_value b m)
+      step = laws.position_good a.s.now a.c c.advance-d.result a.n a.last (λ b m. sym z ∙ c.crisp_here-w.ensures.fault_value b m)
           (ap (λ (x : ℤ). may_stand a.n a.last x) (sym v) ∙ sym c.may_stand.ensures ∙ c.if-may_stand.true)
           c.advance-d.ensures.step;
       value = λ q. v;
@@ -44,7 +44,7 @@ returns c =
     let v = value_here c.crisp_here-w.result.fault c.crisp_here-w.result.value.0 (value_of (text_of a.s.now a.c)) (pos 0)
     c.crisp_here-w.ensures.value z in
     record {
-      step = laws.position-low a.s.now a.c c.refuse-d-2.result a.n a.last (λ b m. sym z ∙ c.crisp_here-w.ensures.fault_value b m)
+      step = laws.position_low a.s.now a.c c.refuse-d-2.result a.n a.last (λ b m. sym z ∙ c.crisp_here-w.ensures.fault_value b m)
           (ap (λ (x : ℤ). may_stand a.n a.last x) (sym v) ∙ sym c.may_stand.ensures ∙ c.if-may_stand.false)
           (c.refuse-d-2.ensures.by_index _ g);
       value = λ q. v;

@@ -57,7 +57,7 @@ returns-then-find-n c =
         named = λ z. absurd (c.refuse-e-then-find-n.ensures.halted z);
         lost = λ z. laws.term_lost a.s.now a.i b a.c d.result e.result
             (laws.term_then a.s.now a.names.now a.i a.n b t a.c d.result g.1 c.if-n-ge-TERMS.false d.ensures.step)
-            (laws.name-taken a.s.now a.names.now a.i a.n b t d.result e.result
+            (laws.name_taken a.s.now a.names.now a.i a.n b t d.result e.result
             (sym c.if-w-ne0.false ∙ c.name_fault-w.ensures.by_index _ f b 0) _ c.find.ensures.value c.if-find-n.true (e.ensures.by_index _ f))
             (e.ensures.by_index _ f).fits e.ensures.halted;
       };

@@ -9,7 +9,7 @@ use Rattle.model.specs.Image.{word_at, decode, OUTPUTS}
 use Rattle.model.specs.Evaluation.{figures_of, held_ok}
 use Rattle.layout.proofs.Sound.{outputs_few}
 use Rattle.held.specs.Places.{fits, is_zero}
-use Rattle.held.proofs.Laws.{held-tests}
+use Rattle.held.proofs.Laws.{held_tests}
 use Rattle.held.proofs.record_ok.Goals as goal
 use Rattle.held.proofs.record_ok.Goals.{Start}
 
@@ -28,7 +28,7 @@ tests s =
     let held = s.args.held in
     let l : length held.figures ≡ output_limit = s.well_formed.1.1.0.1.1.0.1.0.1 in
     let e = sym s.requires.heads.outputs in
-    held-tests held w (w OUTPUTS) l (outputs_few w s.requires.sound)
+    held_tests held w (w OUTPUTS) l (outputs_few w s.requires.sound)
     ∙ (λ j. all (fits w held) (tab (λ x. x) (e j) 0) && all (is_zero held) (tab (λ x. x) (output_limit - e j) (e j)))
 
 pub figures_ok-requires : goal.figures_ok-requires

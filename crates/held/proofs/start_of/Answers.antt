@@ -6,7 +6,7 @@ use lib.IntN.{ℤ}
 use lib.ListN.{length}
 use Rattle.model.specs.Image.{crisp_of, word_at, output_at}
 use Rattle.model.specs.Evaluation.{start_of}
-use Rattle.held.proofs.Laws.{no_range, some-range}
+use Rattle.held.proofs.Laws.{no_range, some_range}
 use Rattle.held.proofs.start_of.Goals as goal
 use Rattle.held.proofs.start_of.Goals.{After-output_row-row, After-whole_crisp-least}
 
@@ -17,7 +17,7 @@ range : (c : After-whole_crisp-least) (y : ℤ) →
 range c y ey =
     let w = word_at c.args.img.now in
     let e = c.output_row-row.ensures.by_index w c.requires.0.heads in
-    some-range w c.args.i _ _ e c.whole_word.ensures.0 _ y c.whole_crisp-least.ensures ey c.if-whole_word-eq0.false
+    some_range w c.args.i _ _ e c.whole_word.ensures.0 _ y c.whole_crisp-least.ensures ey c.if-whole_word-eq0.false
 
 -- the row lies in the image
 inside : (c : After-output_row-row) → (c.output_row-row.result + 11) * 4 ≤ length c.args.img.now

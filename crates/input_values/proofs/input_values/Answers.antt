@@ -17,7 +17,7 @@ use Rattle.crisp.specs.Crisp.{InCrisp}
 use Rattle.layout.proofs.Inputs.{input_limit_lem}
 use Rattle.input_values.specs.Filled.{filled, figures, AllCrisp}
 use Rattle.input_values.proofs.Fill.{one_more, filled_sets}
-use Rattle.input_values.proofs.Wrong.{found, found_most, found-next, found_all}
+use Rattle.input_values.proofs.Wrong.{found, found_most, found_next, found_all}
 use Rattle.input_values.proofs.input_values.Goals as goal
 
 -- the values that were found when all were read
@@ -54,7 +54,7 @@ loop-i-preserved c =
     let rs = c.args.rs in
     let xs = found w rs in
     let x = c.in-Value.x in
-    let r = found-next w rs l.i _ c.input_type-kind.result c.taken-value.result (omega (arith, c.requires.heads.inputs)) (omega (arith, c.well_formed)) l.invariant.3
+    let r = found_next w rs l.i _ c.input_type-kind.result c.taken-value.result (omega (arith, c.requires.heads.inputs)) (omega (arith, c.well_formed)) l.invariant.3
     c.input_type-kind.ensures c.taken-value.ensures.0 x.0 (ap value_in c.in-Value.is) in
     let l₀ = replicate input_limit (pos 0) in
     let n = length-take-le l.i xs l.invariant.3 in (

@@ -10,7 +10,7 @@ use lib.Seq.{slice}
 use Rattle.model.specs.Basic.{capital}
 use Rattle.model.specs.Bounds.{symbol_limit}
 use Rattle.model.specs.Tokens.{same_name}
-use Rattle.laws.proofs.Search.{past_start, past_more, past-here, past_end}
+use Rattle.laws.proofs.Search.{past_start, past_more, past_here, past_end}
 use Rattle.lookup.specs.Names.{name_of}
 use Rattle.lookup.proofs.Names as laws
 use Rattle.lookup.proofs.find.Goals as goal
@@ -92,6 +92,6 @@ returns-then-j-eq0 c =
     c.requires.1 (c.requires.3.inside (symbol_limit + k)) (λ m b. l.invariant.1 m (omega arith) b) in
     let same = same_name (slice a.start a.end a.s.now) in
     record {
-      value = past-here same (name_of a.s.now names) a.count a.from o.i (search rules) q o.invariant;
+      value = past_here same (name_of a.s.now names) a.count a.from o.i (search rules) q o.invariant;
       within = search rules;
     }

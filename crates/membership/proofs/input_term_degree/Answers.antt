@@ -56,8 +56,8 @@ ends c =
     let r = read c in
     omega (arith, r.0, r.1, points_within w s.requires.checked.0.sound.frame s.args.t s.requires.checked.1, s.requires.checked.0.heads.points)
 
-points-fine : (c : After-whole_word-first) → all point_ok (tab (point_at (word_at (start c).args.img.now)) c.whole_word-n.result c.whole_word-first.result) ≡ true
-points-fine c =
+points_fine : (c : After-whole_word-first) → all point_ok (tab (point_at (word_at (start c).args.img.now)) c.whole_word-n.result c.whole_word-first.result) ≡ true
+points_fine c =
     let s = start c in
     ap (all point_ok) (points_are c).0 ∙ points_ok (word_at s.args.img.now) s.args.t s.requires.in_crisp.1
 
@@ -100,7 +100,7 @@ returns-then-less c =
     let p = points_are (goal.at.returns-then-less c).After-whole_word-first in
     let e = c.degree_at.ensures in
     let z : first + 0 ≡ first = omega arith in
-    let ok = subst (λ (k : ℕ). point_ok (f k) ≡ true) z (all_at point_ok f n first 0 p.1 (points-fine (goal.at.returns-then-less c).After-whole_word-first)) in (
+    let ok = subst (λ (k : ℕ). point_ok (f k) ≡ true) z (all_at point_ok f n first 0 p.1 (points_fine (goal.at.returns-then-less c).After-whole_word-first)) in (
       e ∙ sym (below_first f x n first p.1 (sym (compared (goal.at.returns-then-less c).After-less) ∙ c.if-less.true)) ∙ ap (λ (ps : List Point). term_degree ps x) p.0,
       rw e (low (f first) ok),
     )
@@ -116,7 +116,7 @@ degree_from-requires c =
       checked = (s.requires.checked.0, omega (arith, (points_are (goal.at.degree_from-requires c).After-whole_word-first).1), ends (goal.at.degree_from-requires c).After-whole_word-first, s.requires.in_crisp.0);
       first_bound = (
         not_below s.args.x.0 (f first).at (sym (compared (goal.at.degree_from-requires c).After-less) ∙ c.if-less.false),
-        subst (λ (k : ℕ). all point_ok (tab f k first) ≡ true) e (points-fine (goal.at.degree_from-requires c).After-whole_word-first),
+        subst (λ (k : ℕ). all point_ok (tab f k first) ≡ true) e (points_fine (goal.at.degree_from-requires c).After-whole_word-first),
       );
     }
 

@@ -8,7 +8,7 @@ pub returns-then-c-ne-NUMBER : goal.returns-then-c-ne-NUMBER
 returns-then-c-ne-NUMBER c =
     let a = c.args in
     record {
-      fault_value = (λ b n. laws.number-none a.s.now a.c c.if-c-ne-NUMBER.true b n);
+      fault_value = (λ b n. laws.number_none a.s.now a.c c.if-c-ne-NUMBER.true b n);
       value = refl;
       kind = λ h. absurd (omega arith);
     }

@@ -8,7 +8,7 @@ pub returns-then-c-ne-NUMBER : goal.returns-then-c-ne-NUMBER
 returns-then-c-ne-NUMBER c =
     let a = c.args in
     record {
-      fault_value = (λ b n. laws.unit-none a.s.now a.c c.if-c-ne-NUMBER.true b n);
+      fault_value = (λ b n. laws.unit_none a.s.now a.c c.if-c-ne-NUMBER.true b n);
       value = refl;
       kind = λ h. absurd (omega arith);
     }
@@ -20,7 +20,7 @@ returns-then-w c =
     let q = c.unit-w.ensures in
     let y = sym q.0 ∙ c.if-w.true in
     record {
-      fault_value = (λ b n. laws.unit-fault a.s.now a.c k 0 b n true y refl);
+      fault_value = (λ b n. laws.unit_fault a.s.now a.c k 0 b n true y refl);
       value = laws.unit_value a.s.now a.c _ y q.1;
       kind = λ h. k;
     }
@@ -32,7 +32,7 @@ returns c =
     let q = c.unit-w.ensures in
     let y = sym q.0 ∙ c.if-w.false in
     record {
-      fault_value = (λ b n. laws.unit-fault a.s.now a.c k 3 b n false y refl);
+      fault_value = (λ b n. laws.unit_fault a.s.now a.c k 3 b n false y refl);
       value = laws.unit_zero a.s.now a.c _ y q.1;
       kind = λ h. absurd (omega arith);
     }

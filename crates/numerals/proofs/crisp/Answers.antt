@@ -16,7 +16,7 @@ pub returns-then-n-gt-MOST_CRISP : goal.returns-then-n-gt-MOST_CRISP
 returns-then-n-gt-MOST_CRISP c =
     let w = c.args.w.now in
     let n = c.amount_of-n in
-    values.high-crisp w n.result.thousandths n.ensures.1 (sym n.ensures.0 ∙ not-false n.result.fits c.if-not-n.false)
+    values.high_crisp w n.result.thousandths n.ensures.1 (sym n.ensures.0 ∙ not-false n.result.fits c.if-not-n.false)
     c.if-n-gt-MOST_CRISP.true
 
 pub overflow_sub-result : goal.overflow_sub-result

@@ -24,11 +24,11 @@ returns-then-n-gt-MOST_RULE_NUMBER c =
     let w = c.args.w.now in
     let d = c.decimal_of-n.ensures.0 ∙ ap decimal (laws.to_end w 0) in
     let a : length w ≤ run is_digit w = omega (arith, c.digits_end.ensures.value) in
-    (values.rule-high w a c.if-w-gt-DIGITS.false (rw (sym d) c.if-n-gt-MOST_RULE_NUMBER.true), omega arith)
+    (values.rule_high w a c.if-w-gt-DIGITS.false (rw (sym d) c.if-n-gt-MOST_RULE_NUMBER.true), omega arith)
 
 pub returns : goal.returns
 returns c =
     let w = c.args.w.now in
     let d = c.decimal_of-n.ensures.0 ∙ ap decimal (laws.to_end w 0) in
     let a : length w ≤ run is_digit w = omega (arith, c.digits_end.ensures.value) in
-    (d ∙ values.rule-is w a c.if-w-gt-DIGITS.false (rw (sym d) c.if-n-gt-MOST_RULE_NUMBER.false), c.if-n-gt-MOST_RULE_NUMBER.false)
+    (d ∙ values.rule_is w a c.if-w-gt-DIGITS.false (rw (sym d) c.if-n-gt-MOST_RULE_NUMBER.false), c.if-n-gt-MOST_RULE_NUMBER.false)

@@ -15,7 +15,7 @@ pub returns-then-unit_limit-n : goal.returns-then-unit_limit-n
 returns-then-unit_limit-n c =
     let w = c.args.w.now in
     let n = c.amount_of-n in
-    values.high-unit w n.result.thousandths n.ensures.1 (sym n.ensures.0 ∙ not-false n.result.fits c.if-not-n.false)
+    values.high_unit w n.result.thousandths n.ensures.1 (sym n.ensures.0 ∙ not-false n.result.fits c.if-not-n.false)
     (rw (sym c.unit_limit.ensures.0) c.if-unit_limit-n.true)
 
 pub overflow_cast-result : goal.overflow_cast-result
@@ -28,5 +28,5 @@ pub returns : goal.returns
 returns c =
     let w = c.args.w.now in
     let n = c.amount_of-n in
-    values.unit-is w n.result.thousandths n.ensures.1 (sym n.ensures.0 ∙ not-false n.result.fits c.if-not-n.false)
+    values.unit_is w n.result.thousandths n.ensures.1 (sym n.ensures.0 ∙ not-false n.result.fits c.if-not-n.false)
     (rw (sym c.unit_limit.ensures.0) c.if-unit_limit-n.false)

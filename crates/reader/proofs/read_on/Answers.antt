@@ -5,7 +5,7 @@ use lib.ListN.{length}
 use Rattle.model.specs.Outcome.{length_in, buffer_after}
 use Rattle.block_tables.specs.View.{block_view}
 use Rattle.rule_heading.specs.Opening.{headed}
-use Rattle.symbol_table.proofs.Laws.{is-symbols, describes}
+use Rattle.symbol_table.proofs.Laws.{is_symbols, describes}
 use Rattle.rule_text.specs.Progress.{holding}
 use Rattle.block_text.proofs.Laws.{parts_there_lem, back_ends}
 use Rattle.reader.proofs.read_on.Goals as goal
@@ -24,7 +24,7 @@ rules-q-requires c =
     let g = c.requires.0.holds in
     let b = headed s h (block_view s t) in (
       c.rule_heading-o.ensures.within.1,
-      is-symbols _ _ c.symbols_of-symbols.ensures _ g,
+      is_symbols _ _ c.symbols_of-symbols.ensures _ g,
       record { rules = omega arith; words = omega arith; conclusions = omega arith },
       record {
         block = b;
@@ -35,7 +35,7 @@ rules-q-requires c =
 
 pub is_complete-requires : goal.is_complete-requires
 is_complete-requires c =
-    let k = is-symbols _ _ c.symbols_of-symbols.ensures _ c.requires.0.holds in
+    let k = is_symbols _ _ c.symbols_of-symbols.ensures _ c.requires.0.holds in
     (k.inputs, k.outputs)
 
 pub back-f-requires : goal.back-f-requires
@@ -70,7 +70,7 @@ returns-then-f-ne0 c =
     let w = holding G.rules b in
     let x = back_ends _ s _ _ c.back-f.ensures w c.rules-q.result.totals.words
     (parts_there_lem s _ _ w (describes _ _ k s g w (laws.inputs_whole s t h G.rules) (laws.outputs_whole s t h G.rules)) ∙ sym c.is_complete.ensures) in
-    let e = laws.refused-so s t h p.cursor c.rule_heading-o.result.cursor c.rules-q.result.cursor G.rules
+    let e = laws.refused_so s t h p.cursor c.rule_heading-o.result.cursor c.rules-q.result.cursor G.rules
     c.rules-q.result.totals.words c.requires.1 (c.rule_heading-o.ensures.n_value (block_view s t) 0 (laws.bare s t)) G.reads c.back-f.result
     x (length c.args.out.now) c.requires.2 c.if-f-ne0.true in
     record {
@@ -102,7 +102,7 @@ returns c =
     let w = holding G.rules b in
     let x = back_ends _ s _ _ c.back-f.ensures w c.rules-q.result.totals.words
     (parts_there_lem s _ _ w (describes _ _ k s g w (laws.inputs_whole s t h G.rules) (laws.outputs_whole s t h G.rules)) ∙ sym c.is_complete.ensures) in
-    let e = laws.accepted-so s t h p.cursor c.rule_heading-o.result.cursor c.rules-q.result.cursor G.rules
+    let e = laws.accepted_so s t h p.cursor c.rule_heading-o.result.cursor c.rules-q.result.cursor G.rules
     c.rules-q.result.totals.words c.requires.1 (c.rule_heading-o.ensures.n_value (block_view s t) 0 (laws.bare s t)) G.reads
     c.back-f.result x (length c.args.out.now) c.requires.2 c.if-f-ne0.false in
     let y = c.store.ensures G.rules (G.kept (c.back-f.ensures.sticky c.if-f-ne0.false)).stored in

@@ -19,8 +19,8 @@ use Rattle.readings.proofs.Bits.{finite, special, at_bits, no_nan, is_nan_lem}
 use Rattle.readings.proofs.real.Goals as goal
 use Rattle.readings.proofs.real.Goals.{After-magnitude-v, Else-x}
 
-fits-x : (c : Else-x) → T (fits binary32 c.args.x)
-fits-x c = subst T (sym c.well_formed.0.1) tt
+fits_x : (c : Else-x) → T (fits binary32 c.args.x)
+fits_x c = subst T (sym c.well_formed.0.1) tt
 
 -- what the code's magnitude is, under the sign s of x
 answered : (c : After-magnitude-v) →
@@ -41,7 +41,7 @@ answered c s es d em ed z ez =
     ∙ ap (λ (y : ℕ). min (magnitude_of y (1000 * (q.result * 2 ^ k.result)) (2 ^ 149)) crisp_limit) ed
     ∙ ap (λ (y : ℕ). min (magnitude_of (side s) (1000 * (y * 2 ^ k.result)) (2 ^ 149)) crisp_limit) q.ensures.0
     ∙ ap (λ (y : ℕ). min (magnitude_of (side s) (1000 * (significand_of e t * 2 ^ y)) (2 ^ 149)) crisp_limit) k.ensures))
-    ∙ sym (at_bits x (fits-x c.before.before.before.before) s es ∙ finite s e t c.if-e-eq255.false)
+    ∙ sym (at_bits x (fits_x c.before.before.before.before) s es ∙ finite s e t c.if-e-eq255.false)
 
 pub returns-then-x : goal.returns-then-x
 returns-then-x c = is_nan_lem c.args.x c.if-x.true
@@ -50,17 +50,17 @@ pub float_to_bits-b : goal.float_to_bits-b
 float_to_bits-b c = no_nan c.args.x c.if-x.false
 
 pub overflow_cast-b : goal.overflow_cast-b
-overflow_cast-b c = omega (arith, to_bits-lt binary32 c.args.x (fits-x (goal.at.overflow_cast-b c).Else-x))
+overflow_cast-b c = omega (arith, to_bits-lt binary32 c.args.x (fits_x (goal.at.overflow_cast-b c).Else-x))
 
 pub returns-then-e-eq255 : goal.returns-then-e-eq255
 returns-then-e-eq255 c =
     let x = c.args.x in
     let n = to_bits binary32 x in
-    sym (at_bits x (fits-x (goal.at.returns-then-e-eq255 c).Else-x) (leb 2147483648 n) refl ∙ special (leb 2147483648 n) (n % 2147483648 / 8388608) (n % 8388608) c.if-e-eq255.true)
+    sym (at_bits x (fits_x (goal.at.returns-then-e-eq255 c).Else-x) (leb 2147483648 n) refl ∙ special (leb 2147483648 n) (n % 2147483648 / 8388608) (n % 8388608) c.if-e-eq255.true)
 
 pub magnitude-v-requires : goal.magnitude-v-requires
 magnitude-v-requires c = (
-  omega (arith, to_bits-lt binary32 c.args.x (fits-x (goal.at.magnitude-v-requires c).Else-x)),
+  omega (arith, to_bits-lt binary32 c.args.x (fits_x (goal.at.magnitude-v-requires c).Else-x)),
   c.significand-q.ensures.1,
   λ h. c.significand-q.ensures.2 (omega (arith, c.exponent-k.ensures)),
 )
@@ -80,5 +80,5 @@ pub returns-else-b-lt2147483648 : goal.returns-else-b-lt2147483648
 returns-else-b-lt2147483648 c =
     let v = c.magnitude-v in
     let n = to_bits binary32 c.args.x in
-    answered (goal.at.returns-else-b-lt2147483648 c).After-magnitude-v true (le-leb 2147483648 n c.if-b-lt2147483648.false) _ v.ensures.0 (omega (arith, to_bits-lt binary32 c.args.x (fits-x (goal.at.returns-else-b-lt2147483648 c).Else-x))) _
+    answered (goal.at.returns-else-b-lt2147483648 c).After-magnitude-v true (le-leb 2147483648 n c.if-b-lt2147483648.false) _ v.ensures.0 (omega (arith, to_bits-lt binary32 c.args.x (fits_x (goal.at.returns-else-b-lt2147483648 c).Else-x))) _
     (negated v.result v.ensures.1)

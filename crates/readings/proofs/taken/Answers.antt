@@ -10,8 +10,8 @@ use Rattle.readings.proofs.Bounds.{at_value, real_bounded, value_is}
 use Rattle.readings.proofs.taken.Goals as goal
 use Rattle.readings.proofs.taken.Goals.{After-int}
 
-fits-int : (c : After-int) → SFits w16 c.in-Int-reading-2.n
-fits-int c = search rules
+fits_int : (c : After-int) → SFits w16 c.in-Int-reading-2.n
+fits_int c = search rules
 
 pub returns-in-Real-reading : goal.returns-in-Real-reading
 unfolding taken
@@ -35,7 +35,7 @@ unfolding taken
 returns-in-Int-reading-2 c =
     let n = c.in-Int-reading-2.n in
     rw (c.in-Int.is, c.in-Int-reading-2.is) (
-      value_is c.int.result (n *ℤ pos 1000) (c.int.ensures.0 ∙ ap (λ (z : ℤ). z *ℤ pos 1000) (to_z-of_z w16 n (fits-int (goal.at.returns-in-Int-reading-2 c).After-int))),
+      value_is c.int.result (n *ℤ pos 1000) (c.int.ensures.0 ∙ ap (λ (z : ℤ). z *ℤ pos 1000) (to_z-of_z w16 n (fits_int (goal.at.returns-in-Int-reading-2 c).After-int))),
       at_value
           (Value c.int.result) c.int.ensures.1,
     )

@@ -6,7 +6,7 @@ use Rattle.model.specs.Outcome.{buffer_after}
 use Rattle.model.specs.Refusals.{written_of}
 use Rattle.model.specs.Buffers.{reads_into}
 use Rattle.relisting.specs.Relists.{relists}
-use Rattle.relisting.proofs.Again.{both-stay, Listed, listed, unlisted}
+use Rattle.relisting.proofs.Again.{both_stay, Listed, listed, unlisted}
 use Rattle.relisting.proofs.relist.Goals as goal
 use Rattle.relisting.proofs.relist.Goals.{In-Bytes}
 
@@ -21,7 +21,7 @@ pub returns-then-out-img : goal.returns-then-out-img
 unfolding relists
 returns-then-out-img c =
     let a = c.args in
-    let b = both-stay a.img.now (length a.text.now) (length a.out.now) c.if-out-img.true (loads a.img.now) a.text.now a.out.now in
+    let b = both_stay a.img.now (length a.text.now) (length a.out.now) c.if-out-img.true (loads a.img.now) a.text.now a.out.now in
     record {
       value = c.without_room.ensures;
       listing = b.0;

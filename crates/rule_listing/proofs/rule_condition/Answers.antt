@@ -18,10 +18,10 @@ within c =
     omega (arith, c.rule_row-o.ensures.by_index (word_at c.args.img.now) h, h.rule_table_lem, c.requires.0.holds.rules, h.rules, c.requires.1)
 
 -- the words of the rule's row that were read
-reads-are : (c : After-whole_word-n) →
+reads_are : (c : After-whole_word-n) →
     let w = word_at c.args.img.now in
     (c.whole_word-first.result ≡ word_first w c.args.i) × (c.whole_word-n.result ≡ word_count w c.args.i)
-reads-are c =
+reads_are c =
     let w = word_at c.args.img.now in
     let o = c.rule_row-o.ensures.by_index w c.requires.0.heads in
     (field w _ _ 1 _ c.whole_word-first.ensures.0 o, field w _ _ 2 _ c.whole_word-n.ensures.0 o)
@@ -50,14 +50,14 @@ overflow_add-h-2 c =
 pub condition-m-requires : goal.condition-m-requires
 condition-m-requires c =
     let hd = c.requires.0.heads in
-    let r = reads-are (goal.at.condition-m-requires c).After-whole_word-n in
+    let r = reads_are (goal.at.condition-m-requires c).After-whole_word-n in
     let l = words_within (word_at c.args.img.now) c.requires.0.sound.rules c.args.i c.requires.1 in
     (c.requires.0, omega (arith, r.0, r.1, l, hd.words, c.requires.0.holds.words))
 
 pub returns : goal.returns
 returns c =
     let w = word_at c.args.img.now in
-    let r = reads-are (goal.at.returns c).After-whole_word-n in
+    let r = reads_are (goal.at.returns c).After-whole_word-n in
     let at : c.args.h.word_table + c.whole_word-first.result ≡ w WORD_TABLE + word_first w c.args.i
     = λ j. c.requires.0.heads.word_table j + r.0 j in
     (c.condition-m.ensures.writes _ (rule_at w c.args.i).condition (rule_spans w c.requires.0.sound c.args.i c.requires.1 _ _ at r.1)).1

@@ -7,7 +7,7 @@ use Rattle.model.specs.Image.{word_at, WORD_TABLE}
 use Rattle.layout.proofs.Parts.{word_first}
 use Rattle.laws.proofs.Tests.{one_fails, last_decides}
 use Rattle.rule_rows.specs.Rows.{rule_stored}
-use Rattle.rule_rows.proofs.Rules.{conclusions_right, conclusions_words, condition-stored, rule_tests, rule_words}
+use Rattle.rule_rows.proofs.Rules.{conclusions_right, conclusions_words, condition_stored_lem, rule_tests, rule_words}
 use Rattle.rule_rows.proofs.rule_ok.Goals as goal
 use Rattle.rule_rows.proofs.rule_ok.Goals.{After-conclusions_ok, Start}
 
@@ -49,7 +49,7 @@ returns c =
     let q = c.requires.5 in
     let d : a.h.word_table + a.p.word_first ≡ w WORD_TABLE + word_first w a.i = λ j. c.requires.1.word_table j + q.word_first_lem j in
     c.stored_condition.ensures
-    ∙ condition-stored w c.requires.0 a.m c.requires.2 a.i _ _ d q.words
+    ∙ condition_stored_lem w c.requires.0 a.m c.requires.2 a.i _ _ d q.words
     ∙ sym (read (goal.at.returns c).Start ∙ last_decides (_ ∷ _ ∷ _ ∷ []) _ (
       sym c.number_ok.ensures ∙ c.if-not-number_ok.false,
       (sym c.weight_ok.ensures ∙ c.if-not-weight_ok.false, (sym (told (goal.at.returns c).After-conclusions_ok) ∙ c.if-not-conclusions_ok.false, tt)),

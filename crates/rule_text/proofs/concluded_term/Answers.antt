@@ -16,7 +16,7 @@ returns-then-w-ne0 c = let p = c.args.p in
     let z = c.not_concluded.ensures.count in
     record {
       concludes = (λ b rs q m d. laws.concludes_none _ _ a z
-          (laws.term-fault s _ _ b d rs q p.cursor m _ (c.name_fault-w.ensures.by_index s g.0 (midst b rs q) m) c.if-w-ne0.true _));
+          (laws.term_fault s _ _ b d rs q p.cursor m _ (c.name_fault-w.ensures.by_index s g.0 (midst b rs q) m) c.if-w-ne0.true _));
       onward = laws.onward_none _ a z (search rules);
     }
 
@@ -33,7 +33,7 @@ returns-then-symbols-v c =
     let z = c.not_concluded-then-symbols-v.ensures.count in
     record {
       concludes = (λ b rs q m d. laws.concludes_none _ _ a z
-          (laws.term-unknown s _ _ b d rs q p.cursor m (sym c.if-w-ne0.false ∙ c.name_fault-w.ensures.by_index s g.0 (midst b rs q) m) _ g.2 _
+          (laws.term_unknown s _ _ b d rs q p.cursor m (sym c.if-w-ne0.false ∙ c.name_fault-w.ensures.by_index s g.0 (midst b rs q) m) _ g.2 _
           c.term_of-j.ensures.value c.if-symbols-v.true));
       onward = laws.onward_none _ a z (search rules);
     }
@@ -63,7 +63,7 @@ returns c =
     let k = c.name_fault-w.ensures.kind c.if-w-ne0.false in
     record {
       concludes = (λ b rs q m d. laws.concludes_one m _ _ p _ a
-          (laws.term-known s _ _ b d rs q p.cursor m (sym c.if-w-ne0.false ∙ c.name_fault-w.ensures.by_index s g.0 (midst b rs q) m) _ g.2 _
+          (laws.term_known s _ _ b d rs q p.cursor m (sym c.if-w-ne0.false ∙ c.name_fault-w.ensures.by_index s g.0 (midst b rs q) m) _ g.2 _
           c.term_of-j.ensures.value c.if-symbols-v.false (g.0.halted (λ z. omega (arith, k)))) _
           (laws.two_put c.args.conclusions.now (p.count * 2) c.args.o (get_or c.args.symbols.now (input_limit + c.args.o) 0 + c.term_of-j.result)));
       onward = record { fewer = a.fewer; fits = a.fits; grows = search rules; count = search rules };

@@ -17,7 +17,7 @@ returns-then-w-ne0 c = let p = c.args.p in
     let z = c.not_concluded.ensures.count in
     record {
       concludes = (λ b rs q m d n. laws.concludes_none _ _ a z
-          (laws.output-fault s _ _ b d rs q p.cursor m _ (c.name_fault-w.ensures.by_index s g.0 (midst b rs q) m) c.if-w-ne0.true));
+          (laws.output_fault s _ _ b d rs q p.cursor m _ (c.name_fault-w.ensures.by_index s g.0 (midst b rs q) m) c.if-w-ne0.true));
       onward = laws.onward_none _ a z (search rules);
     }
 
@@ -30,7 +30,7 @@ returns-then-symbols-o c =
     let z = c.not_concluded-then-symbols-o.ensures.count in
     record {
       concludes = (λ b rs q m d n. laws.concludes_none _ _ a z
-          (laws.output-unknown s _ _ b d rs q p.cursor m (sym c.if-w-ne0.false ∙ c.name_fault-w.ensures.by_index s g.0 (midst b rs q) m) _
+          (laws.output_unknown s _ _ b d rs q p.cursor m (sym c.if-w-ne0.false ∙ c.name_fault-w.ensures.by_index s g.0 (midst b rs q) m) _
           c.output_of-o.ensures.value c.if-symbols-o.true));
       onward = laws.onward_none _ a z (search rules);
     }
@@ -44,7 +44,7 @@ returns-then-p-ge-CONCLUSIONS c =
     let z = c.not_concluded-then-p-ge-CONCLUSIONS.ensures.count in
     record {
       concludes = (λ b rs q m d n. laws.concludes_none _ _ a z
-          (laws.output-full s _ _ b d rs q p.cursor m (sym c.if-w-ne0.false ∙ c.name_fault-w.ensures.by_index s g.0 (midst b rs q) m) _
+          (laws.output_full s _ _ b d rs q p.cursor m (sym c.if-w-ne0.false ∙ c.name_fault-w.ensures.by_index s g.0 (midst b rs q) m) _
           c.output_of-o.ensures.value _ n c.if-symbols-o.false c.if-p-ge-CONCLUSIONS.true));
       onward = laws.onward_none _ a z (search rules);
     }
@@ -61,7 +61,7 @@ returns c =
     let a = steps c.advance-d.ensures.step c.expect-e.ensures.step in
     record {
       concludes = (λ b rs q m d n. laws.as_well {part = λ y. concluded_term c.output_of-o.result (expect IS (advance y))}
-          (laws.output-known s _ _ b d rs q p.cursor m (sym c.if-w-ne0.false ∙ c.name_fault-w.ensures.by_index s g.0 (midst b rs q) m) _
+          (laws.output_known s _ _ b d rs q p.cursor m (sym c.if-w-ne0.false ∙ c.name_fault-w.ensures.by_index s g.0 (midst b rs q) m) _
           c.output_of-o.ensures.value _ n c.if-symbols-o.false c.if-p-ge-CONCLUSIONS.false)
           (laws.step_concludes a (c.concluded_term.ensures.concludes b rs q m d)));
       onward = laws.step_onward a c.concluded_term.ensures.onward;

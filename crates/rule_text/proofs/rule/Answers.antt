@@ -22,7 +22,7 @@ returns-then-t-ge-RULES c =
     let x = c.refused-then-t-ge-RULES.ensures.by_index s g.0 in
     let z = c.refused-then-t-ge-RULES.ensures.totals in
     record {
-      goes = (λ b d k. laws.goes_none 6 x.0 z.0 z.1 (laws.rule-full s b _ _ c.if-c.false _ k.rules_count c.if-t-ge-RULES.true));
+      goes = (λ b d k. laws.goes_none 6 x.0 z.0 z.1 (laws.rule_full s b _ _ c.if-c.false _ k.rules_count c.if-t-ge-RULES.true));
       within = laws.within_none 6 x.0 z.0 g.2;
       moves = x.1;
     }

@@ -19,7 +19,7 @@ returns-then-is_used c =
     let a = c.refuse-then-is_used.ensures.by_index s c.requires.0 in
     let v = simp (eq-eqb _ _ c.if-x-ne0.false) at c.number_here-x.ensures.value in
     record {
-      m_value = (λ b m w. a.reads b m ∙ sym (laws.number-used s _ b m (sym c.if-x-ne0.false ∙ c.number_here-x.ensures.fault_value b m) _ v
+      m_value = (λ b m w. a.reads b m ∙ sym (laws.number_used s _ b m (sym c.if-x-ne0.false ∙ c.number_here-x.ensures.fault_value b m) _ v
           (sym c.if-is_used.true ∙ c.is_used.ensures b.rules w)));
       within = (a.fewer, a.fits, λ h. absurd (c.refuse-then-is_used.ensures.halted h));
     }
@@ -34,7 +34,7 @@ returns c =
     let a = c.advance.ensures.step in
     let v = simp (eq-eqb _ _ c.if-x-ne0.false) at c.number_here-x.ensures.value in
     record {
-      m_value = (λ b m w. a.reads b m ∙ sym (laws.number-free s _ b m (sym c.if-x-ne0.false ∙ c.number_here-x.ensures.fault_value b m) _ v
+      m_value = (λ b m w. a.reads b m ∙ sym (laws.number_free s _ b m (sym c.if-x-ne0.false ∙ c.number_here-x.ensures.fault_value b m) _ v
           (sym c.if-is_used.false ∙ c.is_used.ensures b.rules w)));
       within = (a.fewer, a.fits, λ h. v);
     }

@@ -19,7 +19,7 @@ returns-then-x-ne0 c =
     let a = c.advance-d.ensures.step in
     let x = c.refuse.ensures.by_index s a.fits in
     record {
-      m_value = (λ b rs q m h. laws.weight-fault s b rs q m _ _ c.if-c-ne-WITH.false a _ _ (c.unit_here-x.ensures.fault_value (midst b rs q) m) c.if-x-ne0.true x h);
+      m_value = (λ b rs q m h. laws.weight_fault s b rs q m _ _ c.if-c-ne-WITH.false a _ _ (c.unit_here-x.ensures.fault_value (midst b rs q) m) c.if-x-ne0.true x h);
       within = (omega (arith, a.fewer, x.fewer), x.fits);
     }
 
@@ -34,7 +34,7 @@ returns c =
     let x = c.advance-e.ensures.step in
     let k = c.unit_here-x.ensures.kind c.if-x-ne0.false in
     record {
-      m_value = (λ b rs q m h. laws.weight-given s b rs q m _ _ c.if-c-ne-WITH.false a _ _
+      m_value = (λ b rs q m h. laws.weight_given s b rs q m _ _ c.if-c-ne-WITH.false a _ _
           (sym c.if-x-ne0.false ∙ c.unit_here-x.ensures.fault_value (midst b rs q) m) x (a.fits.halted (λ z. omega (arith, k)))
           (simp (eq-eqb _ _ c.if-x-ne0.false) at c.unit_here-x.ensures.value));
       within = (omega (arith, a.fewer, x.fewer), x.fits);

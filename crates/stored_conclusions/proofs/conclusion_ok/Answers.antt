@@ -17,8 +17,8 @@ within c =
     let hd = c.requires.1 in
     omega (arith, c.conclusion_row-o.ensures.by_index (word_at c.args.img.now) hd, hd.conclusion_table, c.requires.2.conclusions)
 
-within-output : (c : After-output_row-v) → (c.output_row-v.result + 11) * 4 ≤ length c.args.img.now
-within-output c =
+within_output : (c : After-output_row-v) → (c.output_row-v.result + 11) * 4 ≤ length c.args.img.now
+within_output c =
     let hd = c.requires.1 in
     omega (arith, c.output_row-v.ensures.by_index (word_at c.args.img.now) hd, hd.output_table_lem, c.requires.2.outputs)
 
@@ -43,7 +43,7 @@ pub output_row-v-requires : goal.output_row-v-requires
 output_row-v-requires c = let hd = c.requires.1 in omega (arith, hd.output_table_lem, hd.fits 10)
 
 pub whole_word-first-requires : goal.whole_word-first-requires
-whole_word-first-requires c = omega (arith, within-output (goal.at.whole_word-first-requires c).After-output_row-v)
+whole_word-first-requires c = omega (arith, within_output (goal.at.whole_word-first-requires c).After-output_row-v)
 
 pub returns-then-t-first : goal.returns-then-t-first
 returns-then-t-first c =
@@ -56,7 +56,7 @@ returns-then-t-first c =
     ∙ one_fails _ 1 (lt-leb _ _ c.if-t-first.true))
 
 pub whole_word-requires : goal.whole_word-requires
-whole_word-requires c = omega (arith, within-output (goal.at.whole_word-requires c).After-output_row-v)
+whole_word-requires c = omega (arith, within_output (goal.at.whole_word-requires c).After-output_row-v)
 
 pub returns : goal.returns
 returns c =

@@ -6,7 +6,7 @@ use Rattle.model.specs.Image.{word_at, point_words, POINT_TABLE}
 use Rattle.header.proofs.Laws.{small}
 use Rattle.layout.specs.Tables.{alone, onward, output_point_at}
 use Rattle.stored_header.proofs.Lists.{equal, differs}
-use Rattle.stored_rows.proofs.RowTests.{point-row}
+use Rattle.stored_rows.proofs.RowTests.{point_row_lem}
 use Rattle.stored_tables.proofs.Loops.{rows_from, rows_more, rows_stop, rows_end}
 use Rattle.stored_tables.proofs.singleton_points.Goals as goal
 
@@ -32,7 +32,7 @@ returns-then-whole_word-ne-M c =
     let o = c.point_row.ensures.by_index w c.requires.0 in
     let h = c.loop-i-test.true in
     let e = c.whole_word.ensures.0 ∙ ap (λ (k : ℕ). w (k + 1)) o in
-    let t = point-row w c.requires.0.fits l.i ∙ differs _ _ _ e c.if-whole_word-ne-M.true in
+    let t = point_row_lem w c.requires.0.fits l.i ∙ differs _ _ _ e c.if-whole_word-ne-M.true in
     rows_stop (alone point_words) onward (output_point_at w) w (w POINT_TABLE) 2 (a.s + a.n) l.i tt _ h t l.invariant.1
 
 pub loop-i-preserved : goal.loop-i-preserved
@@ -43,7 +43,7 @@ loop-i-preserved c =
     let o = c.point_row.ensures.by_index w c.requires.0 in
     let h = c.loop-i-test.true in
     let e = c.whole_word.ensures.0 ∙ ap (λ (k : ℕ). w (k + 1)) o in
-    let t = point-row w c.requires.0.fits l.i ∙ equal _ _ _ e c.if-whole_word-ne-M.false in
+    let t = point_row_lem w c.requires.0.fits l.i ∙ equal _ _ _ e c.if-whole_word-ne-M.false in
     (search rules, rows_more (alone point_words) onward (output_point_at w) w (w POINT_TABLE) 2 (a.s + a.n) l.i tt _ tt h t refl l.invariant.1)
 
 pub returns : goal.returns

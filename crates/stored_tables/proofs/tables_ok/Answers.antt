@@ -12,7 +12,7 @@ use Rattle.layout.proofs.Within.{holds}
 use Rattle.laws.proofs.Tests.{clash, one_fails}
 use Rattle.stored_tables.specs.Tests.{output_rows_from}
 use Rattle.stored_tables.proofs.Loops.{seen}
-use Rattle.stored_tables.proofs.Whole.{refuses, too_few, not-all, all_there, rest-are, tables_left}
+use Rattle.stored_tables.proofs.Whole.{refuses, too_few, not_all, all_there, rest_are, tables_left}
 use Rattle.stored_tables.proofs.tables_ok.Goals as goal
 use Rattle.stored_tables.proofs.tables_ok.Goals.{Else-not-header_ok}
 
@@ -76,7 +76,7 @@ returns-then-b-h c =
     let t = c.requires.0.terms in
     let k = c.input_rows-a.ensures.1 (not-false _ c.if-not-a.false) in
     let o = c.output_rows-b.ensures.1 (not-false _ c.if-not-b.false) in
-    let e = one_fails _ 6 (not-all _ _ _ _ _ t k _ o c.if-b-h.true) in
+    let e = one_fails _ 6 (not_all _ _ _ _ _ t k _ o c.if-b-h.true) in
     record {
       ok_value = refuses _ _ c.refused-then-b-h.ensures.0 e;
       small = (search rules, (λ e. c.refused-then-b-h.ensures.1));
@@ -97,7 +97,7 @@ returns-then-not-terms_ok c =
     let t = c.requires.0.terms in
     let s = c.if-b-h.false in
     let r = seen (λ (p : ℕ). output_rows_from w p) _ _ _ _ _ (i.1 g) o.0 h refl in
-    let e = rest-are _ _ _ _ (output_terms_in w) t (i.1 g) _ (o.1 h) s in
+    let e = rest_are _ _ _ _ (output_terms_in w) t (i.1 g) _ (o.1 h) s in
     let a = all_there _ _ _ _ (output_terms_in w) t (i.1 g) _ (o.1 h) s in
     let head = sym c.header_ok.ensures ∙ c.if-not-header_ok.false in
     let l = tables_left w _ _ (i.1 g) e head (sym i.0 ∙ g) r a in
@@ -118,7 +118,7 @@ returns c =
     let t = c.requires.0.terms in
     let s = c.if-b-h.false in
     let r = seen (λ (p : ℕ). output_rows_from w p) _ _ _ _ _ (i.1 g) o.0 h refl in
-    let e = rest-are _ _ _ _ (output_terms_in w) t (i.1 g) _ (o.1 h) s in
+    let e = rest_are _ _ _ _ (output_terms_in w) t (i.1 g) _ (o.1 h) s in
     let a = all_there _ _ _ _ (output_terms_in w) t (i.1 g) _ (o.1 h) s in
     let head = sym c.header_ok.ensures ∙ c.if-not-header_ok.false in
     let l = tables_left w _ _ (i.1 g) e head (sym i.0 ∙ g) r a in

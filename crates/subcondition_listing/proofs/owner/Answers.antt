@@ -4,7 +4,7 @@ use borrow.Author.Rules.{rules}
 use lib.ListN.{length}
 use Rattle.model.specs.Image.{word_at, INPUTS}
 use Rattle.laws.proofs.Places.{field}
-use Rattle.subcondition_listing.proofs.Names.{among_all, among_next, among-found, among_none}
+use Rattle.subcondition_listing.proofs.Names.{among_all, among_next, among_found, among_none}
 use Rattle.subcondition_listing.proofs.owner.Goals as goal
 use Rattle.subcondition_listing.proofs.owner.Goals.{After-input_row-row}
 
@@ -37,7 +37,7 @@ returns-then-t-first c =
     let o = c.input_row-row.ensures.by_index w hd in
     let below : l.i < w INPUTS = omega (arith, hd.inputs) in
     record {
-      t_value = λ h. among-found w c.args.t l.i _ _ below (field w _ _ 5 _ c.whole_word-first.ensures.0 o) (field w _ _ 6 _ c.whole_word.ensures.0 o)
+      t_value = λ h. among_found w c.args.t l.i _ _ below (field w _ _ 5 _ c.whole_word-first.ensures.0 o) (field w _ _ 6 _ c.whole_word.ensures.0 o)
           c.if-t-first.true l.invariant.1;
       none = λ h. absurd (omega (arith, hd.inputs));
     }

@@ -4,7 +4,7 @@ use borrow.Author.Rules.{rules}
 use Rattle.model.specs.Block.{may_follow}
 use Rattle.model.specs.WellFormed.{point_ok}
 use Rattle.model.specs.Image.{word_at, point_at}
-use Rattle.term_points.proofs.Points.{taken, ends_first, ends_next, point-bad, place-bad, point-good, points_end, points_start}
+use Rattle.term_points.proofs.Points.{taken, ends_first, ends_next, point_bad, place_bad, point_good, points_end, points_start}
 use Rattle.term_points.proofs.points_ok.Goals as goal
 use Rattle.term_points.proofs.points_ok.Goals.{After-may_stand, After-point_ok}
 
@@ -36,14 +36,14 @@ returns-then-not-point_ok c =
     let a = c.args in
     let l = c.loop-i in
     let bad = sym (right (goal.at.returns-then-not-point_ok c).After-point_ok) ∙ c.if-not-point_ok.true in
-    sym (point-bad (point_at (word_at a.img.now)) a.s a.k l.i c.loop-i-test.true bad) ∙ l.invariant.2
+    sym (point_bad (point_at (word_at a.img.now)) a.s a.k l.i c.loop-i-test.true bad) ∙ l.invariant.2
 
 pub returns-then-not-may_stand : goal.returns-then-not-may_stand
 returns-then-not-may_stand c =
     let a = c.args in
     let l = c.loop-i in
     let bad = follows (goal.at.returns-then-not-may_stand c).After-may_stand ∙ c.if-not-may_stand.true in
-    sym (place-bad (point_at (word_at a.img.now)) a.s a.k l.i c.loop-i-test.true bad) ∙ l.invariant.2
+    sym (place_bad (point_at (word_at a.img.now)) a.s a.k l.i c.loop-i-test.true bad) ∙ l.invariant.2
 
 pub loop-i-preserved : goal.loop-i-preserved
 loop-i-preserved c =
@@ -54,7 +54,7 @@ loop-i-preserved c =
     let position = follows (goal.at.loop-i-preserved c).After-may_stand ∙ c.if-not-may_stand.false in (
       search rules,
       ends_next f a.s a.k l.i l.last _ c.place_at-x.ensures l.invariant.1,
-      sym (point-good f a.s a.k l.i c.loop-i-test.true point position) ∙ l.invariant.2,
+      sym (point_good f a.s a.k l.i c.loop-i-test.true point position) ∙ l.invariant.2,
     )
 
 pub returns : goal.returns
