@@ -53,7 +53,7 @@ def declared():
             continue
         lines = read(p).split("\n")
         block = None
-        section = False
+        section, within = False, 1000
         for k, l in enumerate(lines):
             if l and not l.startswith(" "):
                 section = l.startswith("module _")
@@ -70,6 +70,15 @@ def declared():
                     spec.add(m[1])
                 if re.search(r"(→|:) Type \d$", s.strip()):
                     facts.add(m[1])
+            # the fields of a record within a module
+            m = re.match(r"( +)(?:pub )?record " + NAME, l)
+            if m:
+                within = len(m[1])
+            elif l.strip() and len(l) - len(l.lstrip(" ")) <= within:
+                within = 1000
+            m = re.match(r" +(?:pub )?(" + NAME + r") :(?: |$)", l)
+            if m and within < 1000:
+                fields.add(m[1])
             m = re.match(r"(?:(?:abbrev|unfoldable|pub) )*(record|data) (" + NAME + ")", l)
             if m:
                 tops.add(m[2])

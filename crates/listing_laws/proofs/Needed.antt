@@ -419,7 +419,7 @@ module _ (b : Block) (h : well_formed b ≡ true) where
             → (t : Bool) → ltb (bare_left o) (form x) ≡ t → ⊥
         go less true loose =
             let p = both (terms_below n x) (terms_below n y) q in
-            let reads = paren_read f b g (bare_left o) x loose (whole f b g x (all_ok f b g n named x p.0).oOk) d w later (omega arith) (omega arith) in
+            let reads = paren_read f b g (bare_left o) x loose (whole f b g x (all_ok f b g n named x p.0).o_ok) d w later (omega arith) (omega arith) in
             apart x a (omega arith) (sym (ap (λ (r : ConditionRead). r.tree) reads) ∙ moved)
         go less false tight =
             let same : placed g (bare_left o) x ≡ condition_items g x = rw tight in

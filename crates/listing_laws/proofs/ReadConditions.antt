@@ -301,14 +301,14 @@ module _ (f : ℕ → ℕ) (b : Block) (g : ℕ → TermNames) where
         q : AOk (two and a e)
         q d w j rest x hd hw go n h =
             ap (λ (k : List Item). chain_on n (op d) AND and (op d (at f k b w))) (append_assoc (shown 3 a) (keyword "AND" ∷ shown 2 e) rest)
-            ∙ oa.aOk d w (suc j) (keyword "AND" ∷ (shown 2 e ++ rest)) x (omega arith) (omega arith) step n
+            ∙ oa.a_ok d w (suc j) (keyword "AND" ∷ (shown 2 e ++ rest)) x (omega arith) (omega arith) step n
             (omega (arith, length-append (shown 3 a) (keyword "AND" ∷ shown 2 e)))
           where
             step : (n : ℕ) → suc j ≤ n → chain_on n (op d) AND and (read (keyword "AND" ∷ (shown 2 e ++ rest)) (w + size a) a) ≡ x
             step zero l = absurd (omega arith)
             step (suc n) l =
                 chain_more (op d) AND and n _ (shown 2 e ++ rest) (w + size a) a e rest (w + (size a + size e + 1)) (omega arith)
-                (oe.nOk d (w + size a + 1) rest (omega arith) (omega arith) ∙ ap (λ (v : ℕ). read rest v e) (omega arith))
+                (oe.n_ok d (w + size a + 1) rest (omega arith) (omega arith) ∙ ap (λ (v : ℕ). read rest v e) (omega arith))
                 ∙ go n (omega arith)
 
         o : OOk (two and a e)
@@ -324,14 +324,14 @@ module _ (f : ℕ → ℕ) (b : Block) (g : ℕ → TermNames) where
         o : OOk (two or a e)
         o d w j rest x t hd hw go n h =
             ap (λ (k : List Item). chain_on n (ands d) OR or (ands d (at f k b w))) (append_assoc (shown 4 a) (keyword "OR" ∷ shown 3 e) rest)
-            ∙ oa.oOk d w (suc j) (keyword "OR" ∷ (shown 3 e ++ rest)) x refl (omega arith) (omega arith) step n
+            ∙ oa.o_ok d w (suc j) (keyword "OR" ∷ (shown 3 e ++ rest)) x refl (omega arith) (omega arith) step n
             (omega (arith, length-append (shown 4 a) (keyword "OR" ∷ shown 3 e)))
           where
             step : (n : ℕ) → suc j ≤ n → chain_on n (ands d) OR or (read (keyword "OR" ∷ (shown 3 e ++ rest)) (w + size a) a) ≡ x
             step zero l = absurd (omega arith)
             step (suc n) l =
                 chain_more (ands d) OR or n _ (shown 3 e ++ rest) (w + size a) a e rest (w + (size a + size e + 1)) (omega arith)
-                (and_read e oe.aOk d (w + size a + 1) rest t (omega arith) (omega arith) ∙ ap (λ (v : ℕ). read rest v e) (omega arith))
+                (and_read e oe.a_ok d (w + size a + 1) rest t (omega arith) (omega arith) ∙ ap (λ (v : ℕ). read rest v e) (omega arith))
                 ∙ go n (omega arith)
 
         n : NOk (two or a e)
@@ -343,8 +343,8 @@ module _ (f : ℕ → ℕ) (b : Block) (g : ℕ → TermNames) where
     unfolding terms_below
     all_ok (term t) h = ok_term t (named t (ltb-true t m h))
     all_ok (neg (term t)) h = ok_not_term t (named t (ltb-true t m h))
-    all_ok (neg (neg c)) h = ok_neg (neg c) (neg_not_term c) (all_ok (neg c) h).pOk
-    all_ok (neg (two o a e)) h = ok_neg (two o a e) (two_not_term o a e) (all_ok (two o a e) h).pOk
+    all_ok (neg (neg c)) h = ok_neg (neg c) (neg_not_term c) (all_ok (neg c) h).p_ok
+    all_ok (neg (two o a e)) h = ok_neg (two o a e) (two_not_term o a e) (all_ok (two o a e) h).p_ok
     all_ok (two and a e) h = let q = both (terms_below m a) (terms_below m e) h in ok_and a e (all_ok a q.0) (all_ok e q.1)
     all_ok (two or a e) h = let q = both (terms_below m a) (terms_below m e) h in ok_or a e (all_ok a q.0) (all_ok e q.1)
 
@@ -352,4 +352,4 @@ module _ (f : ℕ → ℕ) (b : Block) (g : ℕ → TermNames) where
         → (w : ℕ) (rest : List Item) → eqb (head_kind rest) AND ≡ false → eqb (head_kind rest) OR ≡ false → w + size c ≤ word_limit
         → condition (at f (condition_items g c ++ rest) b w) ≡ condition_read (at f rest b (w + size c)) c
     unfolding condition
-    condition_reads c h hd w rest u v hw = whole c (all_ok c h).oOk depth_limit w rest u v hd hw
+    condition_reads c h hd w rest u v hw = whole c (all_ok c h).o_ok depth_limit w rest u v hd hw
