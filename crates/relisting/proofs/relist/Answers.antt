@@ -41,7 +41,7 @@ returns-in-Bytes c =
     let w = written (goal.at.returns-in-Bytes c).In-Bytes in
     record {
       value = w.answer;
-      listing = w.text-holds;
+      listing = w.text_holds;
       image = c.read.ensures.buffer ∙ ap (λ s. buffer_after a.out.now (reads_into (length a.out.now) s)) w.front ∙ w.image_holds a.out.now;
     }
 
@@ -52,6 +52,6 @@ returns-in-Refused c =
     (sym (ap written_of c.in-Refused.is) ∙ c.list.ensures.result_value) in
     record {
       value = c.without_listing.ensures ∙ u.answer;
-      listing = c.list.ensures.buffer ∙ u.text-stays a.text.now;
-      image = u.image-stays a.out.now;
+      listing = c.list.ensures.buffer ∙ u.text_stays a.text.now;
+      image = u.image_stays a.out.now;
     }
