@@ -25,7 +25,7 @@ REACHED = {
     "readings::real",
     "terms::on_line",
     "degrees::prod",
-    "centre::centre_of",
+    "centre::Sums::centre",
 }
 
 

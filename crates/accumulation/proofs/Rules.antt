@@ -4,31 +4,22 @@ use mathlib.Core.List.{List, [], ◌∷◌, map}
 use mathlib.Core.Bool.{true}
 use Prim.Native.Nat.{ℕ, zero, suc, ◌+◌, ◌*◌, ◌%◌, ◌≤◌, ◌<◌}
 use native.Mathlib.Omega.{arith}
-use borrow.Author.Tests.{leb-true, ltb-true, ne_eqb}
+use borrow.Author.Tests.{leb-true, ltb-true}
 use lib.Dec.{leb, eqb}
 use lib.ListN.{length, take, get_or}
 use Rattle.model.specs.Basic.{all, total}
 use Rattle.model.specs.Bounds.{M, output_limit, term_limit, output_term_limit}
 use Rattle.model.specs.declared.Pair.{Pair}
-use Rattle.model.specs.declared.Pair.TheVariants.{BdifBsum}
-use Rattle.model.specs.declared.Accumulation.TheVariants.{Bsum}
 use Rattle.model.specs.Block.{Output, output_first, singletons_of}
 use Rattle.model.specs.Degrees.{prod_of, condition_degree}
 use Rattle.model.specs.Evaluation.{rule_degree}
-use Rattle.model.specs.Image.{pair_of, accu_of, decode, rule_place, rule_at, conclusion_place, conclusion_at, RULES, PAIR_WORD}
+use Rattle.model.specs.Image.{pair_of, decode, rule_place, rule_at, conclusion_place, conclusion_at, RULES, PAIR_WORD}
 use Rattle.model.specs.WellFormed.{unit_ok, output_ok, conclusion_ok}
 use Rattle.laws.proofs.Tests.{both, passed}
 use Rattle.layout.specs.Tables.{input_terms_in}
 use Rattle.layout.specs.Groups.{Sound, variables_ok}
 use Rattle.layout.proofs.Sound.{own_few, input_terms_lem}
 use Rattle.layout.proofs.Rules.{rule_parts, conclusion_good}
-
--- by the number that the code matches
-pub pair_last : (x : ℕ) → (x ≡ 0 → ⊥) → (x ≡ 1 → ⊥) → BdifBsum ≡ pair_of x
-pair_last x h k = rw (ne_eqb x 0 h, ne_eqb x 1 k) refl
-
-pub accu_last : (x : ℕ) → (x ≡ 0 → ⊥) → Bsum ≡ accu_of x
-accu_last x h = rw (ne_eqb x 0 h) refl
 
 -- the terms of the outputs before o, and of o
 terms_before : (vs : List Output) (o : ℕ) → all output_ok vs ≡ true

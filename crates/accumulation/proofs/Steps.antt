@@ -7,17 +7,13 @@ use Prim.Native.Nat.{ℕ, zero, suc, ◌+◌, ◌-◌, ◌≤◌, ◌<◌}
 use native.Mathlib.Omega.{arith}
 use borrow.Author.Tests.{eqb-true, eqb-false}
 use lib.Dec.{eqb}
-use lib.ListN.{length, get_or, set, replicate, length-map}
+use lib.ListN.{length, get_or, set}
 use lib.Seq.{get_or-set_same, get_or-set_other}
 use Rattle.model.specs.Basic.{gather, tab}
 use Rattle.model.specs.declared.Accumulation.{Accumulation}
 use Rattle.model.specs.Block.{Conclusion, Rule, Block}
 use Rattle.model.specs.Evaluation.{rule_degree, accumulated, accumulate_all, subconclusions, height}
 use Rattle.model.specs.Image.{accu_of, decode, rule_at, RULES, ACCU_WORD}
-use Rattle.model.specs.declared.Degree.{Degree}
-use Rattle.laws.proofs.Arrays.{replicate_at}
-use Rattle.degrees.specs.Tables.{numbers}
-use Rattle.aggregation.proofs.Degrees.{numbers_set, numbers_zeros, number_at}
 use Rattle.accumulation.specs.Heights.{after_conclusions}
 
 -- THE BLOCK'S HEIGHT
@@ -63,25 +59,23 @@ height_is w ds t a d n ea en e =
     let given_so = rules_give (decode w) ds t (rule_at w) d (w RULES) 0 0 (λ j l. e j (omega (arith, en))) in
     rw (ea, en) (sym given_so)
 
--- WHAT IS LEFT FROM j UP TO n
-module _ (a : Accumulation) (d : ℕ) (f : ℕ → Conclusion) (s n j : ℕ) (t h : ℕ) where
-  conclusions_turn : j < n → after_conclusions a d t (tab f (n - j) (s + j)) h
-      ≡ after_conclusions a d t (tab f (n - (j + 1)) (s + (j + 1))) (if eqb (f (s + j)).term t then accumulated a h d else h)
+-- WHAT IS LEFT FROM j UP TO e
+module _ (a : Accumulation) (d : ℕ) (f : ℕ → Conclusion) (e j : ℕ) (t h : ℕ) where
+  conclusions_turn : j < e → after_conclusions a d t (tab f (e - j) j) h
+      ≡ after_conclusions a d t (tab f (e - (j + 1)) (j + 1)) (if eqb (f j).term t then accumulated a h d else h)
   unfolding after_conclusions tab
   conclusions_turn l =
-      let e : s + (j + 1) ≡ suc (s + j) = omega arith in
-      let q : n - j ≡ suc (n - (j + 1)) = omega arith in
-      rw (q, e) refl
+      let k : j + 1 ≡ suc j = omega arith in
+      let q : e - j ≡ suc (e - (j + 1)) = omega arith in
+      rw (q, k) refl
 
-  pub conclusions_start : after_conclusions a d t (tab f (n - 0) (s + 0)) h ≡ after_conclusions a d t (tab f n s) h
-  conclusions_start =
-      let e : n - 0 ≡ n = omega arith in
-      let g : s + 0 ≡ s = omega arith in
-      rw (e, g) refl
-
-  pub conclusions_end : n ≤ j → after_conclusions a d t (tab f (n - j) (s + j)) h ≡ h
+  pub conclusions_end : e ≤ j → after_conclusions a d t (tab f (e - j) j) h ≡ h
   unfolding after_conclusions tab
-  conclusions_end l = let e : n - j ≡ 0 = omega arith in rw e refl
+  conclusions_end l = let q : e - j ≡ 0 = omega arith in rw q refl
+
+pub conclusions_start : (a : Accumulation) (d : ℕ) (f : ℕ → Conclusion) (s n : ℕ) (t h : ℕ)
+    → after_conclusions a d t (tab f (s + n - s) s) h ≡ after_conclusions a d t (tab f n s) h
+conclusions_start a d f s n t h = let q : s + n - s ≡ n = omega arith in rw q refl
 
 module _ (a : Accumulation) (d : ℕ → ℕ) (f : ℕ → Rule) (n i : ℕ) (t h : ℕ) where
   pub rule_turn : (x h' : ℕ) → i < n → x ≡ d i → h' ≡ after_conclusions a x t (f i).conclusions h
@@ -111,18 +105,12 @@ one_changed a d l m t p v lo hi e = go (eqb t (m + p)) refl
         ap (λ (x : ℕ). get_or (set l x v) p 0) s ∙ get_or-set_same l p v 0 k ∙ e ∙ ap (λ (x : ℕ). accumulated a (get_or l x 0) d) s
     go false q = get_or-set_other l (t - m) p v 0 (λ s. eqb-false t (m + p) q (omega arith))
 
-module _ (a : Accumulation) (d : ℕ) (f : ℕ → Conclusion) (s n j m : ℕ) (r : List Degree) (t : ℕ) (v : Degree) where
-  pub conclusion_turn : j < n → t ≡ (f (s + j)).term → m ≤ t → t < m + length r → v.0 ≡ accumulated a (get_or r (t - m) (record { 0 = 0 })).0 d
-      → (p : ℕ) → after_conclusions a d (m + p) (tab f (n - (j + 1)) (s + (j + 1))) (get_or (numbers (set r (t - m) v)) p 0)
-      ≡ after_conclusions a d (m + p) (tab f (n - j) (s + j)) (get_or (numbers r) p 0)
-  conclusion_turn l e lo hi q p =
-      let g = get_or (numbers r) p 0 in
-      let e₁ : v.0 ≡ accumulated a (get_or (numbers r) (t - m) 0) d = q ∙ ap (λ (x : ℕ). accumulated a x d) (number_at r (t - m)) in
-      let k : t < m + length (numbers r) = rw length-map hi in
+module _ (a : Accumulation) (d : ℕ) (f : ℕ → Conclusion) (e j m : ℕ) (l l' : List ℕ) (t v : ℕ) where
+  pub conclusion_turn : j < e → t ≡ (f j).term → m ≤ t → t < m + length l → v ≡ accumulated a (get_or l (t - m) 0) d → l' ≡ set l (t - m) v
+      → (p : ℕ) → after_conclusions a d (m + p) (tab f (e - (j + 1)) (j + 1)) (get_or l' p 0) ≡ after_conclusions a d (m + p) (tab f (e - j) j) (get_or l p 0)
+  conclusion_turn h et lo hi q el p =
+      let g = get_or l p 0 in
       let after : ℕ → ℕ = λ x. if eqb x (m + p) then accumulated a g d else g in
-      let o = one_changed a d (numbers r) m t p v.0 lo k e₁ in
-      let c : get_or (numbers (set r (t - m) v)) p 0 ≡ after (f (s + j)).term = ap (λ (y : List ℕ). get_or y p 0) (numbers_set r (t - m) v) ∙ o ∙ ap after e in
-      ap (after_conclusions a d (m + p) (tab f (n - (j + 1)) (s + (j + 1)))) c ∙ sym (conclusions_turn a d f s n j (m + p) g l)
-
-pub zeros : (n p : ℕ) → let z : Degree = record { 0 = 0 } in get_or (numbers (replicate n z)) p 0 ≡ 0
-zeros n p = rw (numbers_zeros n) (replicate_at n p 0)
+      let o = one_changed a d l m t p v lo hi q in
+      let c : get_or l' p 0 ≡ after (f j).term = ap (λ (y : List ℕ). get_or y p 0) el ∙ o ∙ ap after et in
+      ap (after_conclusions a d (m + p) (tab f (e - (j + 1)) (j + 1))) c ∙ sym (conclusions_turn a d f e j (m + p) g h)

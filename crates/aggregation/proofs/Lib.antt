@@ -1,3 +1,2 @@
-pub mod Degrees
 pub mod Passes
 pub mod Steps

@@ -10,6 +10,7 @@ use lib.IntN.{ℤ, pos}
 use lib.ListN.{length, get_or}
 use borrow.Author.Tests.{eq-eqb, ne_eqb}
 use lib.Dec.{eqb}
+use Rattle.std.specs.Prelude.{Err}
 use Rattle.model.specs.Basic.{gather}
 use Rattle.model.specs.Bounds.{input_limit, input_term_limit}
 use Rattle.model.specs.Block.{Condition, term, neg, two, Output, Rule, Block, input_terms, output_first}
@@ -19,29 +20,25 @@ use Rattle.model.specs.Outcome.{Outcome, accepted, refused}
 use Rattle.model.specs.Refusals.{refusal_of}
 use Rattle.model.specs.Evaluation.{rule_degree, accumulate_all, subconclusions, height, output_answer, output_answers, no_answer, padded, figures_of, held_ok, CallResult, term_degrees, block_answers, call_result, evaluate_block, Tells}
 use Rattle.model.specs.declared.Crisp.{Crisp}
-use Rattle.model.specs.declared.Degree.{Degree}
 use Rattle.model.specs.declared.Held.{Held}
 use Rattle.model.specs.declared.Pair.{Pair}
 use Rattle.model.specs.declared.Reading.{Reading}
 use Rattle.model.specs.declared.Evaluation.{Evaluation}
 use Rattle.model.specs.declared.Refusal.{Refusal}
-use Rattle.model.specs.declared.Verdict.TheVariants.{Refused}
 use Rattle.laws.proofs.Places.{tab_ext}
 use Rattle.layout.specs.Tables.{input_terms_in}
 use Rattle.layout.specs.Groups.{Sound}
 use Rattle.layout.proofs.Sound.{input_terms_lem}
-use Rattle.degrees.specs.Tables.{numbers}
 use Rattle.input_values.specs.Filled.{filled, figures}
 use Rattle.input_values.specs.Values.{values_read}
 use Rattle.fuzzification.proofs.Degrees.{degrees_of_call}
 use Rattle.input_values.proofs.Fill.{filled_at}
 use Rattle.input_values.proofs.Wrong.{values_right, values_wrong}
-use Rattle.aggregation.proofs.Degrees.{number_at}
 use Rattle.defuzzification.specs.Outputs.{height_of, answers_by}
 
 -- REFUSALS
 -- what a refused call hands back
-pub refused_tells : (why : Refusal) (h : Held) → Tells (record { verdict = Refused why; answers = padded no_answer []; held = h }) h (refusal_of why)
+pub refused_tells : (why : Refusal) (h : Held) → Tells (record { verdict = Err why; answers = padded no_answer []; held = h }) h (refusal_of why)
 refused_tells why h = record { verdict = refl; answers = refl; held = refl }
 
 -- of an outcome that is the one told
@@ -101,7 +98,7 @@ answers_agree b f g i (v ∷ vs) (x ∷ held) e =
     λ j. output_answer v (a j) x ∷ r j
 
 -- THE ANSWERS of an accepted call
-module _ (w : ℕ → ℕ) (s : Sound w) (rs : List Reading) (held : Held) (m : ℕ) (em : m ≡ input_terms_in w) (xs : List Crisp) (ds hs : List Degree) where
+module _ (w : ℕ → ℕ) (s : Sound w) (rs : List Reading) (held : Held) (m : ℕ) (em : m ≡ input_terms_in w) (xs : List Crisp) (ds hs : List ℕ) where
   abbrev values : List ℤ
   values = values_read (decode w).inputs rs
 
@@ -109,17 +106,17 @@ module _ (w : ℕ → ℕ) (s : Sound w) (rs : List Reading) (held : Held) (m : 
   input_degrees = term_degrees (decode w).inputs values
 
   pub answers_are : length (decode w).inputs ≤ length values → figures xs ≡ filled input_limit (pos 0) values
-      → numbers ds ≡ filled input_term_limit 0 (term_degrees (decode w).inputs (figures xs))
-      → ((p : ℕ) → get_or (numbers hs) p 0 ≡ height (decode w) (numbers ds) (m + p)) → answers_by w hs m held ≡ block_answers (decode w) values (figures_of held)
+      → ds ≡ filled input_term_limit 0 (term_degrees (decode w).inputs (figures xs))
+      → ((p : ℕ) → get_or hs p 0 ≡ height (decode w) ds (m + p)) → answers_by w hs m held ≡ block_answers (decode w) values (figures_of held)
   unfolding block_answers
   answers_are l ex ed eh =
       let of-call = degrees_of_call (decode w).inputs input_limit (figures xs) values ex l in
-      let e : numbers ds ≡ filled input_term_limit 0 input_degrees = ed ∙ ap (filled input_term_limit 0) of-call in
-      let agree : (t : ℕ) → get_or (numbers ds) t 0 ≡ get_or input_degrees t 0 =
+      let e : ds ≡ filled input_term_limit 0 input_degrees = ed ∙ ap (filled input_term_limit 0) of-call in
+      let agree : (t : ℕ) → get_or ds t 0 ≡ get_or input_degrees t 0 =
       λ t. ap (λ (x : List ℕ). get_or x t 0) e ∙ filled_at input_term_limit 0 input_degrees t in
       let n : m ≡ length (input_terms (decode w)) = em ∙ sym (input_terms_lem w s.frame) in
       let H = height (decode w) input_degrees in
       answers_agree (decode w) (height_of hs m) H 0 (decode w).outputs (figures_of held)
       (λ t h.
       let q : m + (t - m) ≡ t = omega arith in
-      number_at hs (t - m) ∙ eh (t - m) ∙ height_agrees (numbers ds) input_degrees agree (decode w) (m + (t - m)) ∙ ap H q)
+      eh (t - m) ∙ height_agrees ds input_degrees agree (decode w) (m + (t - m)) ∙ ap H q)

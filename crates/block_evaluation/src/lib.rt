@@ -4,64 +4,53 @@
 ghost use Rattle.model.specs.Refusals.{refusal_of};
 ghost use Rattle.model.specs.Image.{word_at, decode};
 ghost use Rattle.model.specs.Evaluation.{evaluate_block, Tells};
-ghost use Rattle.load.specs.Judged.{Known};
 
 use accumulation::heights;
-use defuzzification::outputs;
+use defuzzification::{Answered, outputs};
 use fuzzification::term_degrees;
 use held::record_ok;
 use input_values::input_values;
-use load::Loaded;
-use model::{Evaluation, Held, Reading, Refusal, Verdict};
+use layout::CheckedImage;
+use model::{Evaluation, Held, Reading, Refusal};
 use output_answer::no_answer;
 
 // A refused call answers all places as none and leaves the record.
 pub fn refused(why: Refusal, before: Held) -> Evaluation
     ensures { Tells result before (refusal_of why) }
 {
-    let a = no_answer();
     Evaluation {
-        verdict: Verdict::Refused(why),
-        answers: [a; bounds::OUTPUTS],
+        verdict: Err(why),
+        answers: [no_answer(); bounds::OUTPUTS],
         held: before,
     }
 }
 
 // On an accepted image.
 pub fn evaluate_accepted(
-    img: &[u8],
-    a: Loaded,
-    rs: [Reading; bounds::INPUTS],
+    image: &CheckedImage,
+    rs: &[Reading; bounds::INPUTS],
     n: usize,
     before: Held,
 ) -> Evaluation
-    requires { Known img.now a }
-    ensures { Tells result before (evaluate_block (decode (word_at img.now)) rs n before) }
+    ensures { Tells result before
+        (evaluate_block (decode (word_at image.now.stored.bytes.now)) rs.now n before) }
 {
-    let h = a.header;
-    let m = a.input_terms;
-    let inputs = h.inputs;
-    let kept = record_ok(img, h, before);
-    if n != inputs {
+    if n != image.stored.header.inputs.rows {
         return refused(Refusal::WrongCount, before);
     }
-    if !kept {
+    if !record_ok(image, before) {
         return refused(Refusal::WrongHeld, before);
     }
-    let v = input_values(img, h, rs);
-    let wrong = v.wrong;
-    if wrong < inputs {
-        return refused(Refusal::WrongReading(wrong), before);
-    }
-    let at = v.at;
-    let ds = term_degrees(img, h, at);
-    let hs = heights(img, h, ds, m);
-    let given = outputs(img, h, hs, m, before);
-    let answers = given.answers;
-    let after = given.held;
+    let xs = match input_values(image, rs) {
+        Ok(xs) => xs,
+        Err(wrong) => return refused(Refusal::WrongReading(wrong.input), before),
+    };
+    let ds = term_degrees(image, &xs);
+    let hs = heights(image, &ds);
+    let Answered { answers, held } = outputs(image, &hs, before);
     Evaluation {
-        verdict: Verdict::Accepted,
-        answers: answers,
-        held: after,
+        verdict: Ok(()),
+        answers,
+        held,
     }
 }

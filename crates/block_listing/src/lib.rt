@@ -3,26 +3,30 @@
 
 ghost use Rattle.model.specs.Image.{word_at, decode};
 ghost use Rattle.model.specs.Listing.{listing};
-ghost use Rattle.layout.specs.Checked.{Checked};
-ghost use Rattle.listing_writer.specs.Prepends.{Prepends};
+ghost use Rattle.listing_writer.specs.Prepends.{Writes};
 
-use header::Header;
-use listing_writer::puts;
+use bounds::LISTING;
+use declaration_listing::{input_lines, output_lines};
+use defuzzify_listing::defuzzify_parts;
+use fuzzify_listing::fuzzify_parts;
+use layout::CheckedImage;
+use listing_writer::Listing;
+use name_listing::name;
+use rule_listing::rule_block;
 
 // The text of an accepted image.
-pub fn block(out: &mut [u8], k: usize, img: &[u8], h: Header) -> usize
-    requires { Checked img.now h }
-    ensures { Prepends k result (listing (decode (word_at img.now))) out.old out.new }
+pub fn block(out: &mut Listing<LISTING>, image: &CheckedImage)
+    ensures { Writes (listing (decode (word_at image.now.stored.bytes.now))) out.old out.new }
 {
-    let a = puts(out, k, b"END_FUNCTION_BLOCK\n");
-    let b = rule_listing::rule_block(out, a, img, h);
-    let c = defuzzify_listing::defuzzify_parts(out, b, img, h);
-    let d = fuzzify_listing::fuzzify_parts(out, c, img, h);
-    let e = puts(out, d, b"END_VAR\n");
-    let f = declaration_listing::output_lines(out, e, img, h);
-    let g = puts(out, f, b"END_VAR\nVAR_OUTPUT\n");
-    let i = declaration_listing::input_lines(out, g, img, h);
-    let j = puts(out, i, b"\nVAR_INPUT\n");
-    let l = name_listing::name(out, j, img, header::BLOCK_NAME);
-    puts(out, l, b"FUNCTION_BLOCK ")
+    out.puts(b"END_FUNCTION_BLOCK\n");
+    rule_block(out, image);
+    defuzzify_parts(out, image);
+    fuzzify_parts(out, image);
+    out.puts(b"END_VAR\n");
+    output_lines(out, image);
+    out.puts(b"END_VAR\nVAR_OUTPUT\n");
+    input_lines(out, image);
+    out.puts(b"\nVAR_INPUT\n");
+    name(out, image.stored.bytes, header::BLOCK_NAME);
+    out.puts(b"FUNCTION_BLOCK ");
 }

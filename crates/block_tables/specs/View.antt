@@ -11,7 +11,6 @@ use Rattle.model.specs.declared.InputType.TheVariants.{Real as real, Int as int}
 use Rattle.model.specs.declared.Pair.TheVariants.{MinMax as min-max}
 use Rattle.model.specs.declared.Activation.TheVariants.{Min as by-min}
 use Rattle.model.specs.declared.Accumulation.TheVariants.{Max as by-max}
-use Rattle.model.specs.Image.{pair_of, accu_of, act_of}
 use Rattle.model.specs.declared.Crisp.{Crisp}
 use Rattle.lookup.specs.Names.{Placed}
 use Rattle.block_tables.specs.declared.Input.{Input}
@@ -130,9 +129,9 @@ whole_view s t h rs = record {
   inputs = inputs_view s t;
   outputs = outputs_view s t;
   rule_block = slice h.start h.end s;
-  pair = pair_of h.pair;
-  act = act_of h.act;
-  accu = accu_of h.accu;
+  pair = h.pair;
+  act = h.act;
+  accu = h.accu;
   rules = rs;
 }
 
@@ -166,10 +165,7 @@ pub record Holds (s : List ℕ) (t : Tables) : Type 0 where
   pub points_size : (k : ℕ) → k < input_term_limit → length (term_row t k).points ≡ point_limit
   pub singletons_size : length t.output_terms ≡ output_term_limit
 
--- a name in the text, and words of algorithms
+-- the name of its rule block is in the text
 pub record Headed (s : List ℕ) (h : Heading) : Type 0 where
   pub order : h.start ≤ h.end
   pub inside : h.end ≤ length s
-  pub pair : h.pair ≤ 2
-  pub accu : h.accu ≤ 1
-  pub act : h.act ≤ 1

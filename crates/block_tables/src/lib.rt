@@ -7,7 +7,7 @@ ghost use Rattle.model.specs.Bounds.{input_limit};
 ghost use Rattle.block_tables.specs.Changes.{Typed};
 
 use lookup::Names;
-use model::{Crisp, Point};
+use model::{Accumulation, Activation, Crisp, Pair, Point};
 
 #[derive(Clone, Copy)]
 pub struct Input {
@@ -61,14 +61,14 @@ pub struct Tables {
     pub names: Names,
 }
 
-// What a rule block begins with: the place of its name, and the words of its algorithms.
+// What a rule block begins with: the place of its name, and its algorithms.
 #[derive(Clone, Copy)]
 pub struct Heading {
     pub start: usize,
     pub end: usize,
-    pub pair: u32,
-    pub accu: u32,
-    pub act: u32,
+    pub pair: Pair,
+    pub accu: Accumulation,
+    pub act: Activation,
 }
 
 // A rule as it is kept: its number, how many condition words and conclusions it has, and its weight.
@@ -97,12 +97,8 @@ pub fn typed(rows: [Input; bounds::INPUTS], from: usize, to: usize) -> [Input; b
     ensures { Typed rows from to result }
 {
     let mut r = rows;
-    let mut i = from;
-    while i < to {
-        let mut v = r[i];
-        v.int = true;
-        r[i] = v;
-        i += 1;
+    for i in from..to {
+        r[i].int = true;
     }
     r
 }

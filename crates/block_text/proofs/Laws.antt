@@ -1,9 +1,12 @@
 -- The empty tables, the sections up to the rule block, the parts that are there, and the end.
+use Rattle.std.specs.Prelude.{None}
 use mathlib.Core.Path.{◌≡◌, refl, sym, ap, ◌∙◌}
 use mathlib.Core.Bool.{Bool, true, false, ◌&&◌, not}
 use mathlib.Core.List.{List, [], ◌∷◌, map}
 use Prim.Native.Nat.{ℕ, zero, suc, ◌+◌, ◌-◌, ◌*◌, ◌≤◌, ◌<◌}
 use native.Mathlib.Omega.{arith}
+use native.Mathlib.Numerals.{add-one}
+use Rattle.std.specs.List.{list_all, range_with_len}
 use borrow.Author.Tests.{eq-eqb, ne_eqb, lt-ltb, le-ltb, ltb-true, ltb-false}
 use lib.Dec.{eqb, ltb}
 use lib.ListN.{length, get_or, replicate}
@@ -16,7 +19,6 @@ use Rattle.model.specs.Parse.{Parse, Part, is, refuse, advance, judged, expect, 
 use Rattle.model.specs.Declarations.{fuzzify, defuzzify}
 use Rattle.model.specs.Tokens.{tokens}
 use Rattle.model.specs.Reader.{start, parts_there, end_of_block}
-use Rattle.laws.proofs.Places.{all_start}
 use Rattle.laws.proofs.Arrays.{replicate_at}
 use Rattle.block_tables.specs.declared.Tables.{Tables}
 use Rattle.block_tables.specs.declared.Term.{Term}
@@ -184,9 +186,17 @@ above x y = by (ltb x y) refl
     by true q = let w = ltb-true x y q in q ∙ sym (lt-ltb 0 (y - x) (omega arith))
     by false q = let w = ltb-false x y q in q ∙ sym (le-ltb 0 (y - x) (omega arith))
 
-pub have_start : (symbols : List ℕ) (v n : ℕ) → all (λ j. ltb (first symbols j) (first symbols (j + 1))) (tab (λ j. j) (v + n - v) v) ≡ have_terms symbols v n
+-- the test along a range is the one of the definition
+along : (f : ℕ → Bool) (n v : ℕ) → list_all f (range_with_len v n) ≡ all f (tab (λ k. k) n v)
+unfolding all tab
+along f zero v = refl
+along f (suc n) v = rw (sym (along f n (suc v))) (rw add-one refl)
+
+pub along_range : (symbols : List ℕ) (v n : ℕ) → list_all (λ k. ltb (first symbols k) (first symbols (k + 1))) (range_with_len v (v + n - v)) ≡ have_terms symbols v n
 unfolding have_terms
-have_start symbols v n = all_start (λ j. ltb (first symbols j) (first symbols (j + 1))) (λ j. j) v n
+along_range symbols v n =
+    let z : v + n - v ≡ n = omega arith in
+    rw z (along (λ k. ltb (first symbols k) (first symbols (k + 1))) n v)
 
 module _ (s names symbols : List ℕ) (b : Block) (d : Describes s names symbols b) where
   inputs_there : all (λ v. not (is_empty v.terms)) b.inputs ≡ have_terms symbols 0 (input_count symbols)
@@ -229,16 +239,16 @@ module _ (complete : Bool) (s : List ℕ) (c d : Cursor) (x : Step (expect END_R
   to_end e r y z = steps (steps x y) z
 
   -- refused at the end of the block
-  lost : (w : ℕ) (r : Cursor) → (r.why ≡ 0 → ⊥) → ((b : Block) (n : ℕ) → block_end complete (seen s d b n) ≡ refuse w (seen s d b n))
+  lost : (w : ℕ) (r : Cursor) → (r.refused ≡ None → ⊥) → ((b : Block) (n : ℕ) → block_end complete (seen s d b n) ≡ refuse w (seen s d b n))
       → Step (refuse w) s d r → Step (back_to complete) s c r
   lost w r h e y = to_end r r (as_step e y) (ended s r (lost_kind s r y.fits h) y.fits)
 
-  pub no_end : (r : Cursor) → (r.why ≡ 0 → ⊥) → (d.kind ≡ END_FUNCTION_BLOCK → ⊥) → Step (refuse 2) s d r → Step (back_to complete) s c r
+  pub no_end : (r : Cursor) → (r.refused ≡ None → ⊥) → (d.kind ≡ END_FUNCTION_BLOCK → ⊥) → Step (refuse 2) s d r → Step (back_to complete) s c r
   unfolding block_end judged
   no_end r h k = lost 2 r h (λ b n. simp (kind_seen s d b n, ne_eqb _ _ k) refl)
 
   module _ (k : d.kind ≡ END_FUNCTION_BLOCK) where
-    pub part_missing : (r : Cursor) → (r.why ≡ 0 → ⊥) → complete ≡ false → Step (refuse 9) s d r → Step (back_to complete) s c r
+    pub part_missing : (r : Cursor) → (r.refused ≡ None → ⊥) → complete ≡ false → Step (refuse 9) s d r → Step (back_to complete) s c r
     unfolding block_end judged
     part_missing r h f = lost 9 r h (λ b n. simp (kind_seen s d b n, eq-eqb _ _ k, f) refl)
 

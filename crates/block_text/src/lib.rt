@@ -1,7 +1,8 @@
 // A function block's text around its rule block: name, variables, FUZZIFY and DEFUZZIFY before it, the end behind it.
 #![tactic(auto)]
 
-ghost use Rattle.std.specs.Prelude.{◌≡◌, ◌+◌, ◌≤◌};
+ghost use Rattle.std.specs.Prelude.{◌≡◌, ◌+◌, ◌-◌, ◌≤◌, ltb};
+ghost use Rattle.std.specs.List.{list_all, range_with_len};
 ghost use Rattle.model.specs.Bounds.{input_limit, output_limit, variable_limit};
 ghost use Rattle.model.specs.Keywords.{FUZZIFY, DEFUZZIFY};
 ghost use Rattle.model.specs.Parse.{repeated};
@@ -13,7 +14,7 @@ ghost use Rattle.parse_state.specs.Beside.{Ready, Collects};
 ghost use Rattle.declaration_text.specs.Declares.{with_inputs, with_outputs};
 ghost use Rattle.fuzzify_text.specs.Terms.{inputs_in};
 ghost use Rattle.defuzzify_text.specs.Output.{with_outputs as outputsIn};
-ghost use Rattle.symbol_table.specs.Symbols.{input_count, output_count};
+ghost use Rattle.symbol_table.specs.Symbols.{first, input_count, output_count};
 ghost use Rattle.block_text.specs.Block.{no_inputs, no_outputs, no_terms, no_singletons};
 ghost use Rattle.block_text.specs.Block.{inputs_text, outputs_text, front_text, back_to, have_terms, all_have_terms};
 
@@ -25,6 +26,7 @@ use fuzzify_text::Inputs;
 use lookup::Names;
 use model::{Crisp, Degree, Point};
 use parse_state::ParseState;
+use refusals::Fault;
 use symbol_table::SymbolTable;
 
 // VAR_INPUT, declarations, END_VAR.
@@ -39,22 +41,16 @@ fn inputs(s: &[u8], names: &mut Names, c: Cursor) -> DeclaredInputs
         int: false,
         terms: 0,
     };
-    let rows = [v; bounds::INPUTS];
-    let d = cursor::expect(s, c, token_kinds::VAR_INPUT);
-    let mut r = declaration_text::all_inputs(
-        s,
-        names,
-        DeclaredInputs {
-            cursor: d,
-            count: 0,
-            rows: rows,
-        },
-        0,
-    );
-    let e = r.cursor;
-    let f = cursor::expect(s, e, token_kinds::END_VAR);
-    r.cursor = f;
-    r
+    let declared = DeclaredInputs {
+        cursor: cursor::expect(s, c, token_kinds::VAR_INPUT),
+        count: 0,
+        rows: [v; bounds::INPUTS],
+    };
+    let r = declaration_text::all_inputs(s, names, declared, 0);
+    DeclaredInputs {
+        cursor: cursor::expect(s, r.cursor, token_kinds::END_VAR),
+        ..r
+    }
 }
 
 // VAR_OUTPUT, declarations, END_VAR, beside m inputs.
@@ -63,33 +59,26 @@ fn outputs(s: &[u8], names: &mut Names, c: Cursor, m: usize) -> DeclaredOutputs
     ensures { Collects outputs_text s.now
         (with_outputs m names.old (no_outputs c)) (with_outputs m names.new result) }
 {
-    let z = Crisp(0);
     let v = Output {
         start: 0,
         end: 0,
         terms: 0,
         ranged: false,
-        least: z,
-        most: z,
+        least: Crisp(0),
+        most: Crisp(0),
         numbered: false,
-        default: z,
+        default: Crisp(0),
     };
-    let rows = [v; bounds::OUTPUTS];
-    let d = cursor::expect(s, c, token_kinds::VAR_OUTPUT);
-    let mut r = declaration_text::all_outputs(
-        s,
-        names,
-        DeclaredOutputs {
-            cursor: d,
-            count: 0,
-            rows: rows,
-        },
-        m,
-    );
-    let e = r.cursor;
-    let f = cursor::expect(s, e, token_kinds::END_VAR);
-    r.cursor = f;
-    r
+    let declared = DeclaredOutputs {
+        cursor: cursor::expect(s, c, token_kinds::VAR_OUTPUT),
+        count: 0,
+        rows: [v; bounds::OUTPUTS],
+    };
+    let r = declaration_text::all_outputs(s, names, declared, m);
+    DeclaredOutputs {
+        cursor: cursor::expect(s, r.cursor, token_kinds::END_VAR),
+        ..r
+    }
 }
 
 // FUZZIFY parts of the inputs v.
@@ -108,16 +97,16 @@ fn input_terms(s: &[u8], names: &mut Names, c: Cursor, v: DeclaredInputs) -> Inp
         count: 0,
         points: [z; bounds::POINTS],
     };
+    let DeclaredInputs { count, rows, .. } = v;
     let terms = [t; bounds::INPUT_TERMS];
-    let rows = v.rows;
     fuzzify_text::parts(
         s,
         names,
         Inputs {
             cursor: c,
-            count: v.count,
-            rows: rows,
-            terms: terms,
+            count,
+            rows,
+            terms,
         },
     )
 }
@@ -133,16 +122,16 @@ fn output_terms(s: &[u8], names: &mut Names, c: Cursor, v: DeclaredOutputs) -> O
         end: 0,
         at: Crisp(0),
     };
+    let DeclaredOutputs { count, rows, .. } = v;
     let singletons = [t; bounds::OUTPUT_TERMS];
-    let rows = v.rows;
     defuzzify_text::parts(
         s,
         names,
         Outputs {
             cursor: c,
-            count: v.count,
-            rows: rows,
-            singletons: singletons,
+            count,
+            rows,
+            singletons,
         },
     )
 }
@@ -152,54 +141,47 @@ pub fn front(s: &[u8]) -> ParseState
     ensures result_value { view s.now result ≡ front_text (start s.now) }
     ensures good { Good s.now result }
 {
-    let a = cursor::begin(s);
-    let b = cursor::expect(s, a, token_kinds::FUNCTION_BLOCK);
-    let name = declaration_text::block_name(s, b);
+    let c = cursor::expect(s, cursor::begin(s), token_kinds::FUNCTION_BLOCK);
+    let name = declaration_text::block_name(s, c);
     let mut names = [0; lookup::ENDS + bounds::NAMES];
-    let c = name.cursor;
-    let i = inputs(s, &mut names, c);
-    let d = i.cursor;
-    let o = outputs(s, &mut names, d, i.count);
-    let e = o.cursor;
-    let p = input_terms(s, &mut names, e, i);
-    let f = p.cursor;
-    let q = output_terms(s, &mut names, f, o);
-    let inputs = p.rows;
-    let outputs = q.rows;
-    let terms = p.terms;
-    let singletons = q.singletons;
-    let t = Tables {
-        start: name.start,
-        end: name.end,
-        input_count: p.count,
-        output_count: q.count,
-        inputs: inputs,
-        outputs: outputs,
-        input_terms: terms,
-        output_terms: singletons,
-        names: names,
-    };
-    let g = q.cursor;
+    let i = inputs(s, &mut names, name.cursor);
+    let o = outputs(s, &mut names, i.cursor, i.count);
+    let p = input_terms(s, &mut names, o.cursor, i);
+    let q = output_terms(s, &mut names, p.cursor, o);
+    let Inputs {
+        count: input_count,
+        rows: inputs,
+        terms: input_terms,
+        ..
+    } = p;
+    let Outputs {
+        cursor,
+        count: output_count,
+        rows: outputs,
+        singletons: output_terms,
+    } = q;
     ParseState {
-        cursor: g,
-        tables: t,
+        cursor,
+        tables: Tables {
+            start: name.start,
+            end: name.end,
+            input_count,
+            output_count,
+            inputs,
+            outputs,
+            input_terms,
+            output_terms,
+            names,
+        },
     }
 }
 
 // Whether each of n variables from v on has a term.
 fn have_terms(symbols: &SymbolTable, v: usize, n: usize) -> bool
     requires { v + n ≤ variable_limit }
-    ensures { result ≡ have_terms symbols.now v n }
+    ensures { result ≡ list_all (λ k. ltb (first symbols.now k) (first symbols.now (k + 1))) (range_with_len v (v + n - v)) }
 {
-    let e = v + n;
-    let mut k = v;
-    while k < e {
-        if symbols[k + 1] <= symbols[k] {
-            return false;
-        }
-        k += 1;
-    }
-    true
+    (v..v + n).all(|k| symbols[k] < symbols[k + 1])
 }
 
 // Whether every variable has its part.
@@ -207,10 +189,8 @@ pub fn is_complete(symbols: &SymbolTable) -> bool
     requires { (input_count symbols.now ≤ input_limit) × (output_count symbols.now ≤ output_limit) }
     ensures { result ≡ all_have_terms symbols.now }
 {
-    if have_terms(symbols, 0, symbols[symbol_table::INPUT_COUNT]) {
-        return have_terms(symbols, bounds::INPUTS, symbols[symbol_table::OUTPUT_COUNT]);
-    }
-    false
+    have_terms(symbols, 0, symbols[symbol_table::INPUT_COUNT])
+        && have_terms(symbols, bounds::INPUTS, symbols[symbol_table::OUTPUT_COUNT])
 }
 
 // From behind the last rule to the end of the text, where every variable has its part or not.
@@ -220,14 +200,14 @@ pub fn back(s: &[u8], c: Cursor, complete: bool) -> Cursor
 {
     let d = cursor::expect(s, c, token_kinds::END_RULEBLOCK);
     if d.kind != token_kinds::END_FUNCTION_BLOCK {
-        return cursor::refuse(d, 2);
+        return cursor::refuse(d, Fault::WrongToken);
     }
     if !complete {
-        return cursor::refuse(d, 9);
+        return cursor::refuse(d, Fault::PartMissing);
     }
     let e = cursor::advance(s, d);
     if e.kind == token_kinds::END {
         return e;
     }
-    cursor::refuse(e, 2)
+    cursor::refuse(e, Fault::WrongToken)
 }

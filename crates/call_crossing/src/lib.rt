@@ -33,33 +33,25 @@ pub struct GrillenhelmAnswer {
     pub value: f64,
 }
 
-fn reading(r: GrillenhelmReading) -> Reading
-    ensures { result ≡ reading_of r }
-{
-    let kind = r.kind;
-    let real = r.real;
-    let whole = r.whole;
-    match kind {
-        1 => Reading::Real(real),
-        2 => Reading::Int(whole),
-        _ => Reading::Absent,
+impl From<GrillenhelmReading> for Reading {
+    ghost from_gives = { λ r x. x ≡ reading_of r };
+
+    fn from(r: GrillenhelmReading) -> Reading {
+        match r.kind {
+            1 => Reading::Real(r.real),
+            2 => Reading::Int(r.whole),
+            _ => Reading::Absent,
+        }
     }
 }
 
 pub fn readings_of(rs: GrillenhelmReadings) -> [Reading; bounds::INPUTS]
     ensures { result ≡ map reading_of rs.at }
 {
-    let at = rs.at;
-    let mut r = [Reading::Absent; bounds::INPUTS];
-    let mut i = 0usize;
-    while i < bounds::INPUTS {
-        let x = reading(at[i]);
-        r[i] = x;
-        i += 1;
-    }
-    r
+    rs.at.map(Reading::from)
 }
 
+// Kept: the C interface names these numbers, whatever the order of the marks.
 fn mark_number(m: Mark) -> u32
     ensures { result ≡ mark_number m }
 {
@@ -71,34 +63,21 @@ fn mark_number(m: Mark) -> u32
     }
 }
 
-fn answer(a: Answer) -> GrillenhelmAnswer
-    ensures { result ≡ answer_of a }
-{
-    let m = a.mark;
-    let x = a.thousandths;
-    GrillenhelmAnswer {
-        mark: mark_number(m),
-        thousandths: x.0,
-        sum: a.sum,
-        value: a.value,
+impl From<Answer> for GrillenhelmAnswer {
+    ghost from_gives = { λ a x. x ≡ answer_of a };
+
+    fn from(a: Answer) -> GrillenhelmAnswer {
+        GrillenhelmAnswer {
+            mark: mark_number(a.mark),
+            thousandths: a.thousandths.0,
+            sum: a.sum,
+            value: a.value,
+        }
     }
 }
 
 pub fn answers_of(xs: [Answer; bounds::OUTPUTS]) -> [GrillenhelmAnswer; 6]
     ensures { result ≡ map answer_of xs }
 {
-    let none = GrillenhelmAnswer {
-        mark: 0,
-        thousandths: 0,
-        sum: 0,
-        value: 0.0,
-    };
-    let mut r = [none; 6];
-    let mut i = 0usize;
-    while i < bounds::OUTPUTS {
-        let a = answer(xs[i]);
-        r[i] = a;
-        i += 1;
-    }
-    r
+    xs.map(GrillenhelmAnswer::from)
 }

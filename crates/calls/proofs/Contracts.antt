@@ -15,18 +15,18 @@ use denote.Ref.{Bor}
 use denote.MutBor.{MutBor}
 use denote.Triple.Clauses.{AtExit}
 use lib.ListN.{length}
+use Rattle.std.specs.Prelude.{Result}
 use Rattle.model.specs.Outcome.{verdict_in, length_in, buffer_after}
 use Rattle.model.specs.Refusals.{written_of, verdict_of}
 use Rattle.model.specs.Buffers.{reads_into}
 use Rattle.model.specs.Image.{loads}
 use Rattle.model.specs.Evaluation.{fresh, record_in}
 use Rattle.model.specs.declared.Evaluation.{Evaluation}
-use Rattle.model.specs.declared.Fresh.{Fresh}
 use Rattle.model.specs.declared.Held.{Held}
 use Rattle.model.specs.declared.Reading.{Reading}
 use Rattle.model.specs.declared.Reply.{Reply}
-use Rattle.model.specs.declared.Verdict.{Verdict}
-use Rattle.model.specs.declared.Written.{Written}
+use Rattle.model.specs.declared.Refusal.{Refusal}
+use Rattle.evaluation.specs.declared.Fresh.{Fresh}
 use Rattle.reader.specs.contracts.read as read-text
 use Rattle.load.specs.contracts.check as load-check
 use Rattle.evaluation.specs.contracts.fresh_of as fresh-of
@@ -40,7 +40,7 @@ module _ {M : Type 1} {𝓤 : Ura M} (𝓛 : Logic 𝓤) (at_mem : Memory → SP
   AsksNothing p = p ≡ (connectives 𝓤).⊤ₛ
 
   -- `reader::read`: its answer, and the buffer then
-  read_tells : (κ' : Lft) (s : Bor (List ℕ)) (out : MutBor (List ℕ)) (r : Written) (e : AtExit read-text.ended (κ, (κ', tt)))
+  read_tells : (κ' : Lft) (s : Bor (List ℕ)) (out : MutBor (List ℕ)) (r : Result ℕ Refusal) (e : AtExit read-text.ended (κ, (κ', tt)))
       → let c = read-text.clauses 𝓛 at_mem run (κ, (κ', tt)) (s, (out, tt)) in
       let o = reads_into (length out.now) s.now in
       AsksNothing (c.requires tt)
@@ -48,7 +48,7 @@ module _ {M : Type 1} {𝓤 : Ura M} (𝓛 : Logic 𝓤) (at_mem : Memory → SP
   read_tells κ' s out r e = (refl, refl)
 
   -- `load::check`: the verdict is that of the load check
-  check_tells : (img : Bor (List ℕ)) (r : Verdict) (e : AtExit load-check.ended (κ, tt))
+  check_tells : (img : Bor (List ℕ)) (r : Result (Unit {0}) Refusal) (e : AtExit load-check.ended (κ, tt))
       → let c = load-check.clauses 𝓛 at_mem run (κ, tt) (img, tt) in
       AsksNothing (c.requires tt) × (c.ensures tt r e ≡ fact 𝓤 (verdict_of r ≡ verdict_in (loads img.now)))
   check_tells img r e = (refl, refl)

@@ -1,5 +1,6 @@
 -- Every list of calls has a trace: for every image, record and list of calls, by value or for daily use as the caller chooses, there are results that
 -- make it one.
+use Rattle.std.specs.Prelude.{Result, Ok, Err}
 use Rattle.std.specs.Prelude.{if◌then◌else◌}
 use mathlib.Core.Path.{◌≡◌, refl}
 use mathlib.Core.Bool.{Bool, true, false, not}
@@ -18,14 +19,13 @@ use Rattle.model.specs.Evaluation.{CallResult, call_result, block_answers, figur
 use Rattle.model.specs.declared.Evaluation.{Evaluation}
 use Rattle.model.specs.declared.Held.{Held}
 use Rattle.model.specs.declared.Reading.{Reading}
+use Rattle.model.specs.declared.Refusal.{Refusal}
 use Rattle.model.specs.declared.Refusal.TheVariants.{ImageNotAccepted, WrongCount, WrongHeld, WrongReading}
-use Rattle.model.specs.declared.Verdict.{Verdict}
-use Rattle.model.specs.declared.Verdict.TheVariants.{Accepted, Refused}
 use Rattle.demand_3.specs.Calls.{Call, Made, evaluated, daily, call_of, result_of, Link, Trace}
 
 -- VERDICTS: an outcome that some verdict tells
 abbrev pub Told : {A : Type 0} → Outcome A → Type 0
-Told o = (v : Verdict) × (verdict_of v ≡ verdict_in o)
+Told o = (v : Result (Unit {0}) Refusal) × (verdict_of v ≡ verdict_in o)
 
 told_if : {A : Type 0} (t : Bool) (o p : Outcome A) → Told o → Told p → Told (if t then o else p)
 told_if true o p x y = x
@@ -37,29 +37,29 @@ told_then (refused n p) f x y = x
 
 told_values : (i : ℕ) (vs : List Input) (rs : List Reading) → Told (values_of i vs rs)
 unfolding values_of
-told_values i [] rs = (Accepted, refl)
-told_values i (v ∷ vs) [] = (Refused (WrongReading i), refl)
+told_values i [] rs = (Ok tt, refl)
+told_values i (v ∷ vs) [] = (Err (WrongReading i), refl)
 told_values i (v ∷ vs) (r ∷ rs) = go (told_values (suc i) vs rs) (value_in (taken v.type r))
   where
     go : Told (values_of (suc i) vs rs) → (o : Option ℤ)
         → Told {A = List ℤ} (elim o [ none ↦ refused 14 (some i) | some x ↦ and_then (values_of (suc i) vs rs) (λ xs. accepted (x ∷ xs)) ])
-    go rest none = (Refused (WrongReading i), refl)
-    go rest (some x) = told_then (values_of (suc i) vs rs) (λ xs. accepted (x ∷ xs)) rest (λ xs. (Accepted, refl))
+    go rest none = (Err (WrongReading i), refl)
+    go rest (some x) = told_then (values_of (suc i) vs rs) (λ xs. accepted (x ∷ xs)) rest (λ xs. (Ok tt, refl))
 
 told_block : (b : Block) (c : Call) (h : Held) → Told (evaluate_block b c.readings c.count h)
 unfolding evaluate_block
 told_block b c h =
     let answered : List ℤ → Outcome CallResult = λ xs. accepted (call_result (block_answers b xs (figures_of h))) in
     let values = values_of 0 b.inputs c.readings in
-    told_if (not (eqb c.count (length b.inputs))) _ _ (Refused WrongCount, refl)
-    (told_if (not (held_ok b.outputs (figures_of h))) _ _ (Refused WrongHeld, refl)
-    (told_then values answered (told_values 0 b.inputs c.readings) (λ xs. (Accepted, refl))))
+    told_if (not (eqb c.count (length b.inputs))) _ _ (Err WrongCount, refl)
+    (told_if (not (held_ok b.outputs (figures_of h))) _ _ (Err WrongHeld, refl)
+    (told_then values answered (told_values 0 b.inputs c.readings) (λ xs. (Ok tt, refl))))
 
 pub call_told : (img : List ℕ) (c : Call) (h : Held) → Told (evaluate img c.readings c.count h)
 unfolding evaluate loads
 call_told img c h =
     told_then (loads img) (λ b. evaluate_block b c.readings c.count h)
-    (told_if (is_image_of img (decode (word_at img))) _ _ (Accepted, refl) (Refused ImageNotAccepted, refl)) (λ b. told_block b c h)
+    (told_if (is_image_of img (decode (word_at img))) _ _ (Ok tt, refl) (Err ImageNotAccepted, refl)) (λ b. told_block b c h)
 
 -- TRACES
 pub data Kind : Type 0 where

@@ -4,7 +4,6 @@ use Rattle.std.specs.Prelude.{◌≡◌, List, [], ◌∷◌, ℕ, ◌+◌, ◌*
 use Rattle.model.specs.Degrees.{nearestℤ}
 use Rattle.model.specs.Evaluation.{moment, sum_of}
 use Rattle.crisp.specs.Crisp.{above}
-use Rattle.centre.specs.declared.Sums.{Sums}
 
 -- the moment about the lowest crisp value
 unfoldable pub lifted : List ℤ → List ℕ → ℕ
@@ -12,8 +11,9 @@ lifted [] hs = 0
 lifted (x ∷ xs) [] = 0
 lifted (x ∷ xs) (h ∷ hs) = above x * h + lifted xs hs
 
-abbrev pub SumsOf : Sums → List ℤ → List ℕ → Type 0
-SumsOf s ps hs = (length ps ≡ length hs) × (s.heights ≡ sum_of hs) × (s.moment ≡ lifted ps hs)
+-- the sum of the heights, and the moment
+abbrev pub SumsOf : ℕ → ℕ → List ℤ → List ℕ → Type 0
+SumsOf heights m ps hs = (length ps ≡ length hs) × (heights ≡ sum_of hs) × (m ≡ lifted ps hs)
 
 -- by positions and heights; 0 where no height is above 0
 abbrev pub figure_of : List ℤ → List ℕ → ℤ

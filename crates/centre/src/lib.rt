@@ -1,7 +1,7 @@
 // The centre of gravity of up to seven singletons: positions weighed by their heights.
 #![tactic(auto)]
 
-ghost use Rattle.std.specs.Prelude.{◌≡◌, List, [], ◌∷◌, ◌++◌, ℕ, ◌+◌, ◌*◌, ◌≤◌, ◌<◌, ℤ, pos, length, get_or};
+ghost use Rattle.std.specs.Prelude.{◌≡◌, List, [], ◌∷◌, ◌++◌, ℕ, ◌+◌, ◌*◌, ◌≤◌, ◌<◌, ℤ, pos, length, get_or, MatchOption};
 ghost use Rattle.model.specs.Bounds.{M, term_limit};
 ghost use Rattle.crisp.specs.Crisp.{InCrisp};
 ghost use Rattle.centre.specs.Centre.{SumsOf, figure_of};
@@ -13,47 +13,46 @@ use model::{Crisp, Degree};
 pub struct Sums {
     pub heights: u64,
     pub moment: u64,
+    pub ghost few: { heights ≤ term_limit * M },
+    pub ghost within: { moment ≤ 2000000000 * heights },
 }
 
-// The sum of the heights, and the figure: 0 where the sum is 0.
-#[derive(Clone, Copy)]
-pub struct Centre {
-    pub sum: u32,
-    pub figure: Crisp,
-}
-
-// With one singleton more, of height h at p.
-pub fn added(s: Sums, p: Crisp, h: Degree) -> Sums
-    requires { InCrisp p.0 × (h.0 ≤ M) × (s.heights + M ≤ term_limit * M) × (s.moment ≤ 2000000000 * s.heights) }
-    ensures sums_of { (ps : List ℤ) (hs : List ℕ) → SumsOf s ps hs
-        → SumsOf result (ps ++ (p.0 ∷ [])) (hs ++ (h.0 ∷ [])) }
-    ensures small { (result.heights ≤ s.heights + M) × (result.moment ≤ 2000000000 * result.heights) }
-{
-    let w = h.0 as u64;
-    let a = crisp::lift(p) as u64;
-    Sums {
-        heights: s.heights + w,
-        moment: s.moment + a * w,
+impl Sums {
+    // Of no singleton.
+    pub fn none() -> Sums
+        ensures { SumsOf result.heights result.moment [] [] }
+    {
+        Sums {
+            heights: 0,
+            moment: 0,
+        }
     }
-}
 
-pub fn centre_of(s: Sums) -> Centre
-    requires { (s.heights ≤ term_limit * M) × (s.moment ≤ 2000000000 * s.heights) }
-    ensures figure_value { (ps : List ℤ) (hs : List ℕ) → SumsOf s ps hs
-        → ((k : ℕ) → k < length ps → InCrisp (get_or ps k (pos 0))) → result.figure.0 ≡ figure_of ps hs }
-    ensures sum { (result.sum ≡ s.heights) × InCrisp result.figure.0 }
-{
-    if s.heights == 0 {
-        return Centre {
-            sum: 0,
-            figure: Crisp(0),
-        };
+    // With one singleton more, of height h at p.
+    pub fn added(self, p: Crisp, h: Degree) -> Sums
+        requires { InCrisp p.0 × (h.0 ≤ M) × (self.heights + M ≤ term_limit * M) }
+        ensures sums_of { (ps : List ℤ) (hs : List ℕ) → SumsOf self.heights self.moment ps hs
+            → SumsOf result.heights result.moment (ps ++ (p.0 ∷ [])) (hs ++ (h.0 ∷ [])) }
+        ensures small { result.heights ≤ self.heights + M }
+    {
+        let w = u64::from(h.0);
+        let a = u64::from(crisp::lift(p));
+        Sums {
+            heights: self.heights + w,
+            moment: self.moment + a * w,
+        }
     }
-    // Most figures lie within 500 of 0, and so at most a million thousandths above -500.
-    let q = nearest::nearest_above(s.moment, s.heights, 999_500_000) as u32;
-    let figure = crisp::lower(q);
-    Centre {
-        sum: s.heights as u32,
-        figure: figure,
+
+    // The figure, where a height is above 0.
+    pub fn centre(self) -> Option<Crisp>
+        ensures { MatchOption result (self.heights ≡ 0) (λ x. (0 < self.heights) × InCrisp x.0 × ((ps : List ℤ) (hs : List ℕ) → SumsOf self.heights self.moment ps hs
+            → ((k : ℕ) → k < length ps → InCrisp (get_or ps k (pos 0))) → x.0 ≡ figure_of ps hs)) }
+    {
+        if self.heights == 0 {
+            return None;
+        }
+        // Most figures lie within 500 of 0, and so at most a million thousandths above -500.
+        let q = nearest::nearest_above(self.moment, self.heights, 999_500_000);
+        Some(crisp::lower(q as u32))
     }
 }

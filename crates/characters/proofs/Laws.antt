@@ -1,31 +1,15 @@
 -- One step over a text, at its first byte and at a place of it: whether what begins there passes, and how far what passes
 -- goes on.
-use mathlib.Core.Path.{◌≡◌, refl, ◌∙◌}
+use mathlib.Core.Path.{◌≡◌}
 use mathlib.Core.List.{List, [], ◌∷◌}
-use mathlib.Core.Bool.{Bool, true, false, ◌&&◌, ◌||◌, not}
+use mathlib.Core.Bool.{Bool, true, false}
 use Prim.Native.Nat.{ℕ, suc, ◌+◌, ◌≤◌, ◌<◌}
 use native.Mathlib.Numerals.{add-one}
 use native.Mathlib.Omega.{arith}
-use borrow.Author.Tests.{eqb-true}
 use lib.ListN.{length, drop, get_or, drop_of_length-le}
 use lib.Seq.{drop-cons}
-use Rattle.model.specs.Basic.{between, run}
-use Rattle.model.specs.Tokens.{is_digit, is_underscore, is_name_byte, starts, tidy}
-
--- letters and digits are the name bytes but the underscore
-pub plain : (b : ℕ) (r : Bool) → r ≡ between 97 122 b || (between 65 90 b || is_digit b) → r ≡ is_name_byte b && not (is_underscore b)
-plain b r p = p ∙ go (is_underscore b) refl
-  where
-    name : (u l d : Bool) → l || (u || d) ≡ ((u || (l || false)) || d) && true
-    name true true d = refl
-    name true false d = refl
-    name false true d = refl
-    name false false true = refl
-    name false false false = refl
-
-    go : (e : Bool) → is_underscore b ≡ e → between 97 122 b || (between 65 90 b || is_digit b) ≡ is_name_byte b && not e
-    go true q = rw (eqb-true b 95 q)
-    go false q = rw q (name (between 65 90 b) (between 97 122 b) (is_digit b))
+use Rattle.model.specs.Basic.{run}
+use Rattle.model.specs.Tokens.{is_underscore, starts, tidy}
 
 pub tidy_cons : (c : ℕ) (w : List ℕ) → is_underscore c ≡ false → tidy (c ∷ w) ≡ tidy w
 unfolding tidy

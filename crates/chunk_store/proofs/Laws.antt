@@ -1,15 +1,15 @@
 -- A chunk put into a store, and what a call is answered and leaves, in a state that is open and in one that is not.
 use mathlib.Core.Path.{◌≡◌, refl, sym, ap, ◌∙◌}
 use mathlib.Core.Bool.{Bool, true, false, not}
-use mathlib.Core.List.{List, [], ◌++◌, append-nil}
+use mathlib.Core.List.{List, [], ◌++◌}
 use mathlib.Core.Option.{none, some}
 use Prim.Native.Nat.{ℕ, ◌+◌, ◌-◌, ◌≤◌, ◌<◌}
 use native.Mathlib.Omega.{arith}
 use borrow.Author.Tests.{lt-ltb, le-ltb, leb-true, leb-false, le-leb, lt-leb}
-use borrow.Rule.Slice.PartMut.{mid_of, put_mid, Post-is}
+use borrow.Rule.Slice.PartMut.{put_mid, Post-is}
 use lib.Dec.{ltb, leb}
-use lib.ListN.{length, take, drop, length-append, length-take, length-drop, drop_of_length-le}
-use lib.Seq.{length-take-le, take-length}
+use lib.ListN.{length, take, drop, length-append}
+use lib.Seq.{length-take-le}
 use Rattle.model.specs.Bounds.{text_limit}
 use Rattle.model.specs.Outcome.{accepted, refused}
 use Rattle.model.specs.Buffers.{reads_into}

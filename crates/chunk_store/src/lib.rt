@@ -4,14 +4,14 @@
 ghost use Rattle.std.specs.Prelude.{◌≡◌, not, ◌++◌, ◌+◌, ◌≤◌, length, take, drop};
 ghost use Rattle.model.specs.Chunks.{is_open, appended, Link};
 
-use model::{Refusal, Verdict};
+use model::Refusal;
 
 // The number of a text that is over: one more than a text may have.
 pub const OVER: usize = bounds::TEXT + 1;
 
 // A store that does not hold every text, too, is taken for a text that is over.
 pub fn is_over(store: &[u8], n: usize) -> bool
-    ensures { result ≡ not (is_open (record { store = store.entry.now; count = n })) }
+    ensures { result ≡ not (is_open (record { store = store.now; count = n })) }
 {
     store.len() < bounds::TEXT || bounds::TEXT < n
 }
@@ -27,19 +27,19 @@ fn put(store: &mut [u8], n: usize, chunk: &[u8])
 }
 
 // Bytes that have come, perhaps none.
-pub fn append(chunk: &[u8], store: &mut [u8], count: &mut usize) -> Verdict
-    ensures { Link (record { store = store.entry.now; count = count.old })
-        (appended chunk.now result (record { store = store.exit.now; count = count.new })) }
+pub fn append(chunk: &[u8], store: &mut [u8], count: &mut usize) -> Result<(), Refusal>
+    ensures { Link (record { store = store.old; count = count.old })
+        (appended chunk.now result (record { store = store.new; count = count.new })) }
 {
     let n = *count;
     if is_over(store, n) {
-        return Verdict::Refused(Refusal::TextOver);
+        return Err(Refusal::TextOver);
     }
     if bounds::TEXT - n < chunk.len() {
         *count = OVER;
-        return Verdict::Refused(Refusal::TextTooLong);
+        return Err(Refusal::TextTooLong);
     }
     put(store, n, chunk);
     *count = n + chunk.len();
-    Verdict::Accepted
+    Ok(())
 }

@@ -2,102 +2,87 @@
 // parentheses are known before they are written; a chain of equal operators is a loop.
 #![tactic(auto)]
 
-ghost use Rattle.std.specs.Prelude.{◌*◌, ◌≤◌, ◌<◌, length};
+ghost use Rattle.std.specs.Prelude.{◌*◌, ◌≤◌, length};
 ghost use Rattle.model.specs.Block.{neg};
 ghost use Rattle.model.specs.Parentheses.{form as form_of};
 ghost use Rattle.model.specs.Image.{word_at, decode};
 ghost use Rattle.model.specs.Listing.{input_term_name, wrapped, condition_text};
-ghost use Rattle.layout.specs.Checked.{Checked};
-ghost use Rattle.condition_listing.specs.Writes.{Writes};
+ghost use Rattle.condition_words.specs.Forms.{number};
+ghost use Rattle.condition_listing.specs.Writes.{WritesCondition};
 
-use condition_words::{NOT_TERM_FORM, NOT_WORD, TERM_WORD};
-use header::Header;
-use listing_writer::puts;
+use bounds::LISTING;
+use condition_words::{Form, NOT_WORD, TERM_WORD};
+use layout::CheckedImage;
+use listing_writer::Listing;
 use operator_listing::{form, operator, operator_form};
 use subcondition_listing::term;
-use words::whole_word;
 
-// Where a condition that was written starts, in words, and the bytes written so far.
-#[derive(Clone, Copy)]
-pub struct Written {
-    pub first: usize,
-    pub k: usize,
-}
-
-// The condition that ends before word e, in parentheses if its form is looser than l.
+// The condition that ends before word e, in parentheses if its form is looser than l; where it starts.
 #[cycle(condition_negation_operand)]
-fn operand(out: &mut [u8], k: usize, img: &[u8], h: Header, e: usize, l: u8) -> Written
-    requires { Checked img.now h × (e * 4 ≤ length img.now) }
-    ensures writes { Writes (word_at img.now)
-        (λ c. wrapped l (form_of c) (condition_text (input_term_name (decode (word_at img.now))) c))
-        e k result.first result.k out.old out.new }
-    ensures within { result.first ≤ e }
+fn operand(out: &mut Listing<LISTING>, image: &CheckedImage, e: usize, l: Form) -> usize
+    requires { e * 4 ≤ length image.now.stored.bytes.now }
+    ensures writes { WritesCondition (word_at image.now.stored.bytes.now)
+        (λ c. wrapped (number l) (form_of c) (condition_text (input_term_name (decode (word_at image.now.stored.bytes.now))) c))
+        e result out.old out.new }
+    ensures within { result ≤ e }
 {
-    if form(img, e) <= l {
-        return condition(out, k, img, h, e);
+    if !form(image.stored.bytes, e).is_looser(l) {
+        return condition(out, image, e);
     }
-    let a = puts(out, k, b")");
-    let m = condition(out, a, img, h, e);
-    let n = puts(out, m.k, b"(");
-    Written {
-        first: m.first,
-        k: n,
-    }
+    out.puts(b")");
+    let first = condition(out, image, e);
+    out.puts(b"(");
+    first
 }
 
 // NOT of the condition that ends before word e; over a term it stands after IS.
 #[cycle(condition_negation_operand)]
-fn negation(out: &mut [u8], k: usize, img: &[u8], h: Header, e: usize) -> Written
-    requires { Checked img.now h × (e * 4 ≤ length img.now) }
-    ensures writes { Writes (word_at img.now)
-        (λ c. condition_text (input_term_name (decode (word_at img.now))) (neg c))
-        e k result.first result.k out.old out.new }
-    ensures within { result.first ≤ e }
+fn negation(out: &mut Listing<LISTING>, image: &CheckedImage, e: usize) -> usize
+    requires { e * 4 ≤ length image.now.stored.bytes.now }
+    ensures writes { WritesCondition (word_at image.now.stored.bytes.now)
+        (λ c. condition_text (input_term_name (decode (word_at image.now.stored.bytes.now))) (neg c))
+        e result out.old out.new }
+    ensures within { result ≤ e }
 {
     if e < 1 {
-        return Written { first: 0, k: k };
+        return 0;
     }
-    let last = whole_word(img, e - 1);
+    let last = image.stored.word(e - 1);
     if TERM_WORD <= last {
-        let n = term(out, k, img, h, last - TERM_WORD, b" IS NOT ");
-        return Written { first: e - 1, k: n };
+        term(out, image, last - TERM_WORD, b" IS NOT ");
+        return e - 1;
     }
-    let m = operand(out, k, img, h, e, NOT_TERM_FORM);
-    let n = puts(out, m.k, b"NOT ");
-    Written {
-        first: m.first,
-        k: n,
-    }
+    let first = operand(out, image, e, Form::NotTerm);
+    out.puts(b"NOT ");
+    first
 }
 
 // The condition that ends before word e. Left of an operator its own form stands bare, right of it the next tighter.
 #[cycle(condition_negation_operand)]
-pub fn condition(out: &mut [u8], k: usize, img: &[u8], h: Header, e: usize) -> Written
-    requires { Checked img.now h × (e * 4 ≤ length img.now) }
-    ensures writes { Writes (word_at img.now)
-        (condition_text (input_term_name (decode (word_at img.now))))
-        e k result.first result.k out.old out.new }
-    ensures within { result.first ≤ e }
+pub fn condition(out: &mut Listing<LISTING>, image: &CheckedImage, e: usize) -> usize
+    requires { e * 4 ≤ length image.now.stored.bytes.now }
+    ensures writes { WritesCondition (word_at image.now.stored.bytes.now)
+        (condition_text (input_term_name (decode (word_at image.now.stored.bytes.now))))
+        e result out.old out.new }
+    ensures within { result ≤ e }
 {
     let mut d = e;
-    let mut q = k;
     while 0 < d {
-        let w = whole_word(img, d - 1);
+        let w = image.stored.word(d - 1);
         if TERM_WORD <= w {
-            let n = term(out, q, img, h, w - TERM_WORD, b" IS ");
-            return Written { first: d - 1, k: n };
+            term(out, image, w - TERM_WORD, b" IS ");
+            return d - 1;
         }
         if w == NOT_WORD {
-            return negation(out, q, img, h, d - 1);
+            return negation(out, image, d - 1);
         }
         let own = operator_form(w);
-        let m = operand(out, q, img, h, d - 1, own - 1);
-        let n = operator(out, m.k, w);
-        if own < form(img, m.first) {
-            return operand(out, n, img, h, m.first, own);
+        let middle = operand(out, image, d - 1, own.tighter());
+        operator(out, w);
+        if form(image.stored.bytes, middle).is_looser(own) {
+            return operand(out, image, middle, own);
         }
-        d = m.first;
-        q = n;
+        d = middle;
     }
-    Written { first: d, k: q }
+    d
 }

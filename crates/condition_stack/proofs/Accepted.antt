@@ -3,49 +3,53 @@ use mathlib.Core.Path.{◌≡◌, refl, ap, ◌∙◌}
 use mathlib.Core.List.{List, [], ◌∷◌}
 use mathlib.Core.Bool.{Bool, true, false, ◌&&◌}
 use mathlib.Core.Option.{Option, none, some}
-use Prim.Native.Nat.{ℕ, ◌≤◌}
+use Prim.Native.Nat.{ℕ, ◌≤◌, max}
 use native.Mathlib.Omega.{arith}
 use borrow.Author.Tests.{le-leb, leb-true}
 use lib.Dec.{leb}
 use Rattle.model.specs.Basic.{same}
 use Rattle.model.specs.Bounds.{depth_limit}
-use Rattle.model.specs.Block.{Condition, term, neg, two}
-use Rattle.model.specs.Parentheses.{OR_FORM, form, bare_behind_not, bare_left, bare_right, depth}
+use Rattle.model.specs.Block.{Condition, term, neg, two, Op, and, or}
+use Rattle.model.specs.Parentheses.{form, rank, negated_form, bare_behind_not, bare_left, bare_right, opened, depth}
 use Rattle.model.specs.WellFormed.{terms_below}
 use Rattle.model.specs.Image.{postfix, tree_of}
 use Rattle.laws.proofs.Tests.{both, and_i, iff}
 use Rattle.laws.proofs.Places.{same_eq, same_refl}
-use Rattle.condition_stack.specs.Shapes.{shape, form_of, depth_of, negated_shape, joined_shape, shapes}
+use Rattle.condition_stack.specs.Shapes.{negated_shape, joined_shape, shapes}
+use Rattle.condition_words.specs.declared.Form.{Form}
+use Rattle.condition_words.specs.declared.Form.TheVariants.{Term, NotTerm, Not, And, Or}
+use Rattle.condition_words.specs.Forms.{number, negated, operator}
 use Rattle.condition_stack.specs.Stored.{is_condition}
 use Rattle.condition_words.proofs.Trees.{tree_postfix}
-use Rattle.condition_words.proofs.Room.{form_le, opened_ge}
+use Rattle.condition_words.proofs.Room.{opened_ge}
 use Rattle.condition_words.proofs.Passes.{fold, pass, Allowed, allowed_fine, pass_postfix, pass_one}
 
-module _ (k d : ℕ) (h : k ≤ OR_FORM) where
-  pub form_shape : form_of (shape k d) ≡ k
-  form_shape = omega arith
+negated_is : (k : Form) → number (negated k) ≡ negated_form (number k)
+negated_is Term = refl
+negated_is NotTerm = refl
+negated_is Not = refl
+negated_is And = refl
+negated_is Or = refl
 
-  pub depth_shape : depth_of (shape k d) ≡ d
-  depth_shape = omega arith
+operator_is : (o : Op) → number (operator o) ≡ rank o
+operator_is and = refl
+operator_is or = refl
 
-fold_shape : (m : ℕ) (c : Condition) → fold (shapes m) c ≡ shape (form c) (depth c)
-unfolding fold negated_shape joined_shape form depth
-fold_shape m (term t) = refl
-fold_shape m (neg c) =
-    let f = form_shape (form c) (depth c) (form_le c) in
-    let d = depth_shape (form c) (depth c) (form_le c) in
-    rw (fold_shape m c, f, d) refl
-fold_shape m (two o a b) =
-    let fa = form_shape (form a) (depth a) (form_le a) in
-    let da = depth_shape (form a) (depth a) (form_le a) in
-    let fb = form_shape (form b) (depth b) (form_le b) in
-    let db = depth_shape (form b) (depth b) (form_le b) in
-    rw (fold_shape m a, fold_shape m b, fa, da, fb, db) refl
+module _ (m : ℕ) where
+  fold_form : (c : Condition) → number (fold (shapes m) c).form ≡ form c
+  unfolding fold negated_shape joined_shape form
+  fold_form (term t) = refl
+  fold_form (neg c) = negated_is (fold (shapes m) c).form ∙ ap negated_form (fold_form c)
+  fold_form (two o a b) = operator_is o
 
-fold_depth : (m : ℕ) (c : Condition) → depth_of (fold (shapes m) c) ≡ depth c
-fold_depth m c = ap depth_of (fold_shape m c) ∙ depth_shape (form c) (depth c) (form_le c)
+  fold_depth : (c : Condition) → (fold (shapes m) c).depth ≡ depth c
+  unfolding fold negated_shape joined_shape depth
+  fold_depth (term t) = refl
+  fold_depth (neg c) = λ j. opened bare_behind_not (fold_form c j) (fold_depth c j)
+  fold_depth (two o a b) =
+      λ j. max (opened (bare_left o) (fold_form a j) (fold_depth a j)) (opened (bare_right o) (fold_form b j) (fold_depth b j))
 
-fine_shape : (m : ℕ) (c : Condition) → depth c ≤ depth_limit → leb (depth_of (fold (shapes m) c)) depth_limit ≡ true
+fine_shape : (m : ℕ) (c : Condition) → depth c ≤ depth_limit → leb (fold (shapes m) c).depth depth_limit ≡ true
 fine_shape m c d = rw (fold_depth m c) (le-leb (depth c) depth_limit d)
 
 allowed : (m : ℕ) (c : Condition) → terms_below m c ≡ true → depth c ≤ depth_limit → Allowed (shapes m) c
@@ -104,18 +108,13 @@ accepts_in m ws e =
     let r = pass_one (shapes m) ws o.0 o.1 in
     ap (is_condition m) r.1 ∙ condition_postfix m r.0 ∙ and_i _ _ (allowed_terms m r.0 r.2) (allowed_depth m r.0 r.2)
 
--- what is left of a condition's words
-condition_left : (m : ℕ) (ws : List ℕ) → is_condition m ws ≡ true
-    → pass (shapes m) ws (some []) ≡ some (shape (form (tree_of ws)) (depth (tree_of ws)) ∷ [])
-condition_left m ws e =
-    let r = condition_in m ws e in
-    let c = tree_of ws in
-    ap (λ (l : List ℕ). pass (shapes m) l (some [])) r.0 ∙ pass_postfix (shapes m) c (allowed m c r.1 r.2) r.2 (omega arith)
-    ∙ ap (λ (x : ℕ). some (x ∷ [])) (fold_shape m c)
-
 accepts_out : (m : ℕ) (ws : List ℕ) → is_condition m ws ≡ true → accepts m ws ≡ true
 unfolding accepts
-accepts_out m ws e = ap is_one (condition_left m ws e)
+accepts_out m ws e =
+    let r = condition_in m ws e in
+    let c = tree_of ws in
+    ap (λ (l : List ℕ). is_one (pass (shapes m) l (some []))) r.0
+    ∙ ap is_one (pass_postfix (shapes m) c (allowed m c r.1 r.2) r.2 (omega arith))
 
 -- THE THEOREM
 pub accepts_is : (m : ℕ) (ws : List ℕ) → accepts m ws ≡ is_condition m ws

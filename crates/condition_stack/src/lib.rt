@@ -1,82 +1,105 @@
 // The stack of a pass over a condition's words: of each subtree its form and its depth.
 #![tactic(auto)]
 
-ghost use Rattle.std.specs.Prelude.{◌≡◌, ℕ, ◌≤◌, length};
+ghost use Rattle.std.specs.Prelude.{◌≡◌, ℕ, ◌+◌, ◌≤◌, ◌<◌, length, is_some, IfSome, IfNone, [], ◌∷◌, ltb};
 ghost use Rattle.model.specs.Block.{Op};
-ghost use Rattle.model.specs.Parentheses.{NOT_FORM, OR_FORM, rank, negated_form, bare_right, opened};
-ghost use Rattle.condition_words.specs.Machine.{added, unary, binary, room, stack_of};
-ghost use Rattle.condition_stack.specs.Shapes.{shape, form_of, depth_of, shapes, view};
+ghost use Rattle.model.specs.Parentheses.{bare_right, opened};
+ghost use Rattle.condition_words.specs.Forms.{number, operator};
+ghost use Rattle.condition_words.specs.Machine.{added, unary, binary, room};
+ghost use Rattle.condition_stack.specs.Shapes.{shape, shapes, held, view};
 
 use bounds::DEPTH;
-use condition_words::{NOT_FORM, NOT_TERM_FORM, ROOM, TERM_FORM};
+use condition_words::{Form, ROOM};
 
-// A subtree is kept as one number, its shape: FORMS times the parentheses open at once in it, and its form.
-const FORMS: u8 = 8;
-
-// As a constant, so that the quotient is a shift.
-const WIDE_FORMS: usize = FORMS as usize;
-
-// l: the loosest form that stands bare; a looser one carries into the depth.
-fn opening(l: u8, shape: u8) -> usize
-    requires { l ≤ OR_FORM }
-    ensures { result ≡ opened l (form_of shape) (depth_of shape) }
-{
-    (shape as usize + WIDE_FORMS - 1 - l as usize) / WIDE_FORMS
+// What is kept of a subtree: its form, and how many parentheses are open at once in it.
+#[derive(Clone, Copy)]
+pub struct Shape {
+    pub form: Form,
+    pub depth: u8,
 }
 
-fn negated_form(form: u8) -> u8
-    ensures { (result ≡ negated_form form) × (result ≤ NOT_FORM) }
-{
-    if form == TERM_FORM {
-        return NOT_TERM_FORM;
-    }
-    NOT_FORM
-}
-
-// One more on the first n. Steps answer the height, and 0 where the words are no condition.
-pub fn push(stack: &mut [u8; ROOM], n: usize, form: u8, depth: usize) -> usize
-    requires { (length stack.old ≡ room) × (form ≤ OR_FORM) }
-    ensures by_index { (m : ℕ) → view stack.new result
-        ≡ added (shapes m) (shape form depth) (stack_of 0 stack.old n) }
-    ensures small { (result ≤ room) × (length stack.new ≡ room) }
-{
-    if depth <= DEPTH {
-        if n < ROOM {
-            stack[n] = depth as u8 * FORMS + form;
-            return n + 1;
+impl Shape {
+    // How many are open where `bare` is the loosest form that stands bare: a looser one is in parentheses.
+    fn opened(&self, bare: Form) -> usize
+        ensures { result ≡ opened (number bare) (number self.now.form) self.now.depth }
+    {
+        let depth = usize::from(self.depth);
+        if self.form.is_looser(bare) {
+            depth + 1
+        } else {
+            depth
         }
-        return 0;
     }
-    0
 }
 
-pub fn negate(stack: &mut [u8; ROOM], n: usize) -> usize
-    requires { (length stack.old ≡ room) × (n ≤ room) }
-    ensures by_index { (m : ℕ) → view stack.new result ≡ unary (shapes m) (stack_of 0 stack.old n) }
-    ensures small { (result ≤ room) × (length stack.new ≡ room) }
-{
-    if n == 0 {
-        return 0;
-    }
-    let a = stack[n - 1];
-    let depth = opening(NOT_TERM_FORM, a);
-    push(stack, n - 1, negated_form(a % FORMS), depth)
+// The subtrees that no operator has taken yet.
+#[derive(Drop)]
+pub struct Stack {
+    pub shapes: [Shape; ROOM],
+    pub height: usize,
+    pub ghost within: { height ≤ room },
 }
 
-// An operator of this form, right of which forms up to `right` stand bare; left of it those up to its own.
-pub fn join(stack: &mut [u8; ROOM], n: usize, form: u8, right: u8) -> usize
-    requires { (length stack.old ≡ room) × (n ≤ room) × (form ≤ OR_FORM) × (right ≤ OR_FORM) }
-    ensures by_index { (m : ℕ) (o : Op) → form ≡ rank o → right ≡ bare_right o
-        → view stack.new result ≡ binary (shapes m) o (stack_of 0 stack.old n) }
-    ensures small { (result ≤ room) × (length stack.new ≡ room) }
-{
-    if n < 2 {
-        return 0;
+impl Stack {
+    #[tactic(auto, unfolding(condition_words::specs::Machine::stack_of))]
+    pub fn new() -> Stack
+        ensures { held result.shapes result.height ≡ [] }
+    {
+        let term = Shape {
+            form: Form::Term,
+            depth: 0,
+        };
+        Stack {
+            shapes: [term; ROOM],
+            height: 0,
+        }
     }
-    let x = opening(form, stack[n - 2]);
-    let y = opening(right, stack[n - 1]);
-    if x < y {
-        return push(stack, n - 2, form, y);
+
+    #[tactic(auto, using(condition_words::proofs::Stacks::stack_one), unfolding(condition_words::specs::Machine::stack_of))]
+    fn pop(&mut self) -> Option<Shape>
+        ensures some { IfSome result (λ a. held self.old.shapes self.old.height ≡ a ∷ held self.new.shapes self.new.height) }
+        ensures none { IfNone result (held self.old.shapes self.old.height ≡ []) }
+    {
+        if self.height == 0 {
+            return None;
+        }
+        self.height -= 1;
+        Some(self.shapes[self.height])
     }
-    push(stack, n - 2, form, x)
+
+    // One more subtree. A step answers None where the words are no condition.
+    #[tactic(auto, using(condition_words::proofs::Stacks::stack_push, condition_words::proofs::Stacks::length_stack), unfolding(condition_words::specs::Machine::added))]
+    pub fn push(&mut self, form: Form, depth: usize) -> Option<()>
+        ensures { (m : ℕ) → view self.new.shapes self.new.height (is_some result) ≡ added (shapes m) (shape form depth) (held self.old.shapes self.old.height) }
+    {
+        if depth <= DEPTH && self.height < ROOM {
+            self.shapes[self.height] = Shape {
+                form,
+                depth: depth as u8,
+            };
+            self.height += 1;
+            Some(())
+        } else {
+            None
+        }
+    }
+
+    #[tactic(auto, unfolding(condition_words::specs::Machine::unary, crate::specs::Shapes::negated_shape))]
+    pub fn negate(&mut self) -> Option<()>
+        ensures { (m : ℕ) → view self.new.shapes self.new.height (is_some result) ≡ unary (shapes m) (held self.old.shapes self.old.height) }
+    {
+        let a = self.pop()?;
+        self.push(a.form.negated(), a.opened(Form::NotTerm))
+    }
+
+    // An operator of this form, right of which forms up to `right` stand bare; left of it those up to its own.
+    #[tactic(auto, unfolding(condition_words::specs::Machine::binary, crate::specs::Shapes::joined_shape))]
+    pub fn join(&mut self, form: Form, right: Form) -> Option<()>
+        ensures { (m : ℕ) (o : Op) → form ≡ operator o → number right ≡ bare_right o
+            → view self.new.shapes self.new.height (is_some result) ≡ binary (shapes m) o (held self.old.shapes self.old.height) }
+    {
+        let b = self.pop()?;
+        let a = self.pop()?;
+        self.push(form, a.opened(form).max(b.opened(right)))
+    }
 }

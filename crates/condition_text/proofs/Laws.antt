@@ -1,5 +1,5 @@
 -- The laws of reading a condition.
-use Rattle.std.specs.Prelude.{if◌then◌else◌}
+use Rattle.std.specs.Prelude.{None, if◌then◌else◌}
 use mathlib.Core.Path.{◌≡◌, refl, sym, ap, ◌∙◌, subst}
 use mathlib.Core.Bool.{Bool, true, false}
 use mathlib.Core.List.{List, [], ◌∷◌, ◌++◌}
@@ -22,7 +22,8 @@ use Rattle.laws.proofs.Repetition.{join, no_join}
 use Rattle.cursor.specs.declared.Cursor.{Cursor}
 use Rattle.cursor.specs.View.{seen, text_of, Fits, left, Step, fault}
 use Rattle.cursor.proofs.Laws.{enough, kind_seen, text_seen, block_seen, words_seen, lost_kind, lost_refuse, lost_expect, judged_bad, judged_good, numbered}
-use Rattle.symbol_table.specs.Symbols.{Describes, input_count, term_count, first, among}
+use Rattle.lookup.specs.Names.{among}
+use Rattle.symbol_table.specs.Symbols.{Describes, input_count, term_count, first}
 use Rattle.condition_text.specs.declared.Pending.{Pending}
 use Rattle.condition_text.specs.Pending.{Room, Adds, ReadsCondition, Balanced, Stops, Counts, Puts}
 
@@ -30,7 +31,7 @@ abbrev pub at : Pending → Cursor → Pending
 at p d = record { cursor = d; words = p.words; put = p.put }
 
 -- A REFUSED READING
-module _ (s : List ℕ) (d : Cursor) (g : Fits s d) (h : d.why ≡ 0 → ⊥) where
+module _ (s : List ℕ) (d : Cursor) (g : Fits s d) (h : d.refused ≡ None → ⊥) where
   module _ (b : Block) (n : ℕ) where
     term_stays : (i : ℕ) → (term_or_not i (seen s d b n)).parse ≡ seen s d b n
     unfolding term_or_not condition_term judged
@@ -40,11 +41,11 @@ module _ (s : List ℕ) (d : Cursor) (g : Fits s d) (h : d.why ≡ 0 → ⊥) wh
     here_stays i = ap (λ (r : Parse). (term_or_not i r).parse) (lost_expect s d g h b n IS (λ z. omega arith)) ∙ term_stays i
 
 -- no token follows a refusal
-pub refused_left : (s : List ℕ) (w : ℕ) (c d : Cursor) → c.why ≡ 0 → Step (refuse w) s c d → left s d ≡ 0
+pub refused_left : (s : List ℕ) (w : ℕ) (c d : Cursor) → c.refused ≡ None → Step (refuse w) s c d → left s d ≡ 0
 unfolding refuse seen kind left
 refused_left s w c d h a =
     let q = ap kind (a.reads empty_block 0) in
-    let e : d.kind ≡ END = simp (eq-eqb _ _ h) at q in
+    let e : d.kind ≡ END = simp h at q in
     simp (eq-eqb _ _ e)
 
 -- WHATEVER THE BLOCK
@@ -61,7 +62,7 @@ within_then {s} {j} {k} {p} {q} {r} {old} {mid} {new} a b = record {
 }
 
 -- a word that was counted is put
-pub counted_then : {s : List ℕ} {p q r : Pending} {old new : List ℕ} (k : ℕ) → p.cursor.why ≡ 0 → Counts s p q → Balanced s (k + 1) q r old new
+pub counted_then : {s : List ℕ} {p q r : Pending} {old new : List ℕ} (k : ℕ) → p.cursor.refused ≡ None → Counts s p q → Balanced s (k + 1) q r old new
     → Balanced s k p r old new
 counted_then {s} {p} {q} {r} {old} {new} k h a b = record {
   fewer = let u = a.fewer in let v = b.fewer in omega arith;
@@ -112,7 +113,7 @@ pub put_seen : {p r : Pending} {w : ℕ} {old new : List ℕ} (s : List ℕ) (b 
 put_seen s b a = rw (a.cursor, a.words)
 
 -- a token is counted, what follows it read, its word put
-pub turned : {s : List ℕ} {k : ℕ} {p q m r : Pending} {w : ℕ} {old mid new : List ℕ} → p.cursor.why ≡ 0 → Counts s p q → Balanced s k q m old mid
+pub turned : {s : List ℕ} {k : ℕ} {p q m r : Pending} {w : ℕ} {old mid new : List ℕ} → p.cursor.refused ≡ None → Counts s p q → Balanced s k q m old mid
     → Puts m r w mid new → Balanced s k p r old new
 turned {s} {k} h n a u = counted_then k h n (within_then a (put_within a.room u))
 
@@ -177,7 +178,7 @@ module _ (s names symbols : List ℕ) (b : Block) (D : Describes s names symbols
     unfolding condition_term
     term_fault i = judged_bad here (advance here) w (a_name here []) ((is_term i (text here) here.block, 5) ∷ []) (sym e) h
 
-    pub input_fault : (d : Cursor) → Step (refuse w) s c d → (d.why ≡ 0 → ⊥) → (subcondition here).parse ≡ refuse w here
+    pub input_fault : (d : Cursor) → Step (refuse w) s c d → (d.refused ≡ None → ⊥) → (subcondition here).parse ≡ refuse w here
     unfolding subcondition
     input_fault d a z =
         ap (λ (r : Parse). (term_or_not (input_of (text here) here.block) (expect IS r)).parse)
@@ -188,7 +189,7 @@ module _ (s names symbols : List ℕ) (b : Block) (D : Describes s names symbols
     the_input : input_of (text here) b ≡ i
     the_input = simp text_seen (D.input (text_of s c) ∙ sym f)
 
-    pub input_unknown : (d : Cursor) → input_count symbols ≤ i → Step (refuse 5) s c d → (d.why ≡ 0 → ⊥) → (subcondition here).parse ≡ refuse 5 here
+    pub input_unknown : (d : Cursor) → input_count symbols ≤ i → Step (refuse 5) s c d → (d.refused ≡ None → ⊥) → (subcondition here).parse ≡ refuse 5 here
     unfolding subcondition
     input_unknown d h a z =
         let q : is_input (text here) here.block ≡ false = simp (the_input, block_seen, D.inputs) (le-ltb _ _ h) in
@@ -254,7 +255,7 @@ Going part k o s b p₀ l₀ p l =
     (t : Condition)
     × Again (λ f. chain_on f part k o) (left s p.cursor) (condition_read (seen s p.cursor b p.words) t)
     (chain_on n part k o (condition_read (seen s p₀.cursor b p₀.words) t₀))
-    × ((m : ℕ) (old : List ℕ) → (p₀.cursor.why ≡ 0 → Adds m p₀.put (postfix t₀) old l₀) → p.cursor.why ≡ 0 → Adds m p.put (postfix t) old l)
+    × ((m : ℕ) (old : List ℕ) → (p₀.cursor.refused ≡ None → Adds m p₀.put (postfix t₀) old l₀) → p.cursor.refused ≡ None → Adds m p.put (postfix t) old l)
 
 module _ (part : Parse → ConditionRead) (k : ℕ) (o : Op) (s : List ℕ) (b : Block) where
   abbrev view : Pending → Parse
@@ -264,7 +265,7 @@ module _ (part : Parse → ConditionRead) (k : ℕ) (o : Op) (s : List ℕ) (b :
   begins p l n t₀ h = (t₀, (n, h, refl), λ m old a. a)
 
   -- q is p with its token counted, m what part reads from there, r that with the word put
-  pub goes : (p₀ p q m r : Pending) (l₀ l mid new : List ℕ) → Going part k o s b p₀ l₀ p l → p.cursor.kind ≡ k → p.cursor.why ≡ 0
+  pub goes : (p₀ p q m r : Pending) (l₀ l mid new : List ℕ) → Going part k o s b p₀ l₀ p l → p.cursor.kind ≡ k → p.cursor.refused ≡ None
       → view q ≡ word (view p) → q.put ≡ p.put → ReadsCondition s b q m (part (view q)) l mid → Puts m r (op_word o) mid new
       → left s r.cursor < left s p.cursor → Going part k o s b p₀ l₀ r new
   unfolding postfix
@@ -276,10 +277,10 @@ module _ (part : Parse → ConditionRead) (k : ℕ) (o : Op) (s : List ℕ) (b :
       tree : Condition
       tree = two o (G n t₀ h).0 (part (view q)).tree
 
-      whole : (i : ℕ) (old : List ℕ) → (p₀.cursor.why ≡ 0 → Adds i p₀.put (postfix t₀) old l₀) → r.cursor.why ≡ 0
+      whole : (i : ℕ) (old : List ℕ) → (p₀.cursor.refused ≡ None → Adds i p₀.put (postfix t₀) old l₀) → r.cursor.refused ≡ None
           → Adds i r.put (postfix tree) old new
       whole i old x y =
-          let y' : m.cursor.why ≡ 0 = rw u.cursor at y in
+          let y' : m.cursor.refused ≡ None = rw u.cursor at y in
           adds ((G n t₀ h).2 i old x z) (adds (rw w at (a.adds y')) (u.adds y'))
 
       turn : (f : ℕ) → chain_on (suc f) part k o before ≡ chain_on f part k o (condition_read (view r) tree)

@@ -2,20 +2,22 @@
 // AND, OR and input name is counted at its token; its word is put when its operands are.
 #![tactic(auto)]
 
-ghost use Rattle.std.specs.Prelude.{◌≡◌, List, ℕ, ◌≤◌, ◌<◌};
+ghost use Rattle.std.specs.Prelude.{None, ◌≡◌, List, ℕ, ◌≤◌, ◌<◌};
 ghost use Rattle.model.specs.Bounds.{word_limit};
 ghost use Rattle.model.specs.Block.{Block, and};
 ghost use Rattle.model.specs.Keywords.{AND, END};
 ghost use Rattle.model.specs.Parse.{refuse};
 ghost use Rattle.model.specs.Rules.{word, condition_term, term_or_not, subcondition as subconditionOf, chain, plain as plain_of, operand as operandOf, condition_with, parenthesis};
+ghost use Rattle.refusals.specs.Faults.{number};
 ghost use Rattle.cursor.specs.View.{seen, Fits, Step};
-ghost use Rattle.symbol_table.specs.Symbols.{Symbols, Describes, input_count};
+ghost use Rattle.symbol_table.specs.Symbols.{input_count};
+ghost use Rattle.symbol_table.specs.Declarations.{Declares};
 ghost use Rattle.condition_text.specs.Pending.{Declared, Room, ReadsCondition, Balanced, Stops, Counts, Puts};
 
 use block_tables::Words;
 use cursor::Cursor;
-use lookup::Names;
-use symbol_table::SymbolTable;
+use refusals::Fault;
+use symbol_table::Declarations;
 
 const NOT_WORD: u32 = condition_words::NOT_WORD as u32;
 
@@ -31,17 +33,13 @@ pub struct Pending {
     pub put: usize,
 }
 
-fn refused(p: Pending, why: u8) -> Pending
-    requires { 0 < why }
-    ensures by_index { (s : List ℕ) → Fits s p.cursor → Step (refuse why) s p.cursor result.cursor }
+fn refused(p: Pending, fault: Fault) -> Pending
+    ensures by_index { (s : List ℕ) → Fits s p.cursor → Step (refuse (number fault)) s p.cursor result.cursor }
     ensures stops { Stops p result }
 {
-    let c = p.cursor;
-    let d = cursor::refuse(c, why);
     Pending {
-        cursor: d,
-        words: p.words,
-        put: p.put,
+        cursor: cursor::refuse(p.cursor, fault),
+        ..p
     }
 }
 
@@ -53,230 +51,145 @@ fn count(s: &[u8], p: Pending) -> Pending
     ensures counts { Counts s.now p result }
 {
     if p.words < bounds::WORDS {
-        let c = p.cursor;
-        let d = cursor::advance(s, c);
         return Pending {
-            cursor: d,
+            cursor: cursor::advance(s, p.cursor),
             words: p.words + 1,
-            put: p.put,
+            ..p
         };
     }
-    refused(p, 6)
+    refused(p, Fault::TooMany)
 }
 
 // A word behind those that are put.
 fn put(words: &mut Words, p: Pending, w: u32) -> Pending
-    requires { (p.put ≤ p.words) × (p.words ≤ word_limit) × (p.cursor.why ≡ 0 → p.put < p.words) }
+    requires { (p.put ≤ p.words) × (p.words ≤ word_limit) × (p.cursor.refused ≡ None → p.put < p.words) }
     ensures { Puts p result w words.old words.new }
 {
-    let c = p.cursor;
-    if c.why != 0 {
+    if p.cursor.refused.is_some() {
         return p;
     }
-    let n = p.put;
-    words[n] = w;
+    words[p.put] = w;
     Pending {
-        cursor: c,
-        words: p.words,
-        put: n + 1,
+        put: p.put + 1,
+        ..p
     }
 }
 
 // term, of input i
-fn term_named(
-    s: &[u8],
-    names: &Names,
-    symbols: &SymbolTable,
-    words: &mut Words,
-    p: Pending,
-    i: usize,
-) -> Pending
-    requires { Room s.now p × Symbols s.now names.now symbols.now × (i < input_count symbols.now)
-        × (p.cursor.why ≡ 0 → p.put < p.words) }
-    ensures reads_condition { (b : Block) → Describes s.now names.now symbols.now b
-        → ReadsCondition s.now b p result (condition_term i (seen s.now p.cursor b p.words))
+fn term_named(d: &Declarations, words: &mut Words, p: Pending, i: usize) -> Pending
+    requires { Room d.now.text.now p × (i < input_count d.now.symbols.now)
+        × (p.cursor.refused ≡ None → p.put < p.words) }
+    ensures reads_condition { (b : Block) → Declares d.now b
+        → ReadsCondition d.now.text.now b p result (condition_term i (seen d.now.text.now p.cursor b p.words))
         words.old words.new }
-    ensures within { Balanced s.now 1 p result words.old words.new }
+    ensures within { Balanced d.now.text.now 1 p result words.old words.new }
 {
     let c = p.cursor;
-    let w = cursor::name_fault(c);
-    if w != 0 {
-        return refused(p, w);
+    if let Err(fault) = cursor::name_fault(c) {
+        return refused(p, fault);
     }
-    let j = symbol_table::term_of(s, names, symbols, i, c);
-    if symbols[i + 1] - symbols[i] <= j {
-        return refused(p, 5);
-    }
-    let d = cursor::advance(s, c);
+    let Some(j) = symbol_table::term_of(d.text, d.names, d.symbols, i, c) else {
+        return refused(p, Fault::NotDeclared);
+    };
     put(
         words,
         Pending {
-            cursor: d,
-            words: p.words,
-            put: p.put,
+            cursor: cursor::advance(d.text, c),
+            ..p
         },
-        (condition_words::TERM_WORD + symbols[i] + j) as u32,
+        (condition_words::TERM_WORD + d.symbols[i] + j) as u32,
     )
 }
 
 // [NOT] term
-fn term_here(
-    s: &[u8],
-    names: &Names,
-    symbols: &SymbolTable,
-    words: &mut Words,
-    p: Pending,
-    i: usize,
-) -> Pending
-    requires { Room s.now p × Symbols s.now names.now symbols.now × (i < input_count symbols.now)
-        × (p.cursor.why ≡ 0 → p.put < p.words) }
-    ensures reads_condition { (b : Block) → Describes s.now names.now symbols.now b
-        → ReadsCondition s.now b p result (term_or_not i (seen s.now p.cursor b p.words))
+fn term_here(d: &Declarations, words: &mut Words, p: Pending, i: usize) -> Pending
+    requires { Room d.now.text.now p × (i < input_count d.now.symbols.now)
+        × (p.cursor.refused ≡ None → p.put < p.words) }
+    ensures reads_condition { (b : Block) → Declares d.now b
+        → ReadsCondition d.now.text.now b p result (term_or_not i (seen d.now.text.now p.cursor b p.words))
         words.old words.new }
-    ensures within { Balanced s.now 1 p result words.old words.new }
+    ensures within { Balanced d.now.text.now 1 p result words.old words.new }
 {
-    let c = p.cursor;
-    if c.kind != token_kinds::NOT {
-        return term_named(s, names, symbols, words, p, i);
+    if p.cursor.kind != token_kinds::NOT {
+        return term_named(d, words, p, i);
     }
-    let q = count(s, p);
-    let r = term_named(s, names, symbols, words, q, i);
+    let q = count(d.text, p);
+    let r = term_named(d, words, q, i);
     put(words, r, NOT_WORD)
 }
 
 // input IS [NOT] term
-fn subcondition(
-    s: &[u8],
-    names: &Names,
-    symbols: &SymbolTable,
-    words: &mut Words,
-    p: Pending,
-) -> Pending
-    requires { Room s.now p × Symbols s.now names.now symbols.now }
-    ensures reads_condition { (b : Block) → Describes s.now names.now symbols.now b
-        → ReadsCondition s.now b p result (subconditionOf (seen s.now p.cursor b p.words))
+fn subcondition(d: &Declarations, words: &mut Words, p: Pending) -> Pending
+    requires { Room d.now.text.now p }
+    ensures reads_condition { (b : Block) → Declares d.now b
+        → ReadsCondition d.now.text.now b p result (subconditionOf (seen d.now.text.now p.cursor b p.words))
         words.old words.new }
-    ensures within { Balanced s.now 0 p result words.old words.new }
+    ensures within { Balanced d.now.text.now 0 p result words.old words.new }
 {
     let c = p.cursor;
-    let w = cursor::name_fault(c);
-    if w != 0 {
-        return refused(p, w);
+    if let Err(fault) = cursor::name_fault(c) {
+        return refused(p, fault);
     }
-    let i = symbol_table::input_of(s, names, symbols, c);
-    if symbols[symbol_table::INPUT_COUNT] <= i {
-        return refused(p, 5);
-    }
-    let q = count(s, p);
-    let d = q.cursor;
-    let e = cursor::expect(s, d, token_kinds::IS);
-    term_here(
-        s,
-        names,
-        symbols,
-        words,
-        Pending {
-            cursor: e,
-            words: q.words,
-            put: q.put,
-        },
-        i,
-    )
+    let Some(i) = symbol_table::input_of(d.text, d.names, d.symbols, c) else {
+        return refused(p, Fault::NotDeclared);
+    };
+    let mut q = count(d.text, p);
+    q.cursor = cursor::expect(d.text, q.cursor, token_kinds::IS);
+    term_here(d, words, q, i)
 }
 
 // A subcondition or a parenthesised condition, where depth more parentheses may be open at once.
 #[cycle(condition_conjunction_operand_plain)]
-fn plain(
-    s: &[u8],
-    names: &Names,
-    symbols: &SymbolTable,
-    words: &mut Words,
-    p: Pending,
-    depth: usize,
-) -> Pending
-    requires { Room s.now p × Symbols s.now names.now symbols.now
-        × Declared s.now names.now symbols.now }
-    ensures reads_condition { (b : Block) → Describes s.now names.now symbols.now b
-        → ReadsCondition s.now b p result (plain_of (parenthesis depth) (seen s.now p.cursor b p.words))
+fn plain(d: &Declarations, words: &mut Words, p: Pending, depth: usize) -> Pending
+    requires { Room d.now.text.now p × Declared d.now }
+    ensures reads_condition { (b : Block) → Declares d.now b
+        → ReadsCondition d.now.text.now b p result (plain_of (parenthesis depth) (seen d.now.text.now p.cursor b p.words))
         words.old words.new }
-    ensures within { Balanced s.now 0 p result words.old words.new }
+    ensures within { Balanced d.now.text.now 0 p result words.old words.new }
 {
-    let c = p.cursor;
-    if c.kind != token_kinds::OPEN {
-        return subcondition(s, names, symbols, words, p);
+    if p.cursor.kind != token_kinds::OPEN {
+        return subcondition(d, words, p);
     }
     if depth == 0 {
-        return refused(p, 6);
+        return refused(p, Fault::TooMany);
     }
-    let d = cursor::advance(s, c);
-    let q = condition(
-        s,
-        names,
-        symbols,
-        words,
-        Pending {
-            cursor: d,
-            words: p.words,
-            put: p.put,
-        },
-        depth - 1,
-    );
-    let e = q.cursor;
-    let f = cursor::expect(s, e, token_kinds::CLOSE);
-    Pending {
-        cursor: f,
-        words: q.words,
-        put: q.put,
-    }
+    let mut q = p;
+    q.cursor = cursor::advance(d.text, q.cursor);
+    q = condition(d, words, q, depth - 1);
+    q.cursor = cursor::expect(d.text, q.cursor, token_kinds::CLOSE);
+    q
 }
 
 #[cycle(condition_conjunction_operand_plain)]
-fn operand(
-    s: &[u8],
-    names: &Names,
-    symbols: &SymbolTable,
-    words: &mut Words,
-    p: Pending,
-    depth: usize,
-) -> Pending
-    requires { Room s.now p × Symbols s.now names.now symbols.now
-        × Declared s.now names.now symbols.now }
-    ensures reads_condition { (b : Block) → Describes s.now names.now symbols.now b
-        → ReadsCondition s.now b p result (operandOf (parenthesis depth) (seen s.now p.cursor b p.words))
+fn operand(d: &Declarations, words: &mut Words, p: Pending, depth: usize) -> Pending
+    requires { Room d.now.text.now p × Declared d.now }
+    ensures reads_condition { (b : Block) → Declares d.now b
+        → ReadsCondition d.now.text.now b p result (operandOf (parenthesis depth) (seen d.now.text.now p.cursor b p.words))
         words.old words.new }
-    ensures within { Balanced s.now 0 p result words.old words.new }
+    ensures within { Balanced d.now.text.now 0 p result words.old words.new }
 {
-    let c = p.cursor;
-    if c.kind != token_kinds::NOT {
-        return plain(s, names, symbols, words, p, depth);
+    if p.cursor.kind != token_kinds::NOT {
+        return plain(d, words, p, depth);
     }
-    let q = count(s, p);
-    let r = plain(s, names, symbols, words, q, depth);
+    let q = count(d.text, p);
+    let r = plain(d, words, q, depth);
     put(words, r, NOT_WORD)
 }
 
 // operand {AND operand}
 #[cycle(condition_conjunction_operand_plain)]
-fn conjunction(
-    s: &[u8],
-    names: &Names,
-    symbols: &SymbolTable,
-    words: &mut Words,
-    p: Pending,
-    depth: usize,
-) -> Pending
-    requires { Room s.now p × Symbols s.now names.now symbols.now
-        × Declared s.now names.now symbols.now }
-    ensures reads_condition { (b : Block) → Describes s.now names.now symbols.now b
-        → ReadsCondition s.now b p result
-        (chain (operandOf (parenthesis depth)) AND and (seen s.now p.cursor b p.words))
+fn conjunction(d: &Declarations, words: &mut Words, p: Pending, depth: usize) -> Pending
+    requires { Room d.now.text.now p × Declared d.now }
+    ensures reads_condition { (b : Block) → Declares d.now b
+        → ReadsCondition d.now.text.now b p result
+        (chain (operandOf (parenthesis depth)) AND and (seen d.now.text.now p.cursor b p.words))
         words.old words.new }
-    ensures within { Balanced s.now 0 p result words.old words.new }
+    ensures within { Balanced d.now.text.now 0 p result words.old words.new }
 {
-    let mut q = operand(s, names, symbols, words, p, depth);
+    let mut q = operand(d, words, p, depth);
     while q.cursor.kind == token_kinds::AND {
-        let n = count(s, q);
-        let m = operand(s, names, symbols, words, n, depth);
+        let n = count(d.text, q);
+        let m = operand(d, words, n, depth);
         q = put(words, m, AND_WORD);
     }
     q
@@ -284,26 +197,18 @@ fn conjunction(
 
 // conjunction {OR conjunction}
 #[cycle(condition_conjunction_operand_plain)]
-pub fn condition(
-    s: &[u8],
-    names: &Names,
-    symbols: &SymbolTable,
-    words: &mut Words,
-    p: Pending,
-    depth: usize,
-) -> Pending
-    requires { Room s.now p × Symbols s.now names.now symbols.now
-        × Declared s.now names.now symbols.now }
-    ensures reads_condition { (b : Block) → Describes s.now names.now symbols.now b
-        → ReadsCondition s.now b p result
-        (condition_with (parenthesis depth) (seen s.now p.cursor b p.words))
+pub fn condition(d: &Declarations, words: &mut Words, p: Pending, depth: usize) -> Pending
+    requires { Room d.now.text.now p × Declared d.now }
+    ensures reads_condition { (b : Block) → Declares d.now b
+        → ReadsCondition d.now.text.now b p result
+        (condition_with (parenthesis depth) (seen d.now.text.now p.cursor b p.words))
         words.old words.new }
-    ensures within { Balanced s.now 0 p result words.old words.new }
+    ensures within { Balanced d.now.text.now 0 p result words.old words.new }
 {
-    let mut q = conjunction(s, names, symbols, words, p, depth);
+    let mut q = conjunction(d, words, p, depth);
     while q.cursor.kind == token_kinds::OR {
-        let n = count(s, q);
-        let m = conjunction(s, names, symbols, words, n, depth);
+        let n = count(d.text, q);
+        let m = conjunction(d, words, n, depth);
         q = put(words, m, OR_WORD);
     }
     q

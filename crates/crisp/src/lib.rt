@@ -4,12 +4,13 @@
 ghost use Rattle.std.specs.Prelude.{◌≡◌, ◌≤◌, pos, ◌-ℤ◌};
 ghost use Rattle.std.specs.Int.Signed.{lt_z, le_z};
 ghost use Rattle.model.specs.Block.{in_range};
+ghost use Rattle.model.specs.Ranges.{range_view};
 ghost use Rattle.model.specs.Tokens.{in_crisp};
 ghost use Rattle.model.specs.Bounds.{crisp_limit};
 ghost use Rattle.model.specs.Readings.{float_of};
-ghost use Rattle.crisp.specs.Crisp.{InCrisp, above, range_given};
+ghost use Rattle.crisp.specs.Crisp.{InCrisp, above};
 
-use model::Crisp;
+use model::{Crisp, Range};
 
 // How far x lies above the lowest crisp value.
 pub fn lift(x: Crisp) -> u32
@@ -30,36 +31,30 @@ pub fn lower(n: u32) -> Crisp
 pub fn less(a: Crisp, b: Crisp) -> bool
     ensures { result ≡ lt_z a.0 b.0 }
 {
-    a.0 < b.0
+    a < b
 }
 
 pub fn not_above(a: Crisp, b: Crisp) -> bool
     ensures { result ≡ le_z a.0 b.0 }
 {
-    a.0 <= b.0
+    a <= b
 }
 
 // In the crisp bounds.
 pub fn in_bounds(x: Crisp) -> bool
     ensures { result ≡ in_crisp x.0 }
 {
-    if not_above(Crisp(-1_000_000_000), x) {
-        return not_above(x, Crisp(1_000_000_000));
-    }
-    false
+    (-1_000_000_000..=1_000_000_000).contains(&x.0)
 }
 
 // In RANGE, where there is one.
-pub fn in_range(ranged: bool, least: Crisp, most: Crisp, x: Crisp) -> bool
-    ensures { result ≡ in_range (range_given ranged least.0 most.0) x.0 }
+pub fn in_range(range: Option<Range>, x: Crisp) -> bool
+    ensures { result ≡ in_range (range_view range) x.0 }
 {
-    if ranged {
-        if not_above(least, x) {
-            return not_above(x, most);
-        }
-        return false;
+    match range {
+        None => true,
+        Some(r) => r.least <= x && x <= r.most,
     }
-    true
 }
 
 // Thousandths over 1000, rounded once.

@@ -6,7 +6,7 @@ use Rattle.model.specs.Refusals.{verdict_of}
 use Rattle.model.specs.Evaluation.{CallResult, Tells, leaving, record_in}
 use Rattle.model.specs.declared.Held.{Held}
 use Rattle.model.specs.declared.Evaluation.{Evaluation}
-use Rattle.model.specs.declared.Fresh.{Fresh}
+use Rattle.evaluation.specs.declared.Fresh.{Fresh}
 use Rattle.model.specs.declared.Reply.{Reply}
 use Rattle.outcome_crossing.specs.Outcomes.{bare_outcome}
 use Rattle.call_crossing.specs.Values.{answer_of}

@@ -1,11 +1,11 @@
 -- A helper: what the public functions hand back as it crosses to a host; the record crosses as it is. `proofs/Laws` has that
--- it is what model's definitions give (`crossed_tells`, `crossed_fresh`), crossing_back that nothing is lost.
+-- it is what model's definitions give (`crossed_fresh`, `crossed_tells`), crossing_back that nothing is lost.
 use Rattle.std.specs.Prelude.{map}
 use Rattle.model.specs.Outcome.{Outcome}
 use Rattle.model.specs.Refusals.{verdict_of}
 use Rattle.model.specs.Evaluation.{CallResult, answers_after, held_after, record_in}
 use Rattle.model.specs.declared.Evaluation.{Evaluation}
-use Rattle.model.specs.declared.Fresh.{Fresh}
+use Rattle.evaluation.specs.declared.Fresh.{Fresh}
 use Rattle.model.specs.declared.Held.{Held}
 use Rattle.model.specs.declared.Reply.{Reply}
 use Rattle.outcome_crossing.specs.Outcomes.{bare_outcome}

@@ -5,7 +5,8 @@ ghost use Rattle.std.specs.Prelude.{◌≡◌};
 ghost use Rattle.crossing.specs.Crossing.{fresh_of, evaluation_of, reply_of};
 
 use call_crossing::{GrillenhelmAnswer, answers_of};
-use model::{Evaluation, Fresh, Held, Reply};
+use evaluation::Fresh;
+use model::{Evaluation, Held, Reply};
 use outcome_crossing::{GrillenhelmOutcome, verdict};
 
 #[repr(C)]
@@ -33,34 +34,36 @@ pub struct GrillenhelmReply {
 pub fn fresh_of(f: Fresh) -> GrillenhelmFresh
     ensures { result ≡ fresh_of f }
 {
-    let v = f.verdict;
-    let held = f.held;
     GrillenhelmFresh {
-        outcome: verdict(v),
-        held: held,
+        outcome: verdict(f.verdict),
+        held: f.held,
     }
 }
 
 pub fn evaluation_of(e: Evaluation) -> GrillenhelmEvaluation
     ensures { result ≡ evaluation_of e }
 {
-    let v = e.verdict;
-    let xs = e.answers;
-    let held = e.held;
+    let Evaluation {
+        verdict: told,
+        answers,
+        held,
+    } = e;
     GrillenhelmEvaluation {
-        outcome: verdict(v),
-        answers: answers_of(xs),
-        held: held,
+        outcome: verdict(told),
+        answers: answers_of(answers),
+        held,
     }
 }
 
 pub fn reply_of(y: Reply) -> GrillenhelmReply
     ensures { result ≡ reply_of y }
 {
-    let v = y.verdict;
-    let xs = y.answers;
+    let Reply {
+        verdict: told,
+        answers,
+    } = y;
     GrillenhelmReply {
-        outcome: verdict(v),
-        answers: answers_of(xs),
+        outcome: verdict(told),
+        answers: answers_of(answers),
     }
 }

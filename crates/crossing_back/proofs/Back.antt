@@ -5,18 +5,16 @@ use mathlib.Core.List.{List, [], ◌∷◌, map}
 use mathlib.Core.Option.{Option, none, some}
 use Prim.Native.Nat.{ℕ}
 use lib.Dec.{eqb}
+use Rattle.std.specs.Prelude.{Result, Ok, Err}
 use Rattle.model.specs.Outcome.{Outcome, refused, verdict_in}
 use Rattle.model.specs.Refusals.{number_and_place, written_of, verdict_of}
 use Rattle.model.specs.declared.Answer.{Answer}
 use Rattle.model.specs.declared.Evaluation.{Evaluation}
 use Rattle.model.specs.declared.Mark.{Mark}
 use Rattle.model.specs.declared.Mark.TheVariants.{None, Fired, Default, Held as HeldMark}
+use Rattle.model.specs.declared.Refusal.{Refusal}
 use Rattle.model.specs.declared.Refusal.TheVariants.{TextTooLong, WrongToken, WrongNumber, WrongName, NotDeclared, TooMany, WrongPosition, Unpaired, PartMissing, BufferTooShort, ImageNotAccepted, WrongCount, WrongHeld, WrongReading, TextOver}
 use Rattle.model.specs.declared.Reply.{Reply}
-use Rattle.model.specs.declared.Verdict.{Verdict}
-use Rattle.model.specs.declared.Verdict.TheVariants.{Accepted, Refused}
-use Rattle.model.specs.declared.Written.{Written}
-use Rattle.model.specs.declared.Written.TheVariants.{Bytes, Refused as NotWritten}
 use Rattle.refusals.proofs.Numbers.{above_zero}
 use Rattle.outcome_crossing.specs.Outcomes.{outcome_of, bare_outcome}
 use Rattle.call_crossing.specs.Values.{mark_number, answer_of}
@@ -29,30 +27,30 @@ refusal_back : (n : ℕ) (p : Option ℕ) → eqb n 0 ≡ false → outcome_back
 refusal_back n none z = rw z refl
 refusal_back n (some place) z = rw z refl
 
-pub outcome_back_lem : (w : Written) → outcome_back (outcome_of (λ n. n) (written_of w)) ≡ written_of w
-outcome_back_lem (Bytes n) = refl
-outcome_back_lem (NotWritten r) = refusal_back (number_and_place r).0 (number_and_place r).1 (above_zero r)
+pub outcome_back_lem : (w : Result ℕ Refusal) → outcome_back (outcome_of (λ n. n) (written_of w)) ≡ written_of w
+outcome_back_lem (Ok n) = refl
+outcome_back_lem (Err r) = refusal_back (number_and_place r).0 (number_and_place r).1 (above_zero r)
 
-pub verdict_back_lem : (v : Verdict) → verdict_back (bare_outcome (verdict_of v)) ≡ v
-verdict_back_lem Accepted = refl
-verdict_back_lem (Refused TextTooLong) = refl
-verdict_back_lem (Refused (WrongToken place)) = refl
-verdict_back_lem (Refused (WrongNumber place)) = refl
-verdict_back_lem (Refused (WrongName place)) = refl
-verdict_back_lem (Refused (NotDeclared place)) = refl
-verdict_back_lem (Refused (TooMany place)) = refl
-verdict_back_lem (Refused (WrongPosition place)) = refl
-verdict_back_lem (Refused (Unpaired place)) = refl
-verdict_back_lem (Refused (PartMissing place)) = refl
-verdict_back_lem (Refused (BufferTooShort needed)) = refl
-verdict_back_lem (Refused ImageNotAccepted) = refl
-verdict_back_lem (Refused WrongCount) = refl
-verdict_back_lem (Refused WrongHeld) = refl
-verdict_back_lem (Refused (WrongReading index)) = refl
-verdict_back_lem (Refused TextOver) = refl
+pub verdict_back_lem : (v : Result (Unit {0}) Refusal) → verdict_back (bare_outcome (verdict_of v)) ≡ v
+verdict_back_lem (Ok u) = refl
+verdict_back_lem (Err TextTooLong) = refl
+verdict_back_lem (Err (WrongToken place)) = refl
+verdict_back_lem (Err (WrongNumber place)) = refl
+verdict_back_lem (Err (WrongName place)) = refl
+verdict_back_lem (Err (NotDeclared place)) = refl
+verdict_back_lem (Err (TooMany place)) = refl
+verdict_back_lem (Err (WrongPosition place)) = refl
+verdict_back_lem (Err (Unpaired place)) = refl
+verdict_back_lem (Err (PartMissing place)) = refl
+verdict_back_lem (Err (BufferTooShort needed)) = refl
+verdict_back_lem (Err ImageNotAccepted) = refl
+verdict_back_lem (Err WrongCount) = refl
+verdict_back_lem (Err WrongHeld) = refl
+verdict_back_lem (Err (WrongReading index)) = refl
+verdict_back_lem (Err TextOver) = refl
 
 -- of an outcome that a verdict tells
-pub told_back : {A : Type 0} (o : Outcome A) (v : Verdict) → verdict_of v ≡ verdict_in o → verdict_of (verdict_back (bare_outcome o)) ≡ verdict_in o
+pub told_back : {A : Type 0} (o : Outcome A) (v : Result (Unit {0}) Refusal) → verdict_of v ≡ verdict_in o → verdict_of (verdict_back (bare_outcome o)) ≡ verdict_in o
 told_back o v e =
     ap (λ (c : GrillenhelmOutcome). verdict_of (verdict_back c)) (sym (told_then (λ u. 0) (λ a. tt) o) ∙ ap bare_outcome (sym e))
     ∙ ap verdict_of (verdict_back_lem v) ∙ e

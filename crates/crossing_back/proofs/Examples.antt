@@ -7,12 +7,12 @@ use Prim.Native.Nat.{ℕ}
 use lib.Ieee.{fin}
 use lib.IntN.{pos, negsuc}
 use lib.ListN.{replicate}
+use Rattle.std.specs.Prelude.{Ok, Err}
 use Rattle.model.specs.Outcome.{accepted, refused}
 use Rattle.model.specs.Evaluation.{held_of, no_answer, padded}
 use Rattle.model.specs.declared.Mark.TheVariants.{Fired, Default, Held as HeldMark}
 use Rattle.model.specs.declared.Reading.TheVariants.{Real, Int, Absent}
 use Rattle.model.specs.declared.Refusal.TheVariants.{BufferTooShort, ImageNotAccepted, WrongCount, WrongHeld, WrongReading, TextOver}
-use Rattle.model.specs.declared.Verdict.TheVariants.{Accepted, Refused}
 use Rattle.call_crossing.specs.Values.{reading_of, answer_of}
 use Rattle.crossing_back.specs.Back.{outcome_back, verdict_back, answer_back, evaluation_back, reply_back}
 use Rattle.call_crossing.specs.declared.GrillenhelmAnswer.{GrillenhelmAnswer}
@@ -35,8 +35,8 @@ outcomes : map outcome_back (told 0 0 0 364 ∷ told 10 1 364 0 ∷ told 2 1 0 0
 outcomes = refl
 
 verdicts : map verdict_back (told 0 0 0 0 ∷ told 11 0 0 0 ∷ told 12 0 0 0 ∷ told 13 0 0 0 ∷ told 14 1 3 0 ∷ told 10 1 7 0 ∷ told 16 0 0 0 ∷ [])
-    ≡ Accepted ∷ Refused ImageNotAccepted ∷ Refused WrongCount ∷ Refused WrongHeld ∷ Refused (WrongReading 3) ∷ Refused (BufferTooShort 7)
-    ∷ Refused TextOver ∷ []
+    ≡ Ok tt ∷ Err ImageNotAccepted ∷ Err WrongCount ∷ Err WrongHeld ∷ Err (WrongReading 3) ∷ Err (BufferTooShort 7)
+    ∷ Err TextOver ∷ []
 verdicts = refl
 
 -- EVALUATIONS
@@ -56,9 +56,9 @@ answered : map answer_back answers
 answered = refl
 
 evaluated : evaluation_back (record { outcome = told 0 0 0 0; answers = answers; held = held_of (pos 25000 ∷ negsuc 2999 ∷ []) })
-    ≡ record { verdict = Accepted; answers = map answer_back answers; held = held_of (pos 25000 ∷ negsuc 2999 ∷ []) }
+    ≡ record { verdict = Ok tt; answers = map answer_back answers; held = held_of (pos 25000 ∷ negsuc 2999 ∷ []) }
 evaluated = refl
 
 replied : reply_back (record { outcome = told 14 1 3 0; answers = map answer_of (padded no_answer []) })
-    ≡ record { verdict = Refused (WrongReading 3); answers = padded no_answer [] }
+    ≡ record { verdict = Err (WrongReading 3); answers = padded no_answer [] }
 replied = refl

@@ -1,5 +1,6 @@
 -- What a host's numbers say: outcomes, marks, answers and evaluations crossed back. `proofs/Back` has that nothing is lost.
-use Rattle.std.specs.Prelude.{map, ℕ, eqb, if◌then◌else◌}
+use Rattle.std.specs.Prelude.{map, ℕ, eqb, Result, Ok, Err, if◌then◌else◌}
+use Rattle.std.proofs.Math.Option.{none, some}
 use Rattle.model.specs.Outcome.{Outcome, accepted, refused}
 use Rattle.model.specs.declared.Answer.{Answer}
 use Rattle.model.specs.declared.Evaluation.{Evaluation}
@@ -8,9 +9,6 @@ use Rattle.model.specs.declared.Mark.TheVariants.{None, Fired, Default, Held as 
 use Rattle.model.specs.declared.Refusal.{Refusal}
 use Rattle.model.specs.declared.Refusal.TheVariants.{TextTooLong, WrongToken, WrongNumber, WrongName, NotDeclared, TooMany, WrongPosition, Unpaired, PartMissing, BufferTooShort, ImageNotAccepted, WrongCount, WrongHeld, WrongReading, TextOver}
 use Rattle.model.specs.declared.Reply.{Reply}
-use Rattle.model.specs.declared.Verdict.{Verdict}
-use Rattle.model.specs.declared.Verdict.TheVariants.{Accepted, Refused}
-use Rattle.refusals.specs.Told.{place_of}
 use Rattle.call_crossing.specs.declared.GrillenhelmAnswer.{GrillenhelmAnswer}
 use Rattle.crossing.specs.declared.GrillenhelmEvaluation.{GrillenhelmEvaluation}
 use Rattle.outcome_crossing.specs.declared.GrillenhelmOutcome.{GrillenhelmOutcome}
@@ -20,7 +18,7 @@ use Rattle.crossing.specs.declared.GrillenhelmReply.{GrillenhelmReply}
 abbrev pub outcome_back : GrillenhelmOutcome → Outcome ℕ
 outcome_back o =
     if eqb o.refusal 0 then accepted o.length
-    else refused o.refusal (place_of (eqb o.has_place 1) o.place)
+    else refused o.refusal (if eqb o.has_place 1 then some o.place else none)
 
 -- the refusal of a number and a place
 abbrev pub refusal_back : ℕ → ℕ → Refusal
@@ -40,8 +38,8 @@ refusal_back n p =
     if eqb n 13 then WrongHeld else
     if eqb n 14 then WrongReading p else TextOver
 
-abbrev pub verdict_back : GrillenhelmOutcome → Verdict
-verdict_back o = if eqb o.refusal 0 then Accepted else Refused (refusal_back o.refusal o.place)
+abbrev pub verdict_back : GrillenhelmOutcome → Result (Unit {0}) Refusal
+verdict_back o = if eqb o.refusal 0 then Ok tt else Err (refusal_back o.refusal o.place)
 
 abbrev pub mark_back : ℕ → Mark
 mark_back n = if eqb n 0 then None else if eqb n 1 then Fired else if eqb n 2 then Default else HeldMark

@@ -1,8 +1,9 @@
 -- The laws of the view.
 use Rattle.std.specs.Prelude.{if◌then◌else◌}
 use mathlib.Core.Path.{◌≡◌, refl, sym, ap, ◌∙◌}
-use mathlib.Core.Bool.{Bool, true, false}
+use mathlib.Core.Bool.{Bool, true, false, true≢false}
 use mathlib.Core.List.{List, [], ◌∷◌, ◌++◌}
+use Rattle.std.specs.Prelude.{Option, Some, None, is_some}
 use Prim.Native.Nat.{ℕ, zero, suc, ◌-◌, ◌≤◌, ◌<◌}
 use native.Mathlib.Omega.{arith}
 use borrow.Author.Tests.{eq-eqb, ne_eqb, eqb-true, eqb-false}
@@ -17,7 +18,37 @@ use Rattle.laws.proofs.Tests.{clash}
 use Rattle.tokens.specs.Tokens.{tokens_from, token_of, after}
 use Rattle.tokens.specs.declared.Token.{Token as Found}
 use Rattle.cursor.specs.declared.Cursor.{Cursor}
-use Rattle.cursor.specs.View.{current, text_of, seen, Fits, left, Step, Moves, fault}
+use Rattle.refusals.specs.declared.Fault.{Fault}
+use Rattle.refusals.specs.Faults.{number}
+use Rattle.refusals.specs.declared.Fault.TheVariants.{WrongToken, WrongNumber, WrongName, NotDeclared, TooMany, WrongPosition, Unpaired, PartMissing}
+use Rattle.cursor.specs.declared.Refused.{Refused}
+use Rattle.cursor.specs.View.{why_of, place_of, current, text_of, seen, Fits, left, Step, Moves, fault}
+
+-- no fault has the number 0
+pub above_zero : (f : Fault) → eqb (number f) 0 ≡ false
+above_zero WrongToken = refl
+above_zero WrongNumber = refl
+above_zero WrongName = refl
+above_zero NotDeclared = refl
+above_zero TooMany = refl
+above_zero WrongPosition = refl
+above_zero Unpaired = refl
+above_zero PartMissing = refl
+
+pub never_zero : (f : Fault) → number f ≡ 0 → ⊥
+never_zero f e = true≢false (sym (eq-eqb (number f) 0 e) ∙ above_zero f)
+
+pub still_refused : (o : Option Refused) → (o ≡ None → ⊥) → eqb (why_of o) 0 ≡ false
+still_refused None h = absurd (h refl)
+still_refused (Some r) h = above_zero r.fault
+
+-- what a test of a refusal says
+pub was_refused : {o : Option Refused} {b : Bool} → b ≡ is_some o → b ≡ true → o ≡ None → ⊥
+was_refused {o} {b} e t n = true≢false (sym t ∙ e ∙ ap is_some n)
+
+pub stands : {o : Option Refused} {b : Bool} → b ≡ is_some o → b ≡ false → o ≡ None
+stands {o = None} e t = refl
+stands {o = Some r} e t = absurd (true≢false (sym e ∙ t))
 
 module _ (s : List ℕ) (c : Cursor) (b : Block) (n : ℕ) where
   pub kind_seen : kind (seen s c b n) ≡ c.kind
@@ -37,16 +68,16 @@ module _ (s : List ℕ) (c : Cursor) (b : Block) (n : ℕ) where
   words_seen = refl
 
   -- a block is changed where the reading stands before a token
-  pub changed : (f : Block → Block) → c.why ≡ 0 → change f (seen s c b n) ≡ seen s c (f b) n
+  pub changed : (f : Block → Block) → c.refused ≡ None → change f (seen s c b n) ≡ seen s c (f b) n
   unfolding change seen
-  changed f h = simp (eq-eqb _ _ h)
+  changed f h = simp h
 
-  pub unchanged : (f : Block → Block) → (c.why ≡ 0 → ⊥) → change f (seen s c b n) ≡ seen s c b n
+  pub unchanged : (f : Block → Block) → (c.refused ≡ None → ⊥) → change f (seen s c b n) ≡ seen s c b n
   unfolding change seen
-  unchanged f h = simp (ne_eqb _ _ h)
+  unchanged f h = simp (still_refused c.refused h)
 
 pub begun : (s : List ℕ) (t : Found) (b : Block) (n : ℕ) → tokens s ≡ token_of s t ∷ after s t
-    → seen s (record { kind = t.kind; start = t.start; end = t.end; why = 0; place = 0 }) b n
+    → seen s (record { kind = t.kind; start = t.start; end = t.end; refused = None }) b n
     ≡ record { rest = tokens s; why = 0; place = 0; block = b; words = n }
 unfolding seen
 begun s t b n e = ap (λ (l : List Token). record { rest = l; why = 0; place = 0; block = b; words = n }) (sym e)
@@ -64,30 +95,30 @@ pub some_left : (s : List ℕ) (c : Cursor) → (c.kind ≡ END → ⊥) → 0 <
 unfolding left
 some_left s c h = simp (ne_eqb _ _ h) (omega arith)
 
-abbrev pub halted : Cursor → ℕ → Cursor
-halted c w = record { kind = END; start = 0; end = 0; why = w; place = c.start }
+abbrev pub halted : Cursor → Fault → Cursor
+halted c f = record { kind = END; start = 0; end = 0; refused = Some (record { fault = f; place = c.start }) }
 
-pub kept : (s : List ℕ) (c : Cursor) (w : ℕ) → (c.why ≡ 0 → ⊥) → Fits s c → Step (refuse w) s c c
+pub kept : (s : List ℕ) (c : Cursor) (w : ℕ) → (c.refused ≡ None → ⊥) → Fits s c → Step (refuse w) s c c
 unfolding refuse seen
-kept s c w h g = record { reads = λ b n. sym (simp (ne_eqb _ _ h)); fewer = omega arith; fits = g; sticky = λ q. q }
+kept s c w h g = record { reads = λ b n. sym (simp (still_refused c.refused h)); fewer = omega arith; fits = g; sticky = λ q. q }
 
-pub stopped : (s : List ℕ) (c : Cursor) (w : ℕ) → c.why ≡ 0 → (w ≡ 0 → ⊥) → Fits s c → Step (refuse w) s c (halted c w)
+pub stopped : (s : List ℕ) (c : Cursor) (f : Fault) → c.refused ≡ None → Fits s c → Step (refuse (number f)) s c (halted c f)
 unfolding refuse seen here left after
-stopped s c w h k g = record {
-  reads = λ b n. sym (simp (eq-eqb _ _ h));
+stopped s c f h g = record {
+  reads = λ b n. sym (simp h);
   fewer = omega arith;
   fits =
       record { order = omega arith; inside = omega arith; halted = λ q. absurd (q refl) };
   sticky = λ q. h;
 }
 
-pub stopped_moves : (s : List ℕ) (c : Cursor) (w : ℕ) → Moves s c (halted c w)
+pub stopped_moves : (s : List ℕ) (c : Cursor) (f : Fault) → Moves s c (halted c f)
 unfolding left
-stopped_moves s c w h = simp (ne_eqb _ _ h) (omega arith)
+stopped_moves s c f h = simp (ne_eqb _ _ h) (omega arith)
 
 -- the next token in the place of the current one
 abbrev pub moved : Cursor → Found → Cursor
-moved c t = record { kind = t.kind; start = t.start; end = t.end; why = c.why; place = c.place }
+moved c t = record { kind = t.kind; start = t.start; end = t.end; refused = c.refused }
 
 module _ (s : List ℕ) (c : Cursor) (t : Found) (h : c.kind ≡ END → ⊥) (e : tokens_from s c.end ≡ token_of s t ∷ after s t) where
   pub follows : after s (current c) ≡ token_of s t ∷ after s t
@@ -106,7 +137,7 @@ module _ (s : List ℕ) (c : Cursor) (t : Found) (h : c.kind ≡ END → ⊥) (e
   pub advances : Fits s c → t.start ≤ t.end → t.end ≤ length s → Step advance s c (moved c t)
   unfolding advance seen
   advances g o i = record {
-    reads = λ b n. ap (λ (l : List Token). record { rest = l; why = c.why; place = c.place; block = b; words = n }) (sym follows);
+    reads = λ b n. ap (λ (l : List Token). record { rest = l; why = why_of c.refused; place = place_of c.refused; block = b; words = n }) (sym follows);
     fewer = let m = moves in omega arith;
     fits = record { order = o; inside = i; halted = λ q. g.halted h };
     sticky = λ q. q;
@@ -135,7 +166,7 @@ steps {f} {g} {s} {a} {b} {c} p q = record {
 }
 
 -- A REFUSED READING stays as it is
-module _ (s : List ℕ) (c : Cursor) (g : Fits s c) (h : c.why ≡ 0 → ⊥) where
+module _ (s : List ℕ) (c : Cursor) (g : Fits s c) (h : c.refused ≡ None → ⊥) where
   pub lost_kind : c.kind ≡ END
   lost_kind = by (eqb c.kind END) refl
     where
@@ -149,7 +180,7 @@ module _ (s : List ℕ) (c : Cursor) (g : Fits s c) (h : c.why ≡ 0 → ⊥) wh
 
     pub lost_refuse : (w : ℕ) → refuse w (seen s c b n) ≡ seen s c b n
     unfolding refuse seen
-    lost_refuse w = simp (ne_eqb _ _ h)
+    lost_refuse w = simp (still_refused c.refused h)
 
     pub lost_expect : (k : ℕ) → (k ≡ 0 → ⊥) → expect k (seen s c b n) ≡ seen s c b n
     unfolding expect

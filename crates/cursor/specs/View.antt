@@ -1,6 +1,6 @@
 -- A helper: what a cursor stands for: how far the text is read, beside a block and a number of condition words. `Step`
 -- ties a move of the cursor to a part of the rules, a `Part` of the model.
-use Rattle.std.specs.Prelude.{◌≡◌, List, [], ◌∷◌, ℕ, suc, ◌-◌, ◌≤◌, ◌<◌, eqb, leb, length, if◌then◌else◌}
+use Rattle.std.specs.Prelude.{◌≡◌, Option, Some, None, Result, Ok, Err, is_none, List, [], ◌∷◌, ℕ, suc, ◌-◌, ◌≤◌, ◌<◌, eqb, leb, length, if◌then◌else◌}
 use Rattle.std.proofs.Math.Seq.{slice}
 use Rattle.model.specs.Bounds.{name_limit}
 use Rattle.model.specs.Keywords.{END, NAME}
@@ -8,7 +8,10 @@ use Rattle.model.specs.Block.{Block}
 use Rattle.model.specs.Parse.{Parse, Part, Checks}
 use Rattle.tokens.specs.Tokens.{token_of, after}
 use Rattle.tokens.specs.declared.Token.{Token}
+use Rattle.refusals.specs.declared.Fault.{Fault}
+use Rattle.refusals.specs.Faults.{number}
 use Rattle.cursor.specs.declared.Cursor.{Cursor}
+use Rattle.cursor.specs.declared.Refused.{Refused}
 
 abbrev pub current : Cursor → Token
 current c = record { kind = c.kind; start = c.start; end = c.end }
@@ -17,11 +20,20 @@ current c = record { kind = c.kind; start = c.start; end = c.end }
 abbrev pub text_of : List ℕ → Cursor → List ℕ
 text_of s c = slice c.start c.end s
 
+-- by which number reading was refused, and at which place; 0 where it was not
+abbrev pub why_of : Option Refused → ℕ
+why_of None = 0
+why_of (Some r) = number r.fault
+
+abbrev pub place_of : Option Refused → ℕ
+place_of None = 0
+place_of (Some r) = r.place
+
 unfoldable pub seen : List ℕ → Cursor → Block → ℕ → Parse
 seen s c b n = record {
   rest = token_of s (current c) ∷ after s (current c);
-  why = c.why;
-  place = c.place;
+  why = why_of c.refused;
+  place = place_of c.refused;
   block = b;
   words = n;
 }
@@ -30,7 +42,7 @@ seen s c b n = record {
 pub record Fits (s : List ℕ) (c : Cursor) : Type 0 where
   pub order : c.start ≤ c.end
   pub inside : c.end ≤ length s
-  pub halted : (c.kind ≡ END → ⊥) → c.why ≡ 0
+  pub halted : (c.kind ≡ END → ⊥) → c.refused ≡ None
 
 -- how many tokens are left, the end apart
 unfoldable pub left : List ℕ → Cursor → ℕ
@@ -45,16 +57,21 @@ pub record Step (part : Part) (s : List ℕ) (c r : Cursor) : Type 0 where
   pub reads : (b : Block) (n : ℕ) → seen s r b n ≡ part (seen s c b n)
   pub fewer : left s r ≤ left s c
   pub fits : Fits s r
-  pub sticky : r.why ≡ 0 → c.why ≡ 0
+  pub sticky : r.refused ≡ None → c.refused ≡ None
 
 -- the number of the first check that fails; 0 where all pass
 unfoldable pub fault : Checks → ℕ
 fault [] = 0
 fault ((ok, n) ∷ cs) = if ok then fault cs else n
 
--- c refused by w, where it is not refused yet
-unfoldable pub refused_at : Cursor → ℕ → Cursor
-refused_at c w = if eqb c.why 0 then record { kind = END; start = 0; end = 0; why = w; place = c.start } else c
+-- the number of the fault that is found, 0 where there is none
+abbrev pub number_of : {A : Type 0} → Result A Fault → ℕ
+number_of (Ok x) = 0
+number_of (Err f) = number f
+
+-- c refused by a fault, where it is not refused yet
+unfoldable pub refused_at : Cursor → Fault → Cursor
+refused_at c f = if is_none c.refused then record { kind = END; start = 0; end = 0; refused = Some (record { fault = f; place = c.start }) } else c
 
 -- by which number the current token is refused as a name
 unfoldable pub name_fault : Cursor → ℕ

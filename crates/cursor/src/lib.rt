@@ -2,21 +2,30 @@
 // later step finds what it asks for, and only the first refusal is kept.
 #![tactic(auto)]
 
-ghost use Rattle.std.specs.Prelude.{◌≡◌, List, [], ℕ, ◌≤◌, ◌<◌};
+ghost use Rattle.std.specs.Prelude.{◌≡◌, None, OnOk, List, [], ℕ, ◌≤◌, ◌<◌};
 ghost use Rattle.model.specs.Block.{Block};
 ghost use Rattle.model.specs.Keywords.{NAME, END};
 ghost use Rattle.model.specs.Parse.{refuse as refused, advance as advanced, expect as expected, a_name};
 ghost use Rattle.model.specs.Tokens.{tokens};
-ghost use Rattle.cursor.specs.View.{seen, Fits, left, Step, Moves, fault, refused_at, name_fault};
+ghost use Rattle.refusals.specs.Faults.{number};
+ghost use Rattle.cursor.specs.View.{seen, Fits, left, Step, Moves, fault, number_of, refused_at, name_fault};
 
-// The bytes stand last: a padding between the fields would be copied with them in pieces.
+use refusals::Fault;
+
+// By what fault reading was refused, and at which place.
+#[derive(Clone, Copy)]
+pub struct Refused {
+    pub fault: Fault,
+    pub place: usize,
+}
+
+// The kind stands last: a padding between the fields would be copied with them in pieces.
 #[derive(Clone, Copy)]
 pub struct Cursor {
     pub start: usize,
     pub end: usize,
-    pub place: usize,
+    pub refused: Option<Refused>,
     pub kind: u8,
-    pub why: u8,
 }
 
 // At the first token.
@@ -31,34 +40,34 @@ pub fn begin(s: &[u8]) -> Cursor
         kind: t.kind,
         start: t.start,
         end: t.end,
-        why: 0,
-        place: 0,
+        refused: None,
     }
 }
 
-pub fn refuse(c: Cursor, why: u8) -> Cursor
-    requires { 0 < why }
-    ensures by_index { (s : List ℕ) → Fits s c → Step (refused why) s c result }
+pub fn refuse(c: Cursor, fault: Fault) -> Cursor
+    ensures by_index { (s : List ℕ) → Fits s c → Step (refused (number fault)) s c result }
     ensures moves { (s : List ℕ) → Fits s c → Moves s c result }
-    ensures halted { result.why ≡ 0 → ⊥ }
-    ensures exact { result ≡ refused_at c why }
+    ensures halted { result.refused ≡ None → ⊥ }
+    ensures exact { result ≡ refused_at c fault }
 {
-    if c.why != 0 {
+    if c.refused.is_some() {
         return c;
     }
     Cursor {
         kind: token_kinds::END,
         start: 0,
         end: 0,
-        why: why,
-        place: c.start,
+        refused: Some(Refused {
+            fault,
+            place: c.start,
+        }),
     }
 }
 
 pub fn advance(s: &[u8], c: Cursor) -> Cursor
     requires { Fits s.now c × (c.kind ≡ END → ⊥) }
     ensures step { Step advanced s.now c result }
-    ensures moves { (left s.now result < left s.now c) × (result.why ≡ 0) }
+    ensures moves { (left s.now result < left s.now c) × (result.refused ≡ None) }
 {
     let at = c.end;
     let t = tokens::next(&s[at..]);
@@ -66,8 +75,7 @@ pub fn advance(s: &[u8], c: Cursor) -> Cursor
         kind: t.kind,
         start: at + t.start,
         end: at + t.end,
-        why: c.why,
-        place: c.place,
+        ..c
     }
 }
 
@@ -79,21 +87,21 @@ pub fn expect(s: &[u8], c: Cursor, k: u8) -> Cursor
     if c.kind == k {
         return advance(s, c);
     }
-    refuse(c, 2)
+    refuse(c, Fault::WrongToken)
 }
 
-// By which number the current token is refused as a name; 0 where it is one.
-pub fn name_fault(c: Cursor) -> u8
+// By what fault the current token is refused as a name, if it is none.
+pub fn name_fault(c: Cursor) -> Result<(), Fault>
     requires { c.start ≤ c.end }
-    ensures by_index { (s : List ℕ) → Fits s c → (b : Block) (n : ℕ) → result ≡ fault (a_name (seen s c b n) []) }
-    ensures kind { result ≡ 0 → c.kind ≡ NAME }
-    ensures exact { result ≡ name_fault c }
+    ensures by_index { (s : List ℕ) → Fits s c → (b : Block) (n : ℕ) → number_of result ≡ fault (a_name (seen s c b n) []) }
+    ensures kind { OnOk result (c.kind ≡ NAME) }
+    ensures exact { number_of result ≡ name_fault c }
 {
     if c.kind != token_kinds::NAME {
-        return 2;
+        return Err(Fault::WrongToken);
     }
     if bounds::NAME < c.end - c.start {
-        return 4;
+        return Err(Fault::WrongName);
     }
-    0
+    Ok(())
 }

@@ -11,13 +11,13 @@ pub fn evaluate_held(img: &[u8], rs: [Reading; bounds::INPUTS], n: usize, held: 
     ensures { Tells (leaving result held.new) held.old
         (evaluate img.now rs n held.old) }
 {
-    let e = evaluate(img, rs, n, *held);
-    *held = e.held;
-    let answers = e.answers;
-    Reply {
-        verdict: e.verdict,
-        answers: answers,
-    }
+    let Evaluation {
+        verdict,
+        answers,
+        held: after,
+    } = evaluate(img, rs, n, *held);
+    *held = after;
+    Reply { verdict, answers }
 }
 
 // The same on a copy that is lent here: for callers that hold the record by value.
@@ -30,11 +30,10 @@ pub fn evaluate_lending(
     ensures { Tells result before (evaluate img.now rs n before) }
 {
     let mut held = before;
-    let reply = evaluate_held(img, rs, n, &mut held);
-    let answers = reply.answers;
+    let Reply { verdict, answers } = evaluate_held(img, rs, n, &mut held);
     Evaluation {
-        verdict: reply.verdict,
-        answers: answers,
-        held: held,
+        verdict,
+        answers,
+        held,
     }
 }

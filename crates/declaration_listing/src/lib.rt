@@ -2,78 +2,68 @@
 // front.
 #![tactic(auto)]
 
-ghost use Rattle.std.specs.Prelude.{◌≤◌, ◌<◌};
+ghost use Rattle.std.specs.Prelude.{◌<◌};
 ghost use Rattle.model.specs.Basic.{gather};
 ghost use Rattle.model.specs.Image.{word_at, input_at, output_at, decode};
 ghost use Rattle.model.specs.Listing.{type_text, input_line, output_line};
-ghost use Rattle.layout.specs.Checked.{Checked};
-ghost use Rattle.listing_writer.specs.Prepends.{Prepends};
+ghost use Rattle.listing_writer.specs.Prepends.{Writes};
 
-use header::Header;
-use listing_writer::puts;
+use bounds::LISTING;
+use header::{INPUT_TYPE, REAL, Stored};
+use layout::CheckedImage;
+use listing_writer::Listing;
 use name_listing::name;
-use words::whole_word;
 
 // The type of input i.
-fn input_type(out: &mut [u8], k: usize, img: &[u8], h: Header, i: usize) -> usize
-    requires { Checked img.now h × (i < h.inputs) }
-    ensures { Prepends k result (type_text (input_at (word_at img.now) i).type)
-        out.old out.new }
+#[tactic(auto, unfolding(model::specs::Image::input_at))]
+fn input_type(out: &mut Listing<LISTING>, image: &Stored, i: usize)
+    requires { i < image.now.header.inputs.rows }
+    ensures { Writes (type_text (input_at (word_at image.now.bytes.now) i).type) out.old out.new }
 {
-    if whole_word(img, header::input_row(h, i) + header::INPUT_TYPE) == header::REAL {
-        return puts(out, k, b"REAL");
+    let row = image.header.inputs.row(i);
+    if image.word(row + INPUT_TYPE) == REAL {
+        out.puts(b"REAL");
+    } else {
+        out.puts(b"INT");
     }
-    puts(out, k, b"INT")
 }
 
-fn input_line(out: &mut [u8], k: usize, img: &[u8], h: Header, i: usize) -> usize
-    requires { Checked img.now h × (i < h.inputs) }
-    ensures { Prepends k result (input_line (input_at (word_at img.now) i))
-        out.old out.new }
+#[tactic(auto, using(listing_writer::proofs::Prepends::parts), unfolding(model::specs::Image::input_at))]
+fn input_line(out: &mut Listing<LISTING>, image: &Stored, i: usize)
+    requires { i < image.now.header.inputs.rows }
+    ensures { Writes (input_line (input_at (word_at image.now.bytes.now) i)) out.old out.new }
 {
-    let row = header::input_row(h, i);
-    let a = puts(out, k, b";\n");
-    let b = input_type(out, a, img, h, i);
-    let c = puts(out, b, b" : ");
-    let d = name(out, c, img, row);
-    puts(out, d, b"  ")
+    out.puts(b";\n");
+    input_type(out, image, i);
+    out.puts(b" : ");
+    name(out, image.bytes, image.header.inputs.row(i));
+    out.puts(b"  ");
 }
 
-pub fn input_lines(out: &mut [u8], k: usize, img: &[u8], h: Header) -> usize
-    requires { Checked img.now h }
-    ensures { Prepends k result (gather input_line (decode (word_at img.now)).inputs)
-        out.old out.new }
+#[tactic(auto, using(listing_writer::proofs::Lists::items), unfolding(model::specs::Image::decode))]
+pub fn input_lines(out: &mut Listing<LISTING>, image: &CheckedImage)
+    ensures { Writes (gather input_line (decode (word_at image.now.stored.bytes.now)).inputs) out.old out.new }
 {
-    let mut p = k;
-    let mut i = h.inputs;
-    while 0 < i {
-        p = input_line(out, p, img, h, i - 1);
-        i -= 1;
+    for i in (0..image.stored.header.inputs.rows).rev() {
+        input_line(out, &image.stored, i);
     }
-    p
 }
 
-fn output_line(out: &mut [u8], k: usize, img: &[u8], h: Header, i: usize) -> usize
-    requires { Checked img.now h × (i ≤ 4294967295) }
-    ensures { Prepends k result (output_line (output_at (word_at img.now) i))
-        out.old out.new }
+#[tactic(auto, using(listing_writer::proofs::Prepends::parts), unfolding(model::specs::Image::output_at))]
+fn output_line(out: &mut Listing<LISTING>, image: &Stored, i: usize)
+    requires { i < image.now.header.outputs.rows }
+    ensures { Writes (output_line (output_at (word_at image.now.bytes.now) i)) out.old out.new }
 {
-    let row = header::output_row(h, i);
-    let a = puts(out, k, b" : REAL;\n");
-    let b = name(out, a, img, row);
-    puts(out, b, b"  ")
+    out.puts(b" : REAL;\n");
+    name(out, image.bytes, image.header.outputs.row(i));
+    out.puts(b"  ");
 }
 
-pub fn output_lines(out: &mut [u8], k: usize, img: &[u8], h: Header) -> usize
-    requires { Checked img.now h }
-    ensures { Prepends k result (gather output_line (decode (word_at img.now)).outputs)
-        out.old out.new }
+#[tactic(auto, using(listing_writer::proofs::Lists::items), unfolding(model::specs::Image::decode))]
+pub fn output_lines(out: &mut Listing<LISTING>, image: &CheckedImage)
+    ensures { Writes (gather output_line (decode (word_at image.now.stored.bytes.now)).outputs) out.old out.new }
 {
-    let mut p = k;
-    let mut i = h.outputs;
-    while 0 < i {
-        p = output_line(out, p, img, h, i - 1);
-        i -= 1;
+    for i in (0..image.stored.header.outputs.rows).rev() {
+        output_line(out, &image.stored, i);
     }
-    p
 }

@@ -1,14 +1,14 @@
 // The block's name, and its variables in VAR_INPUT and VAR_OUTPUT: names with commas, a colon, the type, a semicolon.
 #![tactic(auto)]
 
-ghost use Rattle.std.specs.Prelude.{◌≡◌, true, List, ℕ, ◌≤◌, ◌<◌};
+ghost use Rattle.std.specs.Prelude.{◌≡◌, OnOk, true, List, ℕ, ◌≤◌, ◌<◌};
 ghost use Rattle.model.specs.Block.{Block, with_name};
 ghost use Rattle.model.specs.Parse.{own_name, listed, repeated};
 ghost use Rattle.model.specs.Keywords.{NAME};
 ghost use Rattle.model.specs.Bounds.{input_limit, output_limit};
 ghost use Rattle.model.specs.Declarations.{variable, add_input, add_output, input_count, output_count, input_type, input_declaration, output_declaration};
 ghost use Rattle.lookup.specs.Names.{Placed};
-ghost use Rattle.cursor.specs.View.{seen, Fits, Moves, fault};
+ghost use Rattle.cursor.specs.View.{seen, Fits, Moves, fault, number_of};
 ghost use Rattle.parse_state.specs.Beside.{Ready, Collects};
 ghost use Rattle.declaration_text.specs.Declares.{Declares, new_checks, unnamed, with_block_name, with_inputs, with_outputs};
 
@@ -16,6 +16,7 @@ use block_tables::{Input, Output};
 use cursor::Cursor;
 use lookup::Names;
 use model::Crisp;
+use refusals::Fault;
 
 // A reading among inputs: how many there are, and their rows, beside the tables' names.
 #[derive(Clone, Copy)]
@@ -45,44 +46,44 @@ pub fn block_name(s: &[u8], c: Cursor) -> BlockName
     requires { Fits s.now c }
     ensures { Collects (own_name with_name) s.now (with_block_name (unnamed c)) (with_block_name result) }
 {
-    let w = cursor::name_fault(c);
-    if w != 0 {
-        let d = cursor::refuse(c, w);
+    if let Err(fault) = cursor::name_fault(c) {
         return BlockName {
-            cursor: d,
+            cursor: cursor::refuse(c, fault),
             start: 0,
             end: 0,
         };
     }
-    let d = cursor::advance(s, c);
     BlockName {
-        cursor: d,
+        cursor: cursor::advance(s, c),
         start: c.start,
         end: c.end,
     }
 }
 
-// By which number the current token is refused as the name of a new variable; 0 where it is one.
-fn new_fault(s: &[u8], names: &Names, inputs: usize, outputs: usize, room: bool, c: Cursor) -> u8
+// By what fault the current token is refused as the name of a new variable, if it is none.
+fn new_fault(
+    s: &[u8],
+    names: &Names,
+    inputs: usize,
+    outputs: usize,
+    room: bool,
+    c: Cursor,
+) -> Result<(), Fault>
     requires { Fits s.now c × Placed s.now names.now × (inputs ≤ input_limit) × (outputs ≤ output_limit) }
     ensures value { (b : Block) (n : ℕ) → Declares s.now names.now inputs outputs b
-        → result ≡ fault (new_checks (seen s.now c b n) room) }
-    ensures passed { result ≡ 0 → (c.kind ≡ NAME) × (room ≡ true) }
+        → number_of result ≡ fault (new_checks (seen s.now c b n) room) }
+    ensures passed { OnOk result ((c.kind ≡ NAME) × (room ≡ true)) }
 {
-    let w = cursor::name_fault(c);
-    if w != 0 {
-        return w;
+    cursor::name_fault(c)?;
+    if lookup::find(s, names, 0, inputs, c.start, c.end).is_some()
+        || lookup::find(s, names, lookup::FIRST_OUTPUT, outputs, c.start, c.end).is_some()
+    {
+        return Err(Fault::WrongName);
     }
-    if lookup::find(s, names, 0, inputs, c.start, c.end) < inputs {
-        return 4;
+    if !room {
+        return Err(Fault::TooMany);
     }
-    if lookup::find(s, names, lookup::FIRST_OUTPUT, outputs, c.start, c.end) < outputs {
-        return 4;
-    }
-    if room {
-        return 0;
-    }
-    6
+    Ok(())
 }
 
 // One input more, beside m outputs.
@@ -94,25 +95,21 @@ fn input(s: &[u8], names: &mut Names, p: DeclaredInputs, m: usize) -> DeclaredIn
 {
     let c = p.cursor;
     let n = p.count;
-    let w = new_fault(s, names, n, m, n < bounds::INPUTS, c);
     let mut r = p;
-    if w != 0 {
-        let d = cursor::refuse(c, w);
-        r.cursor = d;
+    if let Err(fault) = new_fault(s, names, n, m, n < bounds::INPUTS, c) {
+        r.cursor = cursor::refuse(c, fault);
         return r;
     }
-    let v = Input {
+    names[n] = c.start;
+    names[lookup::ENDS + n] = c.end;
+    r.rows[n] = Input {
         start: c.start,
         end: c.end,
         int: false,
         terms: 0,
     };
-    names[n] = c.start;
-    names[lookup::ENDS + n] = c.end;
-    r.rows[n] = v;
     r.count = n + 1;
-    let d = cursor::advance(s, c);
-    r.cursor = d;
+    r.cursor = cursor::advance(s, c);
     r
 }
 
@@ -125,30 +122,25 @@ fn output(s: &[u8], names: &mut Names, p: DeclaredOutputs, m: usize) -> Declared
 {
     let c = p.cursor;
     let n = p.count;
-    let w = new_fault(s, names, m, n, n < bounds::OUTPUTS, c);
     let mut r = p;
-    if w != 0 {
-        let d = cursor::refuse(c, w);
-        r.cursor = d;
+    if let Err(fault) = new_fault(s, names, m, n, n < bounds::OUTPUTS, c) {
+        r.cursor = cursor::refuse(c, fault);
         return r;
     }
-    let z = Crisp(0);
-    let v = Output {
+    names[lookup::FIRST_OUTPUT + n] = c.start;
+    names[lookup::ENDS + (lookup::FIRST_OUTPUT + n)] = c.end;
+    r.rows[n] = Output {
         start: c.start,
         end: c.end,
         terms: 0,
         ranged: false,
-        least: z,
-        most: z,
+        least: Crisp(0),
+        most: Crisp(0),
         numbered: false,
-        default: z,
+        default: Crisp(0),
     };
-    names[lookup::FIRST_OUTPUT + n] = c.start;
-    names[lookup::ENDS + (lookup::FIRST_OUTPUT + n)] = c.end;
-    r.rows[n] = v;
     r.count = n + 1;
-    let d = cursor::advance(s, c);
-    r.cursor = d;
+    r.cursor = cursor::advance(s, c);
     r
 }
 
@@ -160,9 +152,7 @@ fn inputs(s: &[u8], names: &mut Names, p: DeclaredInputs, m: usize) -> DeclaredI
 {
     let mut q = input(s, names, p, m);
     while q.cursor.kind == token_kinds::COMMA {
-        let c = q.cursor;
-        let d = cursor::advance(s, c);
-        q.cursor = d;
+        q.cursor = cursor::advance(s, q.cursor);
         q = input(s, names, q, m);
     }
     q
@@ -176,9 +166,7 @@ fn outputs(s: &[u8], names: &mut Names, p: DeclaredOutputs, m: usize) -> Declare
 {
     let mut q = output(s, names, p, m);
     while q.cursor.kind == token_kinds::COMMA {
-        let c = q.cursor;
-        let d = cursor::advance(s, c);
-        q.cursor = d;
+        q.cursor = cursor::advance(s, q.cursor);
         q = output(s, names, q, m);
     }
     q
@@ -190,19 +178,17 @@ fn input_type(s: &[u8], p: DeclaredInputs, n: usize) -> DeclaredInputs
     ensures { (m : ℕ) (names : List ℕ)
         → Collects (input_type n) s.now (with_inputs m names p) (with_inputs m names result) }
 {
-    let c = p.cursor;
-    let mut r = p;
-    if c.kind == token_kinds::INT {
-        let rows = p.rows;
-        let next = block_tables::typed(rows, n, p.count);
-        let d = cursor::advance(s, c);
-        r.rows = next;
-        r.cursor = d;
-        return r;
+    if p.cursor.kind == token_kinds::INT {
+        return DeclaredInputs {
+            cursor: cursor::advance(s, p.cursor),
+            rows: block_tables::typed(p.rows, n, p.count),
+            ..p
+        };
     }
-    let d = cursor::expect(s, c, token_kinds::REAL);
-    r.cursor = d;
-    r
+    DeclaredInputs {
+        cursor: cursor::expect(s, p.cursor, token_kinds::REAL),
+        ..p
+    }
 }
 
 fn input_declaration(s: &[u8], names: &mut Names, p: DeclaredInputs, m: usize) -> DeclaredInputs
@@ -211,16 +197,11 @@ fn input_declaration(s: &[u8], names: &mut Names, p: DeclaredInputs, m: usize) -
         (with_inputs m names.old p) (with_inputs m names.new result) }
     ensures moves { Moves s.now p.cursor result.cursor }
 {
-    let n = p.count;
     let mut q = inputs(s, names, p, m);
-    let c = q.cursor;
-    let d = cursor::expect(s, c, token_kinds::COLON);
-    q.cursor = d;
-    let mut r = input_type(s, q, n);
-    let e = r.cursor;
-    let f = cursor::expect(s, e, token_kinds::SEMICOLON);
-    r.cursor = f;
-    r
+    q.cursor = cursor::expect(s, q.cursor, token_kinds::COLON);
+    q = input_type(s, q, p.count);
+    q.cursor = cursor::expect(s, q.cursor, token_kinds::SEMICOLON);
+    q
 }
 
 fn output_declaration(s: &[u8], names: &mut Names, p: DeclaredOutputs, m: usize) -> DeclaredOutputs
@@ -230,11 +211,9 @@ fn output_declaration(s: &[u8], names: &mut Names, p: DeclaredOutputs, m: usize)
     ensures moves { Moves s.now p.cursor result.cursor }
 {
     let mut q = outputs(s, names, p, m);
-    let c = q.cursor;
-    let d = cursor::expect(s, c, token_kinds::COLON);
-    let e = cursor::expect(s, d, token_kinds::REAL);
-    let f = cursor::expect(s, e, token_kinds::SEMICOLON);
-    q.cursor = f;
+    q.cursor = cursor::expect(s, q.cursor, token_kinds::COLON);
+    q.cursor = cursor::expect(s, q.cursor, token_kinds::REAL);
+    q.cursor = cursor::expect(s, q.cursor, token_kinds::SEMICOLON);
     q
 }
 

@@ -4,75 +4,70 @@
 ghost use Rattle.std.specs.Prelude.{◌≡◌, map, ◌≤◌, ◌<◌};
 ghost use Rattle.model.specs.Image.{word_at, singleton_at};
 ghost use Rattle.model.specs.Evaluation.{no_answer, padded, held_of};
-ghost use Rattle.layout.specs.Tables.{input_terms_in};
-ghost use Rattle.layout.specs.Checked.{Checked};
-ghost use Rattle.defuzzification.specs.Outputs.{HeightsOk, answers_by};
+ghost use Rattle.degrees.specs.Tables.{numbers};
+ghost use Rattle.centre.specs.Centre.{SumsOf};
+ghost use Rattle.output_answer.specs.Positions.{positions_of};
+ghost use Rattle.defuzzification.specs.Outputs.{heights_of, answers_by};
 
+use bounds::{OUTPUT_TERMS, OUTPUTS};
 use centre::Sums;
-use header::Header;
-use model::{Answer, Crisp, Degree, Held};
+use degrees::Degrees;
+use layout::CheckedImage;
+use model::{Answer, Crisp, Held};
 use output_answer::{answer, no_answer};
 use stored_points::place_at;
-use words::whole_word;
 
 // The position of output term t.
-fn position(img: &[u8], h: Header, t: usize) -> Crisp
-    requires { Checked img.now h × (input_terms_in (word_at img.now) ≤ t) × (t < h.terms) }
-    ensures { result.0 ≡ (singleton_at (word_at img.now) t).at }
+fn position(image: &CheckedImage, t: usize) -> Crisp
+    requires { (image.now.input_terms ≤ t) × (t < image.now.stored.header.terms.rows) }
+    ensures { result.0 ≡ (singleton_at (word_at image.now.stored.bytes.now) t).at }
 {
-    let first = whole_word(img, header::term_row(h, t) + header::TERM_FIRST);
-    place_at(img, h, first)
+    let stored = &image.stored;
+    let first = stored.word(stored.header.terms.row(t) + header::TERM_FIRST);
+    place_at(stored, first)
+}
+
+// The sums over the terms of output i.
+fn sums_of(image: &CheckedImage, hs: &Degrees<OUTPUT_TERMS>, i: usize) -> Sums
+    requires { i < image.now.stored.header.outputs.rows }
+    ensures { SumsOf result.heights result.moment (positions_of (word_at image.now.stored.bytes.now) i)
+        (heights_of (word_at image.now.stored.bytes.now) (numbers hs.now.at) image.now.input_terms i) }
+{
+    let stored = &image.stored;
+    let row = stored.header.outputs.row(i);
+    let first = stored.word(row + header::OUTPUT_FIRST);
+    let count = stored.word(row + header::OUTPUT_TERMS);
+    let mut sums = Sums::none();
+    for t in first..first + count {
+        let height = hs.get(t - image.input_terms);
+        sums = sums.added(position(image, t), height);
+    }
+    sums
 }
 
 // The answers of all outputs, and the held record that stores their figures.
 #[derive(Clone, Copy)]
 pub struct Answered {
-    pub answers: [Answer; bounds::OUTPUTS],
+    pub answers: [Answer; OUTPUTS],
     pub held: Held,
 }
 
-// By the heights of the output terms, of which m is the first, and the held record. An output's heights are summed
-// here, since a function of its own would be given a copy of all.
-pub fn outputs(
-    img: &[u8],
-    h: Header,
-    hs: [Degree; bounds::OUTPUT_TERMS],
-    m: usize,
-    held: Held,
-) -> Answered
-    requires checked { Checked img.now h }
-    requires m_value { (m ≡ input_terms_in (word_at img.now)) × HeightsOk hs }
-    ensures answers_value { result.answers ≡ padded no_answer (answers_by (word_at img.now) hs m held) }
-    ensures held_value { result.held
-        ≡ held_of (map (λ a. a.thousandths.0) (answers_by (word_at img.now) hs m held)) }
+// By the heights of the output terms and the held record.
+pub fn outputs(image: &CheckedImage, hs: &Degrees<OUTPUT_TERMS>, held: Held) -> Answered
+    ensures answers_value { result.answers ≡ padded no_answer
+        (answers_by (word_at image.now.stored.bytes.now) (numbers hs.now.at) image.now.input_terms held) }
+    ensures held_value { result.held ≡ held_of (map (λ a. a.thousandths.0)
+        (answers_by (word_at image.now.stored.bytes.now) (numbers hs.now.at) image.now.input_terms held)) }
 {
-    let mut answers = [no_answer(); bounds::OUTPUTS];
-    let mut figures = [Crisp(0); bounds::OUTPUTS];
-    let kept = held.figures;
-    let n = h.outputs;
-    let mut i = 0usize;
-    while i < n {
-        let row = header::output_row(h, i);
-        let first = whole_word(img, row + header::OUTPUT_FIRST);
-        let count = whole_word(img, row + header::OUTPUT_TERMS);
-        let mut sums = Sums {
-            heights: 0,
-            moment: 0,
-        };
-        let mut k = 0;
-        while k < count {
-            let w = hs[first - m + k];
-            sums = centre::added(sums, position(img, h, first + k), w);
-            k += 1;
-        }
-        let a = answer(img, h, i, sums, kept[i]);
+    let mut answers = [no_answer(); OUTPUTS];
+    let mut figures = [Crisp(0); OUTPUTS];
+    for i in 0..image.stored.header.outputs.rows {
+        let a = answer(image, i, sums_of(image, hs, i), held.figures[i]);
         answers[i] = a;
-        let x = a.thousandths;
-        figures[i] = x;
-        i += 1;
+        figures[i] = a.thousandths;
     }
     Answered {
-        answers: answers,
-        held: Held { figures: figures },
+        answers,
+        held: Held { figures },
     }
 }

@@ -1,5 +1,5 @@
 -- What a RANGE, a singleton, a default and a whole part are judged by, and what they change.
-use Rattle.std.specs.Prelude.{if◌then◌else◌}
+use Rattle.std.specs.Prelude.{Option, Some, None, MatchOption, if◌then◌else◌}
 use mathlib.Core.Path.{◌≡◌, refl, sym, ap, ◌∙◌}
 use mathlib.Core.Bool.{Bool, true, false, not}
 use mathlib.Core.List.{List, [], ◌∷◌}
@@ -30,6 +30,11 @@ use Rattle.parse_state.specs.declared.ParseState.{ParseState}
 use Rattle.parse_state.specs.Reads.{view, Good, Reads}
 use Rattle.parse_state.proofs.Laws as reading
 use Rattle.defuzzify_text.specs.Output.{HasSingletons, Knows, figure_checks, term_checks, method_text, part_text}
+
+-- whether there is a term or not
+pub term_then : {A P P' : Type 0} {Q Q' : A → Type 0} (o : Option A) → (P → P') → ((x : A) → Q x → Q' x) → MatchOption o P Q → MatchOption o P' Q'
+term_then None f g h = f h
+term_then (Some x) f g h = g x h
 
 outputs_are : (s : List ℕ) (t : Tables) → (block_view s t).outputs ≡ outputs_view s t
 unfolding block_view
@@ -106,7 +111,7 @@ module _ (s : List ℕ) (c d : Cursor) (t : Tables) (o : ℕ) where
           (v ∙ ap value_of (sym (reading.text_view s (reading.at c t)))))
 
   -- after a refusal nothing follows
-  pub range_lost : (w : ℕ) → w ≡ fault (a_crisp (seen s c (block_view s t) 0) []) → (w ≡ 0 → ⊥) → Holds s t → (d.why ≡ 0 → ⊥) → Step (refuse w) s c d
+  pub range_lost : (w : ℕ) → w ≡ fault (a_crisp (seen s c (block_view s t) 0) []) → (w ≡ 0 → ⊥) → Holds s t → (d.refused ≡ None → ⊥) → Step (refuse w) s c d
       → Reads (range_body o) s (reading.at c t) (reading.at d t)
   unfolding range_body lower_end upper_end view
   range_lost w e h g l q =

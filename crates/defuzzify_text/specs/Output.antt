@@ -1,6 +1,6 @@
 -- A helper: readings of what belongs to one output. `part_read` of proofs/Laws ties `part_text` to the model's
 -- `defuzzify_variable`.
-use Rattle.std.specs.Prelude.{◌≡◌, true, false, not, List, [], ◌∷◌, ℕ, ◌+◌, ◌*◌, ◌≤◌, ◌<◌, length}
+use Rattle.std.specs.Prelude.{None, MatchOption, ◌≡◌, not, List, [], ◌∷◌, ℕ, ◌+◌, ◌*◌, ◌≤◌, ◌<◌, length}
 use Rattle.std.proofs.Math.Option.{Option}
 use Rattle.model.specs.Basic.{◌▸◌, index_of, tab}
 use Rattle.model.specs.Bounds.{input_limit, term_limit, variable_limit}
@@ -19,6 +19,7 @@ use Rattle.block_tables.specs.Changes.{Changes}
 use Rattle.parse_state.specs.declared.ParseState.{ParseState}
 use Rattle.parse_state.specs.Reads.{Reads}
 use Rattle.defuzzify_text.specs.declared.Outputs.{Outputs}
+use Rattle.block_tables.specs.declared.Singleton.{Singleton}
 use Rattle.defuzzify_text.specs.declared.SingletonRead.{SingletonRead}
 
 -- the outputs p with their names, in the tables t
@@ -58,19 +59,25 @@ pub record Knows (names : List ℕ) (o : ℕ) (v : Row) (t : Tables) : Type 0 wh
   pub names_are : t.names ≡ names
   pub row_is : output_row t o ≡ v
 
--- a term more for output o with the row v: where it is read, any tables with the term in them stand behind it
+-- a term x more for output o with the row v, from c to d: any tables with the term in them stand behind it
+pub record AddsOne (part : Part) (s names : List ℕ) (o : ℕ) (v : Row) (c d : Cursor) (x : Singleton) : Type 0 where
+  pub reads : (t u : Tables) → Holds s t → Knows names o v t
+      → Changes s t u (change_output (with_singleton (a_singleton s x)) o)
+      → Reads part s (record { cursor = c; tables = t }) (record { cursor = d; tables = u })
+  pub order : x.start ≤ x.end
+  pub inside : x.end ≤ length s
+  pub room : v.terms < term_limit
+
+-- none, and reading is refused
+pub record AddsNone (part : Part) (s names : List ℕ) (o : ℕ) (v : Row) (c d : Cursor) : Type 0 where
+  pub reads : (t : Tables) → Holds s t → Knows names o v t
+      → Reads part s (record { cursor = c; tables = t }) (record { cursor = d; tables = t })
+  pub stops : d.refused ≡ None → ⊥
+
 pub record Adds (part : Part) (s names : List ℕ) (o : ℕ) (v : Row) (c : Cursor) (r : SingletonRead) : Type 0 where
-  pub read : r.read ≡ true → (t u : Tables) → Holds s t → Knows names o v t
-      → Changes s t u (change_output (with_singleton (a_singleton s r.term)) o)
-      → Reads part s (record { cursor = c; tables = t }) (record { cursor = r.cursor; tables = u })
-  pub lost : r.read ≡ false → (t : Tables) → Holds s t → Knows names o v t
-      → Reads part s (record { cursor = c; tables = t }) (record { cursor = r.cursor; tables = t })
+  pub term : MatchOption r.term (AddsNone part s names o v c r.cursor) (AddsOne part s names o v c r.cursor)
   pub fewer : left s r.cursor ≤ left s c
   pub fits : Fits s r.cursor
-  pub order : r.term.start ≤ r.term.end
-  pub inside : r.term.end ≤ length s
-  pub room : r.read ≡ true → v.terms < term_limit
-  pub stops : r.read ≡ false → r.cursor.why ≡ 0 → ⊥
 
 unfoldable pub method_text : Part
 method_text r = r ▸ expect METHOD ▸ expect COLON ▸ expect CoGS ▸ expect SEMICOLON ▸ expect DEFAULT ▸ expect ASSIGN

@@ -1,7 +1,7 @@
 // DEFUZZIFY parts: an optional RANGE, the terms with one number each, the method and the default.
 #![tactic(auto)]
 
-ghost use Rattle.std.specs.Prelude.{◌≡◌, List, ℕ, ◌+◌, ◌*◌, ◌≤◌, ◌<◌, length};
+ghost use Rattle.std.specs.Prelude.{OnOk, ◌≡◌, List, ℕ, ◌+◌, ◌*◌, ◌≤◌, ◌<◌, length, IfOk, IfErr};
 ghost use Rattle.std.proofs.Math.Seq.{slice};
 ghost use Rattle.model.specs.Bounds.{output_limit, term_limit, output_term_limit};
 ghost use Rattle.model.specs.Block.{Block, in_range, with_singleton, with_default};
@@ -9,7 +9,7 @@ ghost use Rattle.model.specs.Keywords.{TERM, DEFUZZIFY, NAME, NUMBER};
 ghost use Rattle.model.specs.Parse.{repeated};
 ghost use Rattle.model.specs.Tokens.{value_of};
 ghost use Rattle.model.specs.Declarations.{upper_end, range_body, range_part, figure, singleton_body, output_term, default_value, defuzzify_variable, defuzzify};
-ghost use Rattle.cursor.specs.View.{seen, text_of, Fits, Step, Moves, fault};
+ghost use Rattle.cursor.specs.View.{seen, text_of, Fits, Step, Moves, fault, number_of};
 ghost use Rattle.lookup.specs.Names.{Placed};
 ghost use Rattle.block_tables.specs.View.{range_view};
 ghost use Rattle.parse_state.specs.Beside.{Ready, Collects};
@@ -18,8 +18,8 @@ ghost use Rattle.defuzzify_text.specs.Output.{with_outputs, HasSingletons, Adds,
 use block_tables::{Output, Singleton};
 use cursor::Cursor;
 use lookup::Names;
-use model::Crisp;
-use number_tokens::CrispHere;
+use model::{Crisp, Range};
+use refusals::Fault;
 
 // A reading among outputs: what DEFUZZIFY changes of the tables, beside their names.
 #[derive(Clone, Copy)]
@@ -34,8 +34,7 @@ pub struct Outputs {
 #[derive(Clone, Copy)]
 struct SingletonRead {
     cursor: Cursor,
-    read: bool,
-    term: Singleton,
+    term: Option<Singleton>,
 }
 
 // The upper end of the RANGE of output o, above its lower end x.
@@ -46,36 +45,27 @@ fn upper_end(s: &[u8], p: Outputs, o: usize, x: Crisp) -> Outputs
     ensures count { result.count ≡ p.count }
 {
     let c = p.cursor;
-    let y = number_tokens::crisp_here(s, c);
-    let w = y.fault;
-    let mut r = p;
-    if w != 0 {
-        let d = cursor::refuse(c, w);
-        r.cursor = d;
-        return r;
+    match number_tokens::crisp_here(s, c) {
+        Err(fault) => Outputs {
+            cursor: cursor::refuse(c, fault),
+            ..p
+        },
+        Ok(y) if crisp::less(x, y) => {
+            let mut r = p;
+            r.rows[o] = Output {
+                ranged: true,
+                least: x,
+                most: y,
+                ..p.rows[o]
+            };
+            r.cursor = cursor::advance(s, c);
+            r
+        }
+        Ok(_) => Outputs {
+            cursor: cursor::refuse(c, Fault::WrongPosition),
+            ..p
+        },
     }
-    let z = y.value;
-    if crisp::less(x, z) {
-        let v = p.rows[o];
-        let e = v.default;
-        let u = Output {
-            start: v.start,
-            end: v.end,
-            terms: v.terms,
-            ranged: true,
-            least: x,
-            most: z,
-            numbered: v.numbered,
-            default: e,
-        };
-        let d = cursor::advance(s, c);
-        r.rows[o] = u;
-        r.cursor = d;
-        return r;
-    }
-    let d = cursor::refuse(c, 7);
-    r.cursor = d;
-    r
 }
 
 // min..max); of output o
@@ -86,23 +76,20 @@ fn range_from(s: &[u8], p: Outputs, o: usize) -> Outputs
     ensures count { result.count ≡ p.count }
 {
     let c = p.cursor;
-    let v = number_tokens::crisp_here(s, c);
-    let w = v.fault;
-    let mut q = p;
-    if w != 0 {
-        let d = cursor::refuse(c, w);
-        q.cursor = d;
-        return q;
-    }
-    let x = v.value;
+    let x = match number_tokens::crisp_here(s, c) {
+        Ok(x) => x,
+        Err(fault) => {
+            return Outputs {
+                cursor: cursor::refuse(c, fault),
+                ..p
+            };
+        }
+    };
     let d = cursor::advance(s, c);
     let e = cursor::expect(s, d, token_kinds::DOTS);
-    q.cursor = e;
-    let mut r = upper_end(s, q, o, x);
-    let f = r.cursor;
-    let g = cursor::expect(s, f, token_kinds::CLOSE);
-    let h = cursor::expect(s, g, token_kinds::SEMICOLON);
-    r.cursor = h;
+    let mut r = upper_end(s, Outputs { cursor: e, ..p }, o, x);
+    let g = cursor::expect(s, r.cursor, token_kinds::CLOSE);
+    r.cursor = cursor::expect(s, g, token_kinds::SEMICOLON);
     r
 }
 
@@ -112,42 +99,41 @@ fn optional_range(s: &[u8], p: Outputs, o: usize) -> Outputs
         (with_outputs names p) (with_outputs names result) }
     ensures count { result.count ≡ p.count }
 {
-    let c = p.cursor;
-    if c.kind != token_kinds::RANGE {
+    if p.cursor.kind != token_kinds::RANGE {
         return p;
     }
-    let d = cursor::advance(s, c);
+    let d = cursor::advance(s, p.cursor);
     let e = cursor::expect(s, d, token_kinds::OPEN);
-    let mut q = p;
-    q.cursor = e;
-    range_from(s, q, o)
+    range_from(s, Outputs { cursor: e, ..p }, o)
 }
 
 // Whether x lies in the RANGE of v, if it has one.
 fn inside(v: Output, x: Crisp) -> bool
     ensures { result ≡ in_range (range_view v) x.0 }
 {
-    let a = v.least;
-    let b = v.most;
-    crisp::in_range(v.ranged, a, b, x)
+    let range = if v.ranged {
+        Some(Range {
+            least: v.least,
+            most: v.most,
+        })
+    } else {
+        None
+    };
+    crisp::in_range(range, x)
 }
 
 // The number at the cursor as one inside the RANGE of v.
-fn figure_here(s: &[u8], c: Cursor, v: Output) -> CrispHere
+fn figure_here(s: &[u8], c: Cursor, v: Output) -> Result<Crisp, Fault>
     requires { Fits s.now c }
-    ensures fault_value { (b : Block) (n : ℕ)
-        → result.fault ≡ fault (figure_checks (range_view v) (seen s.now c b n)) }
-    ensures value { result.fault ≡ 0 → (c.kind ≡ NUMBER) × (result.value.0 ≡ value_of (text_of s.now c)) }
+    ensures checked { (b : Block) (n : ℕ) → number_of result ≡ fault (figure_checks (range_view v) (seen s.now c b n)) }
+    ensures value { IfOk result (λ x. (c.kind ≡ NUMBER) × (x.0 ≡ value_of (text_of s.now c))) }
 {
-    let w = number_tokens::crisp_here(s, c);
-    if w.fault != 0 {
-        return w;
-    }
-    let x = w.value;
+    let x = number_tokens::crisp_here(s, c)?;
     if inside(v, x) {
-        return w;
+        Ok(x)
+    } else {
+        Err(Fault::WrongPosition)
     }
-    CrispHere { fault: 7, value: x }
 }
 
 // A number as the singleton of an output with the row v, by the name from start to end.
@@ -157,26 +143,15 @@ fn singleton_at(s: &[u8], c: Cursor, v: Output, start: usize, end: usize) -> Sin
         → Adds (figure (λ x. with_singleton (record { name = slice start end s.now; at = x })) o)
         s.now names o v c result }
 {
-    let y = figure_here(s, c, v);
-    let x = y.value;
-    let u = Singleton {
-        start: start,
-        end: end,
-        at: x,
-    };
-    if y.fault != 0 {
-        let d = cursor::refuse(c, y.fault);
-        return SingletonRead {
-            cursor: d,
-            read: false,
-            term: u,
-        };
-    }
-    let d = cursor::advance(s, c);
-    SingletonRead {
-        cursor: d,
-        read: true,
-        term: u,
+    match figure_here(s, c, v) {
+        Err(fault) => SingletonRead {
+            cursor: cursor::refuse(c, fault),
+            term: None,
+        },
+        Ok(at) => SingletonRead {
+            cursor: cursor::advance(s, c),
+            term: Some(Singleton { start, end, at }),
+        },
     }
 }
 
@@ -189,44 +164,32 @@ fn default_number(s: &[u8], p: Outputs, o: usize) -> Outputs
 {
     let c = p.cursor;
     let v = p.rows[o];
-    let y = figure_here(s, c, v);
-    let w = y.fault;
-    let mut r = p;
-    if w != 0 {
-        let d = cursor::refuse(c, w);
-        r.cursor = d;
-        return r;
+    match figure_here(s, c, v) {
+        Err(fault) => Outputs {
+            cursor: cursor::refuse(c, fault),
+            ..p
+        },
+        Ok(default) => {
+            let mut r = p;
+            r.rows[o] = Output {
+                numbered: true,
+                default,
+                ..v
+            };
+            r.cursor = cursor::advance(s, c);
+            r
+        }
     }
-    let x = y.value;
-    let a = v.least;
-    let b = v.most;
-    let u = Output {
-        start: v.start,
-        end: v.end,
-        terms: v.terms,
-        ranged: v.ranged,
-        least: a,
-        most: b,
-        numbered: true,
-        default: x,
-    };
-    let d = cursor::advance(s, c);
-    r.rows[o] = u;
-    r.cursor = d;
-    r
 }
 
-// By which number the current token is refused as the name of a new term of output o; 0 where it is one.
-fn term_fault(s: &[u8], names: &Names, o: usize, terms: usize, c: Cursor) -> u8
+// By what fault the current token is refused as the name of a new term of output o, if it is none.
+fn term_fault(s: &[u8], names: &Names, o: usize, terms: usize, c: Cursor) -> Result<(), Fault>
     requires { Fits s.now c × Placed s.now names.now × (o < output_limit) × (terms ≤ term_limit) }
     ensures value { (b : Block) (n : ℕ) → HasSingletons s.now names.now o terms b
-        → result ≡ fault (term_checks o (seen s.now c b n)) }
-    ensures kind { result ≡ 0 → c.kind ≡ NAME }
+        → number_of result ≡ fault (term_checks o (seen s.now c b n)) }
+    ensures kind { OnOk result (c.kind ≡ NAME) }
 {
-    let w = cursor::name_fault(c);
-    if w != 0 {
-        return w;
-    }
+    cursor::name_fault(c)?;
     if lookup::find(
         s,
         names,
@@ -234,11 +197,12 @@ fn term_fault(s: &[u8], names: &Names, o: usize, terms: usize, c: Cursor) -> u8
         terms,
         c.start,
         c.end,
-    ) < terms
+    )
+    .is_some()
     {
-        return 4;
+        return Err(Fault::WrongName);
     }
-    0
+    Ok(())
 }
 
 // name := number ; as one term more for output o with the row v.
@@ -246,26 +210,16 @@ fn singleton_named(s: &[u8], names: &Names, c: Cursor, o: usize, v: Output) -> S
     requires { Fits s.now c × Placed s.now names.now × (o < output_limit) × (v.terms < term_limit) }
     ensures { Adds (singleton_body o) s.now names.now o v c result }
 {
-    let w = term_fault(s, names, o, v.terms, c);
-    if w != 0 {
-        let d = cursor::refuse(c, w);
-        let u = Singleton {
-            start: 0,
-            end: 0,
-            at: Crisp(0),
-        };
+    if let Err(fault) = term_fault(s, names, o, v.terms, c) {
         return SingletonRead {
-            cursor: d,
-            read: false,
-            term: u,
+            cursor: cursor::refuse(c, fault),
+            term: None,
         };
     }
     let d = cursor::advance(s, c);
     let e = cursor::expect(s, d, token_kinds::ASSIGN);
     let mut r = singleton_at(s, e, v, c.start, c.end);
-    let f = r.cursor;
-    let g = cursor::expect(s, f, token_kinds::SEMICOLON);
-    r.cursor = g;
+    r.cursor = cursor::expect(s, r.cursor, token_kinds::SEMICOLON);
     r
 }
 
@@ -277,16 +231,9 @@ fn output_term(s: &[u8], names: &Names, c: Cursor, o: usize, v: Output) -> Singl
     ensures moves { Moves s.now c result.cursor }
 {
     if bounds::TERMS <= v.terms {
-        let d = cursor::refuse(c, 6);
-        let u = Singleton {
-            start: 0,
-            end: 0,
-            at: Crisp(0),
-        };
         return SingletonRead {
-            cursor: d,
-            read: false,
-            term: u,
+            cursor: cursor::refuse(c, Fault::TooMany),
+            term: None,
         };
     }
     let d = cursor::advance(s, c);
@@ -312,25 +259,21 @@ fn output_terms(s: &[u8], names: &mut Names, p: Outputs, o: usize) -> Outputs
     let mut c = p.cursor;
     let mut r = p;
     if c.kind != token_kinds::TERM {
-        let d = cursor::refuse(c, 2);
-        r.cursor = d;
+        r.cursor = cursor::refuse(c, Fault::WrongToken);
         return r;
     }
     while c.kind == token_kinds::TERM {
-        let mut v = r.rows[o];
+        let v = r.rows[o];
         let a = output_term(s, names, c, o, v);
-        let u = a.term;
         c = a.cursor;
-        if !a.read {
+        let Some(u) = a.term else {
             r.cursor = c;
             return r;
-        }
-        let n = v.terms;
-        let k = singleton_place(o, n);
+        };
+        let k = singleton_place(o, v.terms);
         names[lookup::FIRST_OUTPUT_TERM + k] = u.start;
         names[lookup::ENDS + (lookup::FIRST_OUTPUT_TERM + k)] = u.end;
-        v.terms = n + 1;
-        r.rows[o] = v;
+        r.rows[o].terms = v.terms + 1;
         r.singletons[k] = u;
     }
     r.cursor = c;
@@ -357,14 +300,13 @@ fn default_value(s: &[u8], p: Outputs, o: usize) -> Outputs
         (with_outputs names p) (with_outputs names result) }
     ensures count { result.count ≡ p.count }
 {
-    let c = p.cursor;
-    if c.kind != token_kinds::NC {
+    if p.cursor.kind != token_kinds::NC {
         return default_number(s, p, o);
     }
-    let d = cursor::advance(s, c);
-    let mut r = p;
-    r.cursor = d;
-    r
+    Outputs {
+        cursor: cursor::advance(s, p.cursor),
+        ..p
+    }
 }
 
 // The part of output o, from behind its name on.
@@ -374,17 +316,13 @@ fn output_part(s: &[u8], names: &mut Names, p: Outputs, o: usize) -> Outputs
         (with_outputs names.new result) }
     ensures count { result.count ≡ p.count }
 {
-    let a = optional_range(s, p, o);
-    let mut b = output_terms(s, names, a, o);
-    let c = b.cursor;
-    let d = method(s, c);
-    b.cursor = d;
-    let mut e = default_value(s, b, o);
-    let f = e.cursor;
-    let g = cursor::expect(s, f, token_kinds::SEMICOLON);
-    let h = cursor::expect(s, g, token_kinds::END_DEFUZZIFY);
-    e.cursor = h;
-    e
+    let mut q = optional_range(s, p, o);
+    q = output_terms(s, names, q, o);
+    q.cursor = method(s, q.cursor);
+    q = default_value(s, q, o);
+    q.cursor = cursor::expect(s, q.cursor, token_kinds::SEMICOLON);
+    q.cursor = cursor::expect(s, q.cursor, token_kinds::END_DEFUZZIFY);
+    q
 }
 
 fn defuzzify_named(s: &[u8], names: &mut Names, p: Outputs) -> Outputs
@@ -394,28 +332,20 @@ fn defuzzify_named(s: &[u8], names: &mut Names, p: Outputs) -> Outputs
     ensures count { result.count ≡ p.count }
 {
     let c = p.cursor;
-    let w = cursor::name_fault(c);
     let mut q = p;
-    if w != 0 {
-        let d = cursor::refuse(c, w);
-        q.cursor = d;
+    if let Err(fault) = cursor::name_fault(c) {
+        q.cursor = cursor::refuse(c, fault);
         return q;
     }
-    let n = p.count;
-    let o = lookup::find(s, names, lookup::FIRST_OUTPUT, n, c.start, c.end);
-    if n <= o {
-        let d = cursor::refuse(c, 5);
-        q.cursor = d;
+    let Some(o) = lookup::find(s, names, lookup::FIRST_OUTPUT, p.count, c.start, c.end) else {
+        q.cursor = cursor::refuse(c, Fault::NotDeclared);
+        return q;
+    };
+    if p.rows[o].terms != 0 {
+        q.cursor = cursor::refuse(c, Fault::WrongName);
         return q;
     }
-    let v = p.rows[o];
-    if v.terms != 0 {
-        let d = cursor::refuse(c, 4);
-        q.cursor = d;
-        return q;
-    }
-    let d = cursor::advance(s, c);
-    q.cursor = d;
+    q.cursor = cursor::advance(s, c);
     output_part(s, names, q, o)
 }
 
@@ -426,10 +356,8 @@ fn defuzzify_part(s: &[u8], names: &mut Names, p: Outputs) -> Outputs
     ensures count { result.count ≡ p.count }
     ensures moves { Moves s.now p.cursor result.cursor }
 {
-    let c = p.cursor;
-    let d = cursor::expect(s, c, token_kinds::DEFUZZIFY);
     let mut q = p;
-    q.cursor = d;
+    q.cursor = cursor::expect(s, q.cursor, token_kinds::DEFUZZIFY);
     defuzzify_named(s, names, q)
 }
 

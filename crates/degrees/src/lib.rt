@@ -1,12 +1,13 @@
 // The operators on degrees, the three pairs for AND and OR, and the accumulation of heights.
 #![tactic(auto)]
 
-ghost use Rattle.std.specs.Prelude.{◌≡◌, ◌≤◌, min, max};
+ghost use Rattle.std.specs.Prelude.{◌≡◌, ◌≤◌, ◌<◌, min, max, length, get_or, set, replicate};
 ghost use Rattle.model.specs.Bounds.{M};
 ghost use Rattle.model.specs.Block.{and, or};
 ghost use Rattle.model.specs.Degrees.{not_of, prod_of, asum_of, bdif_of, bsum_of, pairs};
 ghost use Rattle.model.specs.Evaluation.{accumulated};
 ghost use Rattle.model.specs.WellFormed.{unit_ok};
+ghost use Rattle.degrees.specs.Tables.{numbers, Low};
 
 use model::{Accumulation, Degree, Pair};
 
@@ -26,14 +27,14 @@ pub fn min(a: Degree, b: Degree) -> Degree
     requires { (a.0 ≤ M) × (b.0 ≤ M) }
     ensures { (result.0 ≡ min a.0 b.0) × (result.0 ≤ M) }
 {
-    if a.0 < b.0 { a } else { b }
+    a.min(b)
 }
 
 pub fn max(a: Degree, b: Degree) -> Degree
     requires { (a.0 ≤ M) × (b.0 ≤ M) }
     ensures { (result.0 ≡ max a.0 b.0) × (result.0 ≤ M) }
 {
-    if a.0 < b.0 { b } else { a }
+    a.max(b)
 }
 
 // Most weights are 1, and so are many degrees.
@@ -47,34 +48,29 @@ pub fn prod(a: Degree, b: Degree) -> Degree
     if a.0 == ONE {
         return b;
     }
-    let x = a.0 as u64;
-    let y = b.0 as u64;
-    let r = nearest::nearest_quotient(x * y, MILLION) as u32;
-    Degree(r)
+    let product = u64::from(a.0) * u64::from(b.0);
+    Degree(nearest::nearest_quotient(product, MILLION) as u32)
 }
 
 pub fn asum(a: Degree, b: Degree) -> Degree
     requires { (a.0 ≤ M) × (b.0 ≤ M) }
     ensures { (result.0 ≡ asum_of a.0 b.0) × (result.0 ≤ M) }
 {
-    let p = prod(a, b);
-    Degree(a.0 + b.0 - p.0)
+    Degree(a.0 + b.0 - prod(a, b).0)
 }
 
 pub fn bdif(a: Degree, b: Degree) -> Degree
     requires { (a.0 ≤ M) × (b.0 ≤ M) }
     ensures { (result.0 ≡ bdif_of a.0 b.0) × (result.0 ≤ M) }
 {
-    let s = a.0 + b.0;
-    if s < ONE { Degree(0) } else { Degree(s - ONE) }
+    Degree((a.0 + b.0).saturating_sub(ONE))
 }
 
 pub fn bsum(a: Degree, b: Degree) -> Degree
     requires { (a.0 ≤ M) × (b.0 ≤ M) }
     ensures { (result.0 ≡ bsum_of a.0 b.0) × (result.0 ≤ M) }
 {
-    let s = a.0 + b.0;
-    if s < ONE { Degree(s) } else { Degree(ONE) }
+    Degree((a.0 + b.0).min(ONE))
 }
 
 // AND by the pair.
@@ -116,8 +112,35 @@ pub fn accumulate(k: Accumulation, h: Degree, d: Degree) -> Degree
 pub fn is_unit(d: Degree) -> bool
     ensures { result ≡ unit_ok d.0 }
 {
-    if ONE < d.0 {
-        return false;
+    d.0 <= ONE && d.0 % 1000 == 0
+}
+
+// So many degrees, each at most 1.
+#[derive(Clone, Copy)]
+pub struct Degrees<const N: usize> {
+    pub at: [Degree; N],
+    pub ghost long: { length at ≡ N },
+    pub ghost low: { Low (numbers at) },
+}
+
+impl<const N: usize> Degrees<N> {
+    pub fn zeros() -> Degrees<N>
+        ensures { numbers result.at ≡ replicate N 0 }
+    {
+        Degrees { at: [Degree(0); N] }
     }
-    d.0 % 1000 == 0
+
+    pub fn get(&self, i: usize) -> Degree
+        requires { i < N }
+        ensures { (result.0 ≡ get_or (numbers self.now.at) i 0) × (result.0 ≤ M) }
+    {
+        self.at[i]
+    }
+
+    pub fn set(&mut self, i: usize, d: Degree)
+        requires { (i < N) × (d.0 ≤ M) }
+        ensures { numbers self.new.at ≡ set (numbers self.old.at) i d.0 }
+    {
+        self.at[i] = d;
+    }
 }

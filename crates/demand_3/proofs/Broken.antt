@@ -7,6 +7,7 @@ use native.Mathlib.Omega.{arith}
 use Prim.Native.Nat.{ℕ, ◌≤◌}
 use lib.IntN.{ℤ, pos, negsuc, nat_abs}
 use lib.ListN.{get_or}
+use Rattle.std.specs.Prelude.{Err}
 use Rattle.model.specs.Bounds.{M}
 use Rattle.model.specs.Block.{or, Condition, term, neg, two, Rule, Block, with_inputs, with_accu, with_rules}
 use Rattle.model.specs.Outcome.{Outcome, accepted, refused}
@@ -20,7 +21,6 @@ use Rattle.model.specs.declared.Mark.TheVariants.{None, Fired, Default, Held as 
 use Rattle.model.specs.declared.Reading.TheVariants.{Int}
 use Rattle.model.specs.declared.Refusal.TheVariants.{WrongCount, WrongReading}
 use Rattle.model.specs.declared.Reply.{Reply}
-use Rattle.model.specs.declared.Verdict.TheVariants.{Refused}
 use Rattle.demand_3.specs.Calls.{Made, CallsHold}
 use Rattle.demand_3.proofs.Opened.{opened}
 use Rattle.demand_3.proofs.Calls.{block, whole, answer, given, not_given, lent}
@@ -168,7 +168,7 @@ unfolding opened
 sum_not_other h = let z : ◌≡◌ {A = ℕ} 1500001 1500000 = ap first_sum h.answers_defined in omega (arith, z)
 
 abbrev refused_answering : Reply
-refused_answering = record { verdict = Refused WrongCount; answers = padded no_answer (firing ∷ []) }
+refused_answering = record { verdict = Err WrongCount; answers = padded no_answer (firing ∷ []) }
 
 refused_not_answered : Claimed (lent (whole (pos 0) ∷ Int (negsuc 4) ∷ []) 1 refused_answering (pos 10000) (negsuc 1999) ∷ []) → ⊥
 unfolding opened

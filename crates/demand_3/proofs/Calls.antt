@@ -9,6 +9,7 @@ use Prim.Native.String.{String}
 use lib.Ieee.{nan, inf, binary32, binary64, of_int, of_bits}
 use lib.IntN.{ℤ, pos, negsuc}
 use lib.ListN.{length, replicate}
+use Rattle.std.specs.Prelude.{Ok, Err}
 use Rattle.model.specs.Basic.{bytes}
 use Rattle.model.specs.Bounds.{M, input_limit}
 use Rattle.model.specs.Block.{Point, Singleton, and, or, Condition, term, neg, two, Conclusion, Rule, Block}
@@ -26,7 +27,6 @@ use Rattle.model.specs.declared.Reading.TheVariants.{Real, Int, Absent}
 use Rattle.model.specs.declared.Refusal.{Refusal}
 use Rattle.model.specs.declared.Refusal.TheVariants.{WrongCount, WrongReading}
 use Rattle.model.specs.declared.Reply.{Reply}
-use Rattle.model.specs.declared.Verdict.TheVariants.{Accepted, Refused}
 use Rattle.demand_3.specs.Calls.{Call, right_call, ruling, input_degrees, defined, degrees_of, degrees_in, Made, evaluated, daily, call_of, result_of, record_after, accepted_in, last_figures, Seen, seen, mark_of, figure_of, raised, raised_in, lowest, highest, is_marked}
 use Rattle.demand_3.proofs.Opened.{opened}
 
@@ -90,10 +90,10 @@ abbrev pub answer : Mark → ℤ → ℕ → ℕ → Answer
 answer m t s f = record { mark = m; thousandths = record { 0 = t }; sum = s; value = of_bits binary64 f }
 
 abbrev pub given : Answer → Answer → Reply
-given a c = record { verdict = Accepted; answers = padded no_answer (a ∷ c ∷ []) }
+given a c = record { verdict = Ok tt; answers = padded no_answer (a ∷ c ∷ []) }
 
 abbrev pub not_given : Refusal → Reply
-not_given r = record { verdict = Refused r; answers = padded no_answer [] }
+not_given r = record { verdict = Err r; answers = padded no_answer [] }
 
 -- of the evaluator, and for daily use, each with the record that it returned or left
 abbrev pub valued : List Reading → ℕ → Reply → ℤ → ℤ → Made

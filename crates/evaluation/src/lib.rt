@@ -8,16 +8,24 @@ ghost use Rattle.model.specs.Evaluation.{evaluate, Tells, fresh, record_in};
 
 use block_evaluation::{evaluate_accepted, refused};
 use held::fresh_record;
-use load::{Examined, examine};
-use model::{Crisp, Evaluation, Fresh, Held, Reading, Refusal, Verdict};
+use load::examine;
+use model::{Crisp, Evaluation, Held, Reading, Refusal};
+
+// The fresh held record of an image.
+// Kept: a verdict beside the record, since a refused one is all zero (document 01).
+#[derive(Clone, Copy)]
+pub struct Fresh {
+    pub verdict: Result<(), Refusal>,
+    pub held: Held,
+}
 
 // Image, eight readings of which the first n are looked at, held record.
 pub fn evaluate(img: &[u8], rs: [Reading; bounds::INPUTS], n: usize, before: Held) -> Evaluation
     ensures { Tells result before (evaluate img.now rs n before) }
 {
     match examine(img) {
-        Examined::Refused => refused(Refusal::ImageNotAccepted, before),
-        Examined::Accepted(a) => evaluate_accepted(img, a, rs, n, before),
+        Ok(image) => evaluate_accepted(&image, &rs, n, before),
+        Err(why) => refused(why, before),
     }
 }
 
@@ -26,18 +34,16 @@ pub fn fresh_of(img: &[u8]) -> Fresh
     ensures { (verdict_of result.verdict ≡ verdict_in (fresh img.now))
         × (result.held ≡ record_in (fresh img.now)) }
 {
-    let Examined::Accepted(a) = examine(img) else {
-        return Fresh {
-            verdict: Verdict::Refused(Refusal::ImageNotAccepted),
+    match examine(img) {
+        Ok(image) => Fresh {
+            verdict: Ok(()),
+            held: fresh_record(&image),
+        },
+        Err(why) => Fresh {
+            verdict: Err(why),
             held: Held {
                 figures: [Crisp(0); bounds::OUTPUTS],
             },
-        };
-    };
-    let h = a.header;
-    let held = fresh_record(img, h);
-    Fresh {
-        verdict: Verdict::Accepted,
-        held: held,
+        },
     }
 }

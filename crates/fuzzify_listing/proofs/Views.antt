@@ -1,5 +1,6 @@
 -- The first points of an array, as a table.
-use mathlib.Core.Path.{◌≡◌, refl, ap, ◌∙◌}
+use mathlib.Core.Path.{◌≡◌, refl, sym, ap, ◌∙◌}
+use lib.Seq.{take_all}
 use mathlib.Core.List.{List, [], ◌∷◌, map}
 use Prim.Native.Nat.{ℕ, zero, suc, ◌+◌, ◌≤◌}
 use native.Mathlib.Omega.{arith}
@@ -31,3 +32,6 @@ view_at ps k = point_view (point_at ps k)
 
 pub views : (ps : List Point) (n : ℕ) → n ≤ length ps → point_views ps n ≡ tab (view_at ps) n 0
 views ps n h = ap (map point_view) (front _ n ps h) ∙ map_tab point_view (point_at ps) n 0
+
+pub views_all : (ps : List Point) → map point_view ps ≡ tab (view_at ps) (length ps) 0
+views_all ps = ap (map point_view) (sym (take_all (length ps) ps (omega arith))) ∙ views ps (length ps) (omega arith)

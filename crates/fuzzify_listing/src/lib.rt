@@ -1,146 +1,123 @@
 // The FUZZIFY parts of an accepted image as a listing prints them. Each text is written from its end to its front.
-#![tactic(auto)]
+#![tactic(auto, using(listing_writer::proofs::Prepends::parts))]
 
 ghost use Rattle.std.specs.Prelude.{◌≡◌, true, map, ◌+◌, ◌≤◌, ◌<◌};
 ghost use Rattle.model.specs.Basic.{all, gather, tab};
 ghost use Rattle.model.specs.Bounds.{point_limit};
-ghost use Rattle.model.specs.Image.{word_at, point_at, term_at, input_at, decode, INPUTS};
+ghost use Rattle.model.specs.Image.{word_at, point_at, term_at, input_at, decode};
 ghost use Rattle.model.specs.Listing.{commaed, point_text, term_line, fuzzify_text};
 ghost use Rattle.model.specs.WellFormed.{term_ok};
 ghost use Rattle.terms.specs.Points.{point_view, point_views};
 ghost use Rattle.layout.specs.Tables.{input_terms_in};
-ghost use Rattle.layout.specs.Checked.{Checked};
-ghost use Rattle.listing_writer.specs.Prepends.{Prepends};
+ghost use Rattle.listing_writer.specs.Prepends.{Writes};
 
-use header::Header;
-use listing_writer::puts;
+use bounds::{LISTING, POINTS};
+use header::{INPUT_FIRST, INPUT_TERMS, Stored, TERM_FIRST, TERM_POINTS};
+use layout::CheckedImage;
+use listing_writer::Listing;
 use model::{Crisp, Degree, Point};
+use name_field::{bytes_at, first_zero};
 use name_listing::name;
 use number_listing::{crisp, unit};
 use stored_points::point_at;
-use words::whole_word;
 
-fn point(out: &mut [u8], k: usize, p: Point) -> usize
-    ensures { Prepends k result (point_text (point_view p)) out.old out.new }
+fn point(out: &mut Listing<LISTING>, p: Point)
+    ensures { Writes (point_text (point_view p)) out.old out.new }
 {
-    let a = puts(out, k, b")");
-    let b = unit(out, a, p.degree);
-    let c = puts(out, b, b", ");
-    let d = crisp(out, c, p.at);
-    puts(out, d, b"(")
+    out.puts(b")");
+    unit(out, p.degree);
+    out.puts(b", ");
+    crisp(out, p.at);
+    out.puts(b"(");
 }
 
-// The first n points.
-fn points(out: &mut [u8], k: usize, ps: [Point; bounds::POINTS], n: usize) -> usize
-    requires { n ≤ point_limit }
-    ensures { Prepends k result (commaed (map point_text (point_views ps n))) out.old out.new }
+#[tactic(auto, using(listing_writer::proofs::Lists::commaed_items))]
+fn points(out: &mut Listing<LISTING>, ps: &[Point])
+    ensures { Writes (commaed (map point_text (map point_view ps.now))) out.old out.new }
 {
-    if n == 0 {
-        return k;
+    for i in (0..ps.len()).rev() {
+        if i + 1 < ps.len() {
+            out.puts(b", ");
+        }
+        point(out, ps[i]);
     }
-    let mut i = n - 1;
-    let mut p = point(out, k, ps[i]);
-    while 0 < i {
-        p = puts(out, p, b", ");
-        i -= 1;
-        p = point(out, p, ps[i]);
-    }
-    p
 }
 
-// A term by its name and its first n points.
-pub fn term_line(
-    out: &mut [u8],
-    k: usize,
-    name: &[u8],
-    ps: [Point; bounds::POINTS],
-    n: usize,
-) -> usize
-    requires { n ≤ point_limit }
-    ensures { Prepends k result (term_line (record { name = name.entry.now; points = point_views ps n }))
-        out.old out.new }
+// A term by its name and its points.
+#[tactic(auto, using(listing_writer::proofs::Prepends::parts), unfolding(model::specs::Listing::term_line))]
+pub fn term_line(out: &mut Listing<LISTING>, name: &[u8], ps: &[Point])
+    ensures { Writes (term_line (record { name = name.now; points = map point_view ps.now })) out.old out.new }
 {
-    let a = puts(out, k, b";\n");
-    let b = points(out, a, ps, n);
-    let c = puts(out, b, b" := ");
-    let d = puts(out, c, name);
-    puts(out, d, b"  TERM ")
+    out.puts(b";\n");
+    points(out, ps);
+    out.puts(b" := ");
+    out.puts(name);
+    out.puts(b"  TERM ");
 }
 
 // The n points from the first on.
-fn term_points(img: &[u8], h: Header, first: usize, n: usize) -> [Point; bounds::POINTS]
-    requires { Checked img.now h × (first + n ≤ h.points) × (n ≤ point_limit) }
-    ensures { point_views result n ≡ tab (point_at (word_at img.now)) n first }
+fn term_points(image: &Stored, first: usize, n: usize) -> [Point; POINTS]
+    requires { (first + n ≤ image.now.header.points.rows) × (n ≤ point_limit) }
+    ensures { point_views result n ≡ tab (point_at (word_at image.now.bytes.now)) n first }
 {
     let mut ps = [Point {
         at: Crisp(0),
         degree: Degree(0),
-    }; bounds::POINTS];
-    let mut k = 0;
-    while k < n {
-        ps[k] = point_at(img, h, first + k);
-        k += 1;
+    }; POINTS];
+    for k in 0..n {
+        ps[k] = point_at(image, first + k);
     }
     ps
 }
 
 // Term t of the image.
-fn input_term(out: &mut [u8], k: usize, img: &[u8], h: Header, t: usize) -> usize
-    requires checked { Checked img.now h × (t < input_terms_in (word_at img.now)) }
-    requires t_value { term_ok (term_at (word_at img.now) t) ≡ true }
-    ensures { Prepends k result (term_line (term_at (word_at img.now) t))
-        out.old out.new }
+fn input_term(out: &mut Listing<LISTING>, image: &CheckedImage, t: usize)
+    requires { (t < image.now.stored.header.terms.rows) × (t < input_terms_in (word_at image.now.stored.bytes.now))
+        × (term_ok (term_at (word_at image.now.stored.bytes.now) t) ≡ true) }
+    ensures { Writes (term_line (term_at (word_at image.now.stored.bytes.now) t)) out.old out.new }
 {
-    let row = header::term_row(h, t);
-    let n = whole_word(img, row + header::TERM_POINTS);
-    let first = whole_word(img, row + header::TERM_FIRST);
-    let ps = term_points(img, h, first, n);
-    let s = name_field::bytes_at(img, row);
-    let e = name_field::first_zero(&s);
-    term_line(out, k, &s[..e], ps, n)
+    let stored = &image.stored;
+    let row = stored.header.terms.row(t);
+    let first = stored.word(row + TERM_FIRST);
+    let n = stored.word(row + TERM_POINTS);
+    let ps = term_points(stored, first, n);
+    let name = bytes_at(stored.bytes, row);
+    term_line(out, &name[..first_zero(&name)], &ps[..n]);
 }
 
 // The n terms from the first on.
-fn input_terms(out: &mut [u8], k: usize, img: &[u8], h: Header, first: usize, n: usize) -> usize
-    requires checked { Checked img.now h × (first + n ≤ input_terms_in (word_at img.now)) }
-    requires first_value { all term_ok (tab (term_at (word_at img.now)) n first) ≡ true }
-    ensures { Prepends k result (gather term_line (tab (term_at (word_at img.now)) n first))
-        out.old out.new }
+#[tactic(auto, using(listing_writer::proofs::Lists::items))]
+fn input_terms(out: &mut Listing<LISTING>, image: &CheckedImage, first: usize, n: usize)
+    requires { (first + n ≤ input_terms_in (word_at image.now.stored.bytes.now))
+        × (all term_ok (tab (term_at (word_at image.now.stored.bytes.now)) n first) ≡ true) }
+    ensures { Writes (gather term_line (tab (term_at (word_at image.now.stored.bytes.now)) n first)) out.old out.new }
 {
-    let mut p = k;
-    let mut i = n;
-    while 0 < i {
-        p = input_term(out, p, img, h, first + (i - 1));
-        i -= 1;
+    for t in (first..first + n).rev() {
+        input_term(out, image, t);
     }
-    p
 }
 
-fn fuzzify_part(out: &mut [u8], k: usize, img: &[u8], h: Header, i: usize) -> usize
-    requires { Checked img.now h × (i < word_at img.now INPUTS) }
-    ensures { Prepends k result (fuzzify_text (input_at (word_at img.now) i))
-        out.old out.new }
+#[tactic(auto, using(listing_writer::proofs::Prepends::parts), unfolding(model::specs::Listing::fuzzify_text, model::specs::Image::input_at))]
+fn fuzzify_part(out: &mut Listing<LISTING>, image: &CheckedImage, i: usize)
+    requires { i < image.now.stored.header.inputs.rows }
+    ensures { Writes (fuzzify_text (input_at (word_at image.now.stored.bytes.now) i)) out.old out.new }
 {
-    let row = header::input_row(h, i);
-    let first = whole_word(img, row + header::INPUT_FIRST);
-    let n = whole_word(img, row + header::INPUT_TERMS);
-    let a = puts(out, k, b"END_FUZZIFY\n");
-    let b = input_terms(out, a, img, h, first, n);
-    let c = puts(out, b, b"\n");
-    let d = name(out, c, img, row);
-    puts(out, d, b"FUZZIFY ")
+    let stored = &image.stored;
+    let row = stored.header.inputs.row(i);
+    let first = stored.word(row + INPUT_FIRST);
+    let n = stored.word(row + INPUT_TERMS);
+    out.puts(b"END_FUZZIFY\n");
+    input_terms(out, image, first, n);
+    out.puts(b"\n");
+    name(out, stored.bytes, row);
+    out.puts(b"FUZZIFY ");
 }
 
-pub fn fuzzify_parts(out: &mut [u8], k: usize, img: &[u8], h: Header) -> usize
-    requires { Checked img.now h }
-    ensures { Prepends k result (gather fuzzify_text (decode (word_at img.now)).inputs)
-        out.old out.new }
+#[tactic(auto, using(listing_writer::proofs::Lists::items), unfolding(model::specs::Image::decode))]
+pub fn fuzzify_parts(out: &mut Listing<LISTING>, image: &CheckedImage)
+    ensures { Writes (gather fuzzify_text (decode (word_at image.now.stored.bytes.now)).inputs) out.old out.new }
 {
-    let mut p = k;
-    let mut i = h.inputs;
-    while 0 < i {
-        p = fuzzify_part(out, p, img, h, i - 1);
-        i -= 1;
+    for i in (0..image.stored.header.inputs.rows).rev() {
+        fuzzify_part(out, image, i);
     }
-    p
 }

@@ -1,5 +1,5 @@
 -- What each part of FUZZIFY comes to, by the tests that the code makes.
-use Rattle.std.specs.Prelude.{if◌then◌else◌}
+use Rattle.std.specs.Prelude.{Option, None, Some, is_some, if◌then◌else◌}
 use mathlib.Core.Path.{◌≡◌, refl, sym, ap, ◌∙◌}
 use mathlib.Core.Bool.{Bool, true, false, not, true≢false}
 use mathlib.Core.List.{List, [], ◌∷◌, ◌++◌, map, map-append}
@@ -43,7 +43,7 @@ use Rattle.term_rules.proofs.Laws.{ends_none, ends_more}
 use Rattle.fuzzify_text.specs.declared.PointRead.{PointRead}
 use Rattle.fuzzify_text.specs.declared.Shape.{Shape}
 use Rattle.fuzzify_text.specs.declared.TermName.{TermName}
-use Rattle.fuzzify_text.specs.Terms.{with_term, position_after, end_after, Place, block_with, view_with, point_of, points_with, positions, ReadsPoint, points_read, no_points, view_at, Room, ReadsShape, term_from, Terms, Names}
+use Rattle.fuzzify_text.specs.Terms.{with_term, position_after, end_after, Place, block_with, view_with, point_of, points_with, and_point, positions, ReadsPoint, points_read, no_points, view_at, Room, ReadsShape, term_from, Terms, Names}
 
 -- A POSITION, THE END OF THE POINTS
 module _ (s : List ℕ) (c d : Cursor) where
@@ -156,27 +156,30 @@ module _ (s : List ℕ) (x : Place) (ps : List block.Point) (c : Cursor) where
   unfolding view_with
   step_with q = q.reads (block_with x ps) 0
 
+clash_some : {A B : Type 0} {x : A} → Some x ≡ None → B
+clash_some e = absurd (true≢false (ap is_some e))
+
 -- A POINT
 module _ (s : List ℕ) (c d : Cursor) (n : ℕ) (last : LastTwo) where
   -- refused
-  refused : {part : ℕ → Part} (w : ℕ) (q : Point) → Step (refuse w) s c d → (d.why ≡ 0 → ⊥)
+  refused : {part : ℕ → Part} (w : ℕ) → Step (refuse w) s c d → (d.refused ≡ None → ⊥)
       → ((x : Place) (ps : List block.Point) → Ends (positions ps) n last → part x.input (view_with s x ps c) ≡ refuse w (view_with s x ps c))
-      → ReadsPoint part n last s c (record { cursor = d; read = false; point = q })
-  refused w q y h e = record {
+      → ReadsPoint part n last s c (record { cursor = d; point = None })
+  refused w y h e = record {
     reads = λ x ps z. step_with s x ps c y ∙ sym (e x ps z);
     fewer = y.fewer;
     fits = y.fits;
     stops = λ z. h;
   }
 
-  pub degree_bad : (q : Point) (v : ℤ) (w : ℕ) → ((b : Block) (m : ℕ) → w ≡ fault (a_unit (seen s c b m))) → (w ≡ 0 → ⊥) → Step (refuse w) s c d
-      → (d.why ≡ 0 → ⊥) → ReadsPoint (λ i. point_degree i v) n last s c (record { cursor = d; read = false; point = q })
+  pub degree_bad : (v : ℤ) (w : ℕ) → ((b : Block) (m : ℕ) → w ≡ fault (a_unit (seen s c b m))) → (w ≡ 0 → ⊥) → Step (refuse w) s c d
+      → (d.refused ≡ None → ⊥) → ReadsPoint (λ i. point_degree i v) n last s c (record { cursor = d; point = None })
   unfolding point_degree view_with
-  degree_bad q v w f h y k =
-      refused w q y k (λ x ps z. judged_bad (view_with s x ps c) _ w (a_unit (view_with s x ps c)) [] (sym (f (block_with x ps) 0)) h)
+  degree_bad v w f h y k =
+      refused w y k (λ x ps z. judged_bad (view_with s x ps c) _ w (a_unit (view_with s x ps c)) [] (sym (f (block_with x ps) 0)) h)
 
   pub degree_good : (q : Point) → ((b : Block) (m : ℕ) → 0 ≡ fault (a_unit (seen s c b m))) → q.degree.0 ≡ unit_of (text_of s c)
-      → c.why ≡ 0 → Step advance s c d → ReadsPoint (λ i. point_degree i q.at.0) n last s c (record { cursor = d; read = true; point = q })
+      → c.refused ≡ None → Step advance s c d → ReadsPoint (λ i. point_degree i q.at.0) n last s c (record { cursor = d; point = Some q })
   unfolding point_degree view_with numbered judged
   degree_good q f e k y = record {
     reads = λ x ps z.
@@ -189,13 +192,13 @@ module _ (s : List ℕ) (c d : Cursor) (n : ℕ) (last : LastTwo) where
         ∙ sym (judged_good (seen s c b 0) _ (a_unit (seen s c b 0)) [] refl (sym (f b 0)));
     fewer = y.fewer;
     fits = y.fits;
-    stops = λ z k. true≢false z;
+    stops = λ z k. clash_some z;
   }
 
-  pub point_none : (q : Point) → (c.kind ≡ OPEN → ⊥) → Step (refuse 2) s c d → (d.why ≡ 0 → ⊥)
-      → ReadsPoint point n last s c (record { cursor = d; read = false; point = q })
+  pub point_none : (c.kind ≡ OPEN → ⊥) → Step (refuse 2) s c d → (d.refused ≡ None → ⊥)
+      → ReadsPoint point n last s c (record { cursor = d; point = None })
   unfolding point judged
-  point_none q h y k = refused 2 q y k (λ x ps z. simp (kind_with, ne_eqb _ _ h))
+  point_none h y k = refused 2 y k (λ x ps z. simp (kind_with, ne_eqb _ _ h))
 
   module _ (h : c.kind ≡ OPEN) where
     point_then : (x : Place) (ps : List block.Point) → length ps ≡ n → point x.input (view_with s x ps c)
@@ -203,9 +206,9 @@ module _ (s : List ℕ) (c d : Cursor) (n : ℕ) (last : LastTwo) where
     unfolding point judged
     point_then x ps e = simp (kind_with, eq-eqb _ _ h, points_with_lem, e)
 
-    pub point_full : (q : Point) → point_limit ≤ n → Step (refuse 6) s c d → (d.why ≡ 0 → ⊥)
-        → ReadsPoint point n last s c (record { cursor = d; read = false; point = q })
-    point_full q l y k = refused 6 q y k (λ x ps z. point_then x ps (as_many ps z) ∙ simp (le-ltb _ _ l))
+    pub point_full : point_limit ≤ n → Step (refuse 6) s c d → (d.refused ≡ None → ⊥)
+        → ReadsPoint point n last s c (record { cursor = d; point = None })
+    point_full l y k = refused 6 y k (λ x ps z. point_then x ps (as_many ps z) ∙ simp (le-ltb _ _ l))
 
     pub point_good : (r : PointRead) → n < point_limit → Step advance s c d → ReadsPoint point_body n last s d r → ReadsPoint point n last s c r
     point_good r l y z = record {
@@ -222,7 +225,7 @@ module _ (s : List ℕ) (c d : Cursor) (n : ℕ) (last : LastTwo) where
       ap (λ (b : Bool). judged (a_crisp (view_with s x ps c) ((b, 7) ∷ [])) (view_with s x ps c) (advance (view_with s x ps c)))
       (ap (λ (l : List block.Point). may_follow (map (λ q. q.at) l) (value_here (view_with s x ps c))) (points_with_lem s x ps c) ∙ z.may _)
 
-  lost_from : Fits s d → (d.why ≡ 0 → ⊥) → (v : ℤ) (x : Place) (ps : List block.Point)
+  lost_from : Fits s d → (d.refused ≡ None → ⊥) → (v : ℤ) (x : Place) (ps : List block.Point)
       → view_with s x ps d ≡ expect CLOSE (point_degree x.input v (expect COMMA (view_with s x ps d)))
   unfolding point_degree view_with
   lost_from f h v x ps =
@@ -242,8 +245,8 @@ module _ (s : List ℕ) (c d : Cursor) (n : ℕ) (last : LastTwo) where
         ∙ ap (λ (a : ℤ). expect CLOSE (point_degree x.input a (expect COMMA (point_position x.input (view_with s x ps c)))))
         (o ∙ sym (ap value_of (text_with s x ps c)))
 
-    pub from_lost : (q : Point) → (d.why ≡ 0 → ⊥) → ReadsPoint point_body n last s c (record { cursor = d; read = false; point = q })
-    from_lost q h = record {
+    pub from_lost : (d.refused ≡ None → ⊥) → ReadsPoint point_body n last s c (record { cursor = d; point = None })
+    from_lost h = record {
       reads = λ x ps z. lost_from y.fits h _ x ps ∙ body_then (value_of (text_of s c)) refl x ps z;
       fewer = y.fewer;
       fits = y.fits;
@@ -252,7 +255,7 @@ module _ (s : List ℕ) (c d : Cursor) (n : ℕ) (last : LastTwo) where
 
     pub from_good : (e : Cursor) (r : PointRead) (f : Cursor) (v : ℤ) → v ≡ value_of (text_of s c) → Step (expect COMMA) s d e
         → ReadsPoint (λ i. point_degree i v) n last s e r → Step (expect CLOSE) s r.cursor f
-        → ReadsPoint point_body n last s c (record { cursor = f; read = r.read; point = r.point })
+        → ReadsPoint point_body n last s c (record { cursor = f; point = r.point })
     from_good e r f v o k w l = record {
       reads = λ x ps z.
           step_with s x (points_with ps r) r.cursor l
@@ -328,34 +331,34 @@ module _ (s : List ℕ) where
       room = o;
     }
 
-    pub stops : a.read ≡ false → ReadsShape (λ i. listed (point i)) s p₀ (moved a.cursor p)
+    pub stops : a.point ≡ None → ReadsShape (λ i. listed (point i)) s p₀ (moved a.cursor p)
     unfolding points_read
     stops h =
         ends_with (moved a.cursor p) (record { fits = y.fits; few = g.0.few; size = g.0.size }) y.fewer
-        (λ x. ap (λ (t : Bool). view_with s x (if t then points_read p ++ (point_of a.point ∷ []) else points_read p) a.cursor) (sym h) ∙ read_with x)
+        (λ x. ap (λ (t : Option Point). view_with s x (and_point (points_read p) t) a.cursor) (sym h) ∙ read_with x)
         (λ z. omega (arith, cursor.lost_kind s a.cursor y.fits (y.stops h)))
 
-    module _ (h : a.read ≡ true) (l : p.count < point_limit) where
-      more_read : (x : Place) → view_at s x (longer p a.cursor a.point) ≡ point x.input (view_at s x p)
+    module _ (pt : Point) (h : a.point ≡ Some pt) (l : p.count < point_limit) where
+      more_read : (x : Place) → view_at s x (longer p a.cursor pt) ≡ point x.input (view_at s x p)
       more_read x =
-          ap (λ (ps : List block.Point). view_with s x ps a.cursor) (read_more p a.cursor a.point (omega (arith, g.0.size)))
-          ∙ ap (λ (t : Bool). view_with s x (if t then points_read p ++ (point_of a.point ∷ []) else points_read p) a.cursor) (sym h) ∙ read_with x
+          ap (λ (ps : List block.Point). view_with s x ps a.cursor) (read_more p a.cursor pt (omega (arith, g.0.size)))
+          ∙ ap (λ (t : Option Point). view_with s x (and_point (points_read p) t) a.cursor) (sym h) ∙ read_with x
 
-      more_room : Room s (longer p a.cursor a.point)
+      more_room : Room s (longer p a.cursor pt)
       more_room = record { fits = y.fits; few = omega arith; size = simp length-set g.0.size }
 
-      pub leaves : (a.cursor.kind ≡ COMMA → ⊥) → ReadsShape (λ i. listed (point i)) s p₀ (longer p a.cursor a.point)
-      leaves k = ends_with (longer p a.cursor a.point) more_room y.fewer more_read k
+      pub leaves : (a.cursor.kind ≡ COMMA → ⊥) → ReadsShape (λ i. listed (point i)) s p₀ (longer p a.cursor pt)
+      leaves k = ends_with (longer p a.cursor pt) more_room y.fewer more_read k
 
       pub goes : (d : Cursor) → a.cursor.kind ≡ COMMA → Step advance s a.cursor d → left s d < left s a.cursor
-          → Going p₀ (longer p d a.point) (last_with last a.point.at.0)
+          → Going p₀ (longer p d pt) (last_with last pt.at.0)
       unfolding expect points_read
       goes d k q m = (
         record { fits = q.fits; few = omega arith; size = simp length-set g.0.size },
-        still_ends p d a.point (omega (arith, g.0.size)) last g.1,
+        still_ends p d pt (omega (arith, g.0.size)) last g.1,
         omega (arith, y.fewer, g.2),
         λ r x e n.
-            let u = longer p a.cursor a.point in
+            let u = longer p a.cursor pt in
             let v = view_at s x u in
             again_more (repeats COMMA (again x.input))
             (λ f. turn COMMA (again x.input) f v (eq-eqb _ _ (kind_with s x (points_read u) a.cursor ∙ k))
@@ -372,7 +375,7 @@ points_end s p x = simp (points_with_lem, points_count)
 
 -- refused at its name
 pub term_lost : (s : List ℕ) (i : ℕ) (b : Block) (c d e : Cursor) → input_term i (seen s c b 0) ≡ term_from i (term_name i (seen s d b 0))
-    → seen s e b 0 ≡ term_name i (seen s d b 0) → Fits s e → (e.why ≡ 0 → ⊥) → seen s e b 0 ≡ input_term i (seen s c b 0)
+    → seen s e b 0 ≡ term_name i (seen s d b 0) → Fits s e → (e.refused ≡ None → ⊥) → seen s e b 0 ≡ input_term i (seen s c b 0)
 unfolding end_of_points listed point
 term_lost s i b c d e p q f w =
     sym (p ∙ ap (term_from i) (sym q)
@@ -413,7 +416,7 @@ module _ (s names : List ℕ) (i n : ℕ) (b : Block) (t : Terms s names i n b) 
     pub name_taken : j < n → Step (refuse 4) s c d → seen s d b 0 ≡ term_name i (seen s c b 0)
     name_taken h q = q.reads b 0 ∙ sym (name_then ∙ simp (lt-ltb _ _ h))
 
-    pub name_good : n ≤ j → c.why ≡ 0 → Step advance s c d
+    pub name_good : n ≤ j → c.refused ≡ None → Step advance s c d
         → seen s d (with_term i (record { name = text_of s c; points = [] }) b) 0 ≡ term_name i (seen s c b 0)
     unfolding add_term with_term
     name_good h k q =
@@ -430,12 +433,12 @@ module _ (s : List ℕ) (t : Tables) (i : ℕ) where
   }
 
   module _ (c : Cursor) (a : TermName) (k : Names s i (block_view s t) c a) where
-    pub turn_lost : Holds s t → Fits s a.cursor → left s a.cursor < left s c → (a.cursor.why ≡ 0 → ⊥)
+    pub turn_lost : Holds s t → Fits s a.cursor → left s a.cursor < left s c → (a.cursor.refused ≡ None → ⊥)
         → Reads (input_term i) s (at c t) (at a.cursor t)
     unfolding view
     turn_lost h f m w = record { reads = k.lost w; fewer = omega arith; good = record { fits = f; holds = h } }
 
-    pub turn_good : (q : Shape) (u : Tables) → Holds s t → i < t.input_count → a.cursor.why ≡ 0 → left s a.cursor < left s c
+    pub turn_good : (q : Shape) (u : Tables) → Holds s t → i < t.input_count → a.cursor.refused ≡ None → left s a.cursor < left s c
         → ReadsShape term_from s (no_points a.cursor) q
         → Changes s t u (with_term i (record { name = slice a.start a.end s; points = tab (point_at q.points) q.count 0 }))
         → Reads (input_term i) s (at c t) (at q.cursor u)
@@ -448,7 +451,7 @@ module _ (s : List ℕ) (t : Tables) (i : ℕ) where
           good = record { fits = y.room.fits; holds = z.holds };
         }
 
-pub terms_none : (s : List ℕ) (c : Cursor) (t : Tables) (d : Cursor) (i : ℕ) → Holds s t → (c.kind ≡ TERM → ⊥) → (d.why ≡ 0 → ⊥)
+pub terms_none : (s : List ℕ) (c : Cursor) (t : Tables) (d : Cursor) (i : ℕ) → Holds s t → (c.kind ≡ TERM → ⊥) → (d.refused ≡ None → ⊥)
     → Step (refuse 2) s c d → Reads (λ r. repeated TERM (input_term i) (input_term i r)) s (at c t) (at d t)
 unfolding input_term judged view
 terms_none s c t d i g h w q =

@@ -1,7 +1,7 @@
 -- A helper: the points of a term as they are read, and what they are checked for in numbers. A reading stands for any
 -- block with these points in the last term of an input; `ReadsShape` ties it to a `Part` of the model, and `position_is` and
 -- `points_end` of proofs/Laws tie the checks to the model's `point_position` and `end_of_points`.
-use Rattle.std.specs.Prelude.{◌≡◌, false, List, [], ◌∷◌, ◌++◌, map, ℕ, ◌+◌, ◌*◌, ◌≤◌, ◌<◌, leb, ℤ, length, replicate, if◌then◌else◌}
+use Rattle.std.specs.Prelude.{MatchOption, Option, None, Some, ◌≡◌, List, [], ◌∷◌, ◌++◌, map, ℕ, ◌+◌, ◌*◌, ◌≤◌, ◌<◌, leb, ℤ, length, replicate}
 use Rattle.std.proofs.Math.Seq.{slice}
 use Rattle.model.specs.Basic.{index_of, update, tab}
 use Rattle.model.specs.Block as block
@@ -77,8 +77,12 @@ abbrev pub point_of : Point → block.Point
 point_of q = record { at = q.at.0; degree = q.degree.0 }
 
 -- with one that is read, or not
+abbrev pub and_point : List block.Point → Option Point → List block.Point
+and_point ps None = ps
+and_point ps (Some q) = ps ++ (point_of q ∷ [])
+
 abbrev pub points_with : List block.Point → PointRead → List block.Point
-points_with ps r = if r.read then ps ++ (point_of r.point ∷ []) else ps
+points_with ps r = and_point ps r.point
 
 abbrev pub positions : List block.Point → List ℤ
 positions ps = map (λ q. q.at) ps
@@ -88,7 +92,7 @@ pub record ReadsPoint (part : ℕ → Part) (n : ℕ) (last : LastTwo) (s : List
       → view_with s x (points_with ps r) r.cursor ≡ part x.input (view_with s x ps c)
   pub fewer : left s r.cursor ≤ left s c
   pub fits : Fits s r.cursor
-  pub stops : r.read ≡ false → r.cursor.why ≡ 0 → ⊥
+  pub stops : r.point ≡ None → r.cursor.refused ≡ None → ⊥
 
 unfoldable pub points_read : Shape → List block.Point
 points_read p = tab (point_at p.points) p.count 0
@@ -123,31 +127,37 @@ pub record Terms (s names : List ℕ) (i n : ℕ) (b : Block) : Type 0 where
 
 -- a term of input i is read up to its points, or refused
 pub record Names (s : List ℕ) (i : ℕ) (b : Block) (c : Cursor) (r : TermName) : Type 0 where
-  pub named : r.cursor.why ≡ 0 → input_term i (seen s c b 0)
+  pub named : r.cursor.refused ≡ None → input_term i (seen s c b 0)
       ≡ term_from i (seen s r.cursor (with_term i (record { name = slice r.start r.end s; points = [] }) b) 0)
-  pub lost : (r.cursor.why ≡ 0 → ⊥) → seen s r.cursor b 0 ≡ input_term i (seen s c b 0)
+  pub lost : (r.cursor.refused ≡ None → ⊥) → seen s r.cursor b 0 ≡ input_term i (seen s c b 0)
 
 pub record Named (s : List ℕ) (n : ℕ) (c : Cursor) (r : TermName) : Type 0 where
   pub fewer : left s r.cursor < left s c
   pub fits : Fits s r.cursor
   pub order : r.start ≤ r.end
   pub inside : r.end ≤ length s
-  pub room : r.cursor.why ≡ 0 → n < term_limit
+  pub room : r.cursor.refused ≡ None → n < term_limit
 
 -- A PART
 -- n inputs with these rows and terms
 abbrev pub inputs_of : Cursor → ℕ → List Input → List Term → Inputs
 inputs_of c n rows ts = record { cursor = c; count = n; rows = rows; terms = ts }
 
--- a part is read up to the terms of an input, whatever those of the others, or refused
-pub record Finds (s names : List ℕ) (n : ℕ) (rows : List Input) (c : Cursor) (r : Found) : Type 0 where
-  pub found : r.cursor.why ≡ 0 → (ts : List Term) (t : Tables) → Good s (inputs_in names (inputs_of c n rows ts) t) → (p : ParseState) (e : Cursor)
-      → Reads (λ q. repeated TERM (input_term r.input) (input_term r.input q)) s (inputs_in names (inputs_of r.cursor n rows ts) t) p
+-- a part is read up to the terms of input i, whatever those of the others, from c to d
+pub record FindsOne (s names : List ℕ) (n : ℕ) (rows : List Input) (c d : Cursor) (i : ℕ) : Type 0 where
+  pub reads : (ts : List Term) (t : Tables) → Good s (inputs_in names (inputs_of c n rows ts) t) → (p : ParseState) (e : Cursor)
+      → Reads (λ q. repeated TERM (input_term i) (input_term i q)) s (inputs_in names (inputs_of d n rows ts) t) p
       → Step (expect END_FUZZIFY) s p.cursor e
       → Reads fuzzify s (inputs_in names (inputs_of c n rows ts) t) (record { cursor = e; tables = p.tables })
-  pub lost : (r.cursor.why ≡ 0 → ⊥) → (ts : List Term)
-      → Collects fuzzify s (inputs_in names (inputs_of c n rows ts)) (inputs_in names (inputs_of r.cursor n rows ts))
-  pub known : r.cursor.why ≡ 0 → r.input < n
-  pub fewer : r.cursor.why ≡ 0 → left s r.cursor < left s c
+  pub known : i < n
+  pub fewer : left s d < left s c
+
+-- no input is found, and reading is refused
+pub record FindsNone (s names : List ℕ) (n : ℕ) (rows : List Input) (c d : Cursor) : Type 0 where
+  pub reads : (ts : List Term) → Collects fuzzify s (inputs_in names (inputs_of c n rows ts)) (inputs_in names (inputs_of d n rows ts))
+  pub stops : d.refused ≡ None → ⊥
+
+pub record Finds (s names : List ℕ) (n : ℕ) (rows : List Input) (c : Cursor) (r : Found) : Type 0 where
+  pub input : MatchOption r.input (FindsNone s names n rows c r.cursor) (FindsOne s names n rows c r.cursor)
   pub moves : Moves s c r.cursor
   pub fits : Fits s r.cursor

@@ -2,7 +2,7 @@
 // the same.
 #![tactic(auto)]
 
-ghost use Rattle.std.specs.Prelude.{◌≡◌, true, ℕ, ◌+◌, ◌*◌, ◌≤◌, ◌<◌, length};
+ghost use Rattle.std.specs.Prelude.{None, MatchOption, IfSome, ◌≡◌, true, ℕ, ◌+◌, ◌*◌, ◌≤◌, ◌<◌, length};
 ghost use Rattle.model.specs.Bounds.{input_limit, term_limit, point_limit, input_term_limit};
 ghost use Rattle.model.specs.Tokens.{value_of};
 ghost use Rattle.model.specs.Keywords.{TERM, FUZZIFY};
@@ -18,21 +18,21 @@ use block_tables::{Input, Term};
 use cursor::Cursor;
 use lookup::Names;
 use model::{Crisp, Degree, Point};
+use refusals::Fault;
 use term_rules::LastTwo;
 
 // The cursor behind a position, and its value where it is not refused.
 #[derive(Clone, Copy)]
 struct At {
     cursor: Cursor,
-    value: Crisp,
+    value: Option<Crisp>,
 }
 
 // The cursor behind a point, and the point, where it is read as far as its degree.
 #[derive(Clone, Copy)]
 struct PointRead {
     cursor: Cursor,
-    read: bool,
-    point: Point,
+    point: Option<Point>,
 }
 
 // The points of a term so far.
@@ -60,39 +60,32 @@ struct TermName {
     end: usize,
 }
 
-// The cursor behind the name of an input, and which one it is.
+// The cursor behind the name of an input, and which one it is, if any.
 #[derive(Clone, Copy)]
 struct Found {
     cursor: Cursor,
-    input: usize,
+    input: Option<usize>,
 }
 
 // A position after n others, the last two of them given.
 fn position(s: &[u8], c: Cursor, n: usize, last: LastTwo) -> At
     requires { Fits s.now c }
     ensures step { Step (position_after n last) s.now c result.cursor }
-    ensures value { result.cursor.why ≡ 0 → result.value.0 ≡ value_of (text_of s.now c) }
+    ensures value { MatchOption result.value (result.cursor.refused ≡ None → ⊥) (λ x. x.0 ≡ value_of (text_of s.now c)) }
 {
-    let w = number_tokens::crisp_here(s, c);
-    let x = w.value;
-    if w.fault != 0 {
-        let d = cursor::refuse(c, w.fault);
-        return At {
-            cursor: d,
-            value: x,
-        };
-    }
-    if term_rules::may_stand(n, last, x) {
-        let d = cursor::advance(s, c);
-        return At {
-            cursor: d,
-            value: x,
-        };
-    }
-    let d = cursor::refuse(c, 7);
-    At {
-        cursor: d,
-        value: x,
+    match number_tokens::crisp_here(s, c) {
+        Err(fault) => At {
+            cursor: cursor::refuse(c, fault),
+            value: None,
+        },
+        Ok(value) if term_rules::may_stand(n, last, value) => At {
+            cursor: cursor::advance(s, c),
+            value: Some(value),
+        },
+        Ok(_) => At {
+            cursor: cursor::refuse(c, Fault::WrongPosition),
+            value: None,
+        },
     }
 }
 
@@ -101,22 +94,15 @@ fn degree(s: &[u8], c: Cursor, x: Crisp) -> PointRead
     requires { Fits s.now c }
     ensures { (n : ℕ) (last : LastTwo) → ReadsPoint (λ i. aDegree i x.0) n last s.now c result }
 {
-    let w = number_tokens::unit_here(s, c);
-    let y = w.value;
-    let q = Point { at: x, degree: y };
-    if w.fault != 0 {
-        let d = cursor::refuse(c, w.fault);
-        return PointRead {
-            cursor: d,
-            read: false,
-            point: q,
-        };
-    }
-    let d = cursor::advance(s, c);
-    PointRead {
-        cursor: d,
-        read: true,
-        point: q,
+    match number_tokens::unit_here(s, c) {
+        Err(fault) => PointRead {
+            cursor: cursor::refuse(c, fault),
+            point: None,
+        },
+        Ok(degree) => PointRead {
+            cursor: cursor::advance(s, c),
+            point: Some(Point { at: x, degree }),
+        },
     }
 }
 
@@ -126,24 +112,15 @@ fn point_from(s: &[u8], c: Cursor, n: usize, last: LastTwo) -> PointRead
     ensures { ReadsPoint point_body n last s.now c result }
 {
     let a = position(s, c, n, last);
-    let d = a.cursor;
-    let x = a.value;
-    if d.why != 0 {
-        let z = Point {
-            at: x,
-            degree: Degree(0),
-        };
+    let Some(x) = a.value else {
         return PointRead {
-            cursor: d,
-            read: false,
-            point: z,
+            cursor: a.cursor,
+            point: None,
         };
-    }
-    let e = cursor::expect(s, d, token_kinds::COMMA);
+    };
+    let e = cursor::expect(s, a.cursor, token_kinds::COMMA);
     let mut r = degree(s, e, x);
-    let f = r.cursor;
-    let g = cursor::expect(s, f, token_kinds::CLOSE);
-    r.cursor = g;
+    r.cursor = cursor::expect(s, r.cursor, token_kinds::CLOSE);
     r
 }
 
@@ -151,26 +128,18 @@ fn point_from(s: &[u8], c: Cursor, n: usize, last: LastTwo) -> PointRead
 fn point(s: &[u8], c: Cursor, n: usize, last: LastTwo) -> PointRead
     requires { Fits s.now c }
     ensures reads_point { ReadsPoint aPoint n last s.now c result }
-    ensures few { result.read ≡ true → n < point_limit }
+    ensures few { IfSome result.point (λ q. n < point_limit) }
 {
-    let z = Point {
-        at: Crisp(0),
-        degree: Degree(0),
-    };
     if c.kind != token_kinds::OPEN {
-        let d = cursor::refuse(c, 2);
         return PointRead {
-            cursor: d,
-            read: false,
-            point: z,
+            cursor: cursor::refuse(c, Fault::WrongToken),
+            point: None,
         };
     }
     if bounds::POINTS <= n {
-        let d = cursor::refuse(c, 6);
         return PointRead {
-            cursor: d,
-            read: false,
-            point: z,
+            cursor: cursor::refuse(c, Fault::TooMany),
+            point: None,
         };
     }
     let d = cursor::advance(s, c);
@@ -182,45 +151,39 @@ fn points(s: &[u8], c: Cursor) -> Shape
     requires { Fits s.now c }
     ensures { ReadsShape (λ i. listed (aPoint i)) s.now (no_points c) result }
 {
-    let none = Crisp(0);
     let mut last = LastTwo {
-        earlier: none,
-        later: none,
+        earlier: Crisp(0),
+        later: Crisp(0),
     };
-    let z = Point {
-        at: none,
+    let mut points = [Point {
+        at: Crisp(0),
         degree: Degree(0),
-    };
-    let mut ps = [z; bounds::POINTS];
+    }; bounds::POINTS];
     let mut n: usize = 0;
     let mut d = c;
     loop {
         let a = point(s, d, n, last);
-        let e = a.cursor;
-        if !a.read {
+        let Some(q) = a.point else {
             return Shape {
-                cursor: e,
+                cursor: a.cursor,
                 count: n,
-                points: ps,
+                points,
             };
-        }
-        let q = a.point;
-        ps[n] = q;
-        n += 1;
-        if e.kind != token_kinds::COMMA {
-            return Shape {
-                cursor: e,
-                count: n,
-                points: ps,
-            };
-        }
-        let earlier = last.later;
-        let at = q.at;
-        last = LastTwo {
-            earlier: earlier,
-            later: at,
         };
-        d = cursor::advance(s, e);
+        points[n] = q;
+        n += 1;
+        if a.cursor.kind != token_kinds::COMMA {
+            return Shape {
+                cursor: a.cursor,
+                count: n,
+                points,
+            };
+        }
+        last = LastTwo {
+            earlier: last.later,
+            later: q.at,
+        };
+        d = cursor::advance(s, a.cursor);
     }
 }
 
@@ -230,10 +193,10 @@ fn end_of_points(s: &[u8], c: Cursor, n: usize) -> Cursor
     ensures { Step (end_after n) s.now c result }
 {
     if c.kind != token_kinds::SEMICOLON {
-        return cursor::refuse(c, 2);
+        return cursor::refuse(c, Fault::WrongToken);
     }
     if n < bounds::LEAST_POINTS {
-        return cursor::refuse(c, 7);
+        return cursor::refuse(c, Fault::WrongPosition);
     }
     cursor::advance(s, c)
 }
@@ -243,11 +206,8 @@ fn term_points(s: &[u8], c: Cursor) -> Shape
     requires { Fits s.now c }
     ensures { ReadsShape term_from s.now (no_points c) result }
 {
-    let d = cursor::expect(s, c, token_kinds::ASSIGN);
-    let mut r = points(s, d);
-    let e = r.cursor;
-    let f = end_of_points(s, e, r.count);
-    r.cursor = f;
+    let mut r = points(s, cursor::expect(s, c, token_kinds::ASSIGN));
+    r.cursor = end_of_points(s, r.cursor, r.count);
     r
 }
 
@@ -259,19 +219,16 @@ fn term_name(s: &[u8], names: &Names, c: Cursor, i: usize, n: usize) -> TermName
     ensures named { Named s.now n c result }
 {
     if bounds::TERMS <= n {
-        let d = cursor::refuse(c, 6);
         return TermName {
-            cursor: d,
+            cursor: cursor::refuse(c, Fault::TooMany),
             start: 0,
             end: 0,
         };
     }
     let d = cursor::advance(s, c);
-    let w = cursor::name_fault(d);
-    if w != 0 {
-        let e = cursor::refuse(d, w);
+    if let Err(fault) = cursor::name_fault(d) {
         return TermName {
-            cursor: e,
+            cursor: cursor::refuse(d, fault),
             start: 0,
             end: 0,
         };
@@ -283,18 +240,17 @@ fn term_name(s: &[u8], names: &Names, c: Cursor, i: usize, n: usize) -> TermName
         n,
         d.start,
         d.end,
-    ) < n
+    )
+    .is_some()
     {
-        let e = cursor::refuse(d, 4);
         return TermName {
-            cursor: e,
+            cursor: cursor::refuse(d, Fault::WrongName),
             start: 0,
             end: 0,
         };
     }
-    let e = cursor::advance(s, d);
     TermName {
-        cursor: e,
+        cursor: cursor::advance(s, d),
         start: d.start,
         end: d.end,
     }
@@ -319,33 +275,28 @@ fn input_terms(s: &[u8], names: &mut Names, p: Inputs, i: usize) -> Inputs
     let mut c = p.cursor;
     let mut r = p;
     if c.kind != token_kinds::TERM {
-        let d = cursor::refuse(c, 2);
-        r.cursor = d;
+        r.cursor = cursor::refuse(c, Fault::WrongToken);
         return r;
     }
     while c.kind == token_kinds::TERM {
-        let mut v = r.rows[i];
-        let n = v.terms;
+        let n = r.rows[i].terms;
         let a = term_name(s, names, c, i, n);
-        let d = a.cursor;
-        if d.why != 0 {
-            r.cursor = d;
+        if a.cursor.refused.is_some() {
+            r.cursor = a.cursor;
             return r;
         }
-        let q = term_points(s, d);
-        let ps = q.points;
+        let q = term_points(s, a.cursor);
+        let points = q.points;
         let k = term_place(i, n);
         names[lookup::FIRST_TERM + k] = a.start;
         names[lookup::ENDS + (lookup::FIRST_TERM + k)] = a.end;
-        v.terms = n + 1;
-        r.rows[i] = v;
-        let t = Term {
+        r.rows[i].terms = n + 1;
+        r.terms[k] = Term {
             start: a.start,
             end: a.end,
             count: q.count,
-            points: ps,
+            points,
         };
-        r.terms[k] = t;
         c = q.cursor;
     }
     r.cursor = c;
@@ -358,34 +309,27 @@ fn input_named(s: &[u8], names: &Names, c: Cursor, n: usize, rows: [Input; bound
     ensures { Finds s.now names.now n rows c result }
 {
     let d = cursor::expect(s, c, token_kinds::FUZZIFY);
-    let w = cursor::name_fault(d);
-    if w != 0 {
-        let e = cursor::refuse(d, w);
+    if let Err(fault) = cursor::name_fault(d) {
         return Found {
-            cursor: e,
-            input: 0,
+            cursor: cursor::refuse(d, fault),
+            input: None,
         };
     }
-    let i = lookup::find(s, names, 0, n, d.start, d.end);
-    if n <= i {
-        let e = cursor::refuse(d, 5);
+    let Some(i) = lookup::find(s, names, 0, n, d.start, d.end) else {
         return Found {
-            cursor: e,
-            input: 0,
+            cursor: cursor::refuse(d, Fault::NotDeclared),
+            input: None,
+        };
+    };
+    if rows[i].terms != 0 {
+        return Found {
+            cursor: cursor::refuse(d, Fault::WrongName),
+            input: None,
         };
     }
-    let v = rows[i];
-    if v.terms != 0 {
-        let e = cursor::refuse(d, 4);
-        return Found {
-            cursor: e,
-            input: 0,
-        };
-    }
-    let e = cursor::advance(s, d);
     Found {
-        cursor: e,
-        input: i,
+        cursor: cursor::advance(s, d),
+        input: Some(i),
     }
 }
 
@@ -398,19 +342,14 @@ pub fn parts(s: &[u8], names: &mut Names, p: Inputs) -> Inputs
 {
     let mut q = p;
     loop {
-        let c = q.cursor;
-        let rows = q.rows;
-        let a = input_named(s, names, c, q.count, rows);
-        let d = a.cursor;
-        q.cursor = d;
-        if d.why != 0 {
+        let a = input_named(s, names, q.cursor, q.count, q.rows);
+        q.cursor = a.cursor;
+        let Some(i) = a.input else {
             return q;
-        }
-        q = input_terms(s, names, q, a.input);
-        let e = q.cursor;
-        let f = cursor::expect(s, e, token_kinds::END_FUZZIFY);
-        q.cursor = f;
-        if f.kind != token_kinds::FUZZIFY {
+        };
+        q = input_terms(s, names, q, i);
+        q.cursor = cursor::expect(s, q.cursor, token_kinds::END_FUZZIFY);
+        if q.cursor.kind != token_kinds::FUZZIFY {
             return q;
         }
     }

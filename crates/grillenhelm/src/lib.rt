@@ -32,10 +32,10 @@ pub fn grillenhelm_read(text: &[u8], image: &mut [u8]) -> GrillenhelmOutcome
 
 // `chunk_store::append`.
 pub fn grillenhelm_append(chunk: &[u8], store: &mut [u8], count: &mut usize) -> GrillenhelmOutcome
-    ensures value { result ≡ bare_outcome (answer_in (record { store = store.entry.now; count = count.old })
+    ensures value { result ≡ bare_outcome (answer_in (record { store = store.old; count = count.old })
         (aChunk chunk.now)) }
-    ensures state { record { store = store.exit.now; count = count.new }
-        ≡ state_after (record { store = store.entry.now; count = count.old })
+    ensures state { record { store = store.new; count = count.new }
+        ≡ state_after (record { store = store.old; count = count.old })
         (aChunk chunk.now) }
 {
     let v = chunk_store::append(chunk, store, count);
@@ -45,11 +45,11 @@ pub fn grillenhelm_append(chunk: &[u8], store: &mut [u8], count: &mut usize) -> 
 // `chunked_text::finish`.
 pub fn grillenhelm_finish(store: &[u8], count: &mut usize, image: &mut [u8]) -> GrillenhelmOutcome
     ensures value { result ≡ outcome_of length (answer_in
-        (record { store = store.entry.now; count = count.old }) (theEnd image.old)) }
+        (record { store = store.now; count = count.old }) (theEnd image.old)) }
     ensures buffer { image.new ≡ buffer_after image.old (answer_in
-        (record { store = store.entry.now; count = count.old }) (theEnd image.old)) }
-    ensures state { record { store = store.entry.now; count = count.new }
-        ≡ state_after (record { store = store.entry.now; count = count.old })
+        (record { store = store.now; count = count.old }) (theEnd image.old)) }
+    ensures state { record { store = store.now; count = count.new }
+        ≡ state_after (record { store = store.now; count = count.old })
         (theEnd image.old) }
 {
     let w = chunked_text::finish(store, count, image);

@@ -32,10 +32,10 @@ pub extern "C" fn grillenhelm_append(
     store: &mut [u8],
     count: &mut usize,
 ) -> GrillenhelmOutcome
-    ensures value { result ≡ bare_outcome (answer_in (record { store = store.entry.now; count = count.old })
+    ensures value { result ≡ bare_outcome (answer_in (record { store = store.old; count = count.old })
         (aChunk chunk.now)) }
-    ensures state { record { store = store.exit.now; count = count.new }
-        ≡ state_after (record { store = store.entry.now; count = count.old })
+    ensures state { record { store = store.new; count = count.new }
+        ≡ state_after (record { store = store.old; count = count.old })
         (aChunk chunk.now) }
 {
     grillenhelm::grillenhelm_append(chunk, store, count)
@@ -48,11 +48,11 @@ pub extern "C" fn grillenhelm_finish(
     image: &mut [u8],
 ) -> GrillenhelmOutcome
     ensures value { result ≡ outcome_of length (answer_in
-        (record { store = store.entry.now; count = count.old }) (theEnd image.old)) }
+        (record { store = store.now; count = count.old }) (theEnd image.old)) }
     ensures buffer { image.new ≡ buffer_after image.old (answer_in
-        (record { store = store.entry.now; count = count.old }) (theEnd image.old)) }
-    ensures state { record { store = store.entry.now; count = count.new }
-        ≡ state_after (record { store = store.entry.now; count = count.old })
+        (record { store = store.now; count = count.old }) (theEnd image.old)) }
+    ensures state { record { store = store.now; count = count.new }
+        ≡ state_after (record { store = store.now; count = count.old })
         (theEnd image.old) }
 {
     grillenhelm::grillenhelm_finish(store, count, image)

@@ -1,29 +1,40 @@
 // The header of a stored image, read once, and the rows of its tables by name.
 #![tactic(auto)]
 
-ghost use Rattle.std.specs.Prelude.{◌≡◌, ℕ, ◌*◌, ◌≤◌, length};
-ghost use Rattle.model.specs.Image.{header_size, word_at, layout_word, input_place, output_place, term_place, point_place, rule_place, conclusion_place};
-ghost use Rattle.header.specs.Header.{Heads};
+ghost use Rattle.std.specs.Prelude.{◌≡◌, ◌+◌, ◌*◌, ◌≤◌, ◌<◌, length};
+ghost use Rattle.model.specs.Image.{header_size, word_at, layout_word, crisp_of, pair_of, accu_of, act_of, PAIR_WORD, ACCU_WORD, ACT_WORD};
+ghost use Rattle.header.specs.Header.{Heads, IsTable, Covers};
 
-use words::whole_word;
+use model::{Accumulation, Activation, Crisp, Pair};
+use words::{whole_crisp, whole_word};
 
-// How many rows each table has, and where it starts, in words.
+// A table of a stored image: how many rows of WIDTH words it has, and where it starts, in words.
+#[derive(Clone, Copy)]
+pub struct Table<const WIDTH: usize> {
+    pub rows: usize,
+    pub start: usize,
+}
+
+impl<const WIDTH: usize> Table<WIDTH> {
+    // Where row i starts.
+    pub fn row(&self, i: usize) -> usize
+        requires { self.now.start + i * WIDTH < 18446744073709551616 }
+        ensures { result ≡ self.now.start + i * WIDTH }
+    {
+        self.start + i * WIDTH
+    }
+}
+
+// The tables of a stored image.
 #[derive(Clone, Copy)]
 pub struct Header {
-    pub inputs: usize,
-    pub outputs: usize,
-    pub terms: usize,
-    pub points: usize,
-    pub rules: usize,
-    pub words: usize,
-    pub conclusions: usize,
-    pub input_table: usize,
-    pub output_table: usize,
-    pub term_table: usize,
-    pub point_table: usize,
-    pub rule_table: usize,
-    pub word_table: usize,
-    pub conclusion_table: usize,
+    pub inputs: Table<INPUT_WIDTH>,
+    pub outputs: Table<OUTPUT_WIDTH>,
+    pub terms: Table<TERM_WIDTH>,
+    pub points: Table<POINT_WIDTH>,
+    pub rules: Table<RULE_WIDTH>,
+    pub words: Table<WORD_WIDTH>,
+    pub conclusions: Table<CONCLUSION_WIDTH>,
 }
 
 // The words of the header.
@@ -168,74 +179,87 @@ pub fn layout_word(rules: usize, words: usize, conclusions: usize) -> usize
     1
 }
 
+// The table whose number of rows and whose start are these words of an image.
+fn table_of<const WIDTH: usize>(img: &[u8], rows: usize, start: usize) -> Table<WIDTH>
+    requires { (rows * 4 + 4 ≤ length img.now) × (start * 4 + 4 ≤ length img.now) }
+    ensures { IsTable (word_at img.now) rows start result }
+{
+    Table {
+        rows: whole_word(img, rows),
+        start: whole_word(img, start),
+    }
+}
+
 // Of an image that goes as far as the end of its header.
 pub fn header_of(img: &[u8]) -> Header
     requires { header_size * 4 ≤ length img.now }
     ensures { Heads (word_at img.now) result }
 {
     Header {
-        inputs: whole_word(img, INPUTS),
-        outputs: whole_word(img, OUTPUTS),
-        terms: whole_word(img, TERMS),
-        points: whole_word(img, POINTS),
-        rules: whole_word(img, RULES),
-        words: whole_word(img, WORDS),
-        conclusions: whole_word(img, CONCLUSIONS),
-        input_table: whole_word(img, INPUT_TABLE),
-        output_table: whole_word(img, OUTPUT_TABLE),
-        term_table: whole_word(img, TERM_TABLE),
-        point_table: whole_word(img, POINT_TABLE),
-        rule_table: whole_word(img, RULE_TABLE),
-        word_table: whole_word(img, WORD_TABLE),
-        conclusion_table: whole_word(img, CONCLUSION_TABLE),
+        inputs: table_of(img, INPUTS, INPUT_TABLE),
+        outputs: table_of(img, OUTPUTS, OUTPUT_TABLE),
+        terms: table_of(img, TERMS, TERM_TABLE),
+        points: table_of(img, POINTS, POINT_TABLE),
+        rules: table_of(img, RULES, RULE_TABLE),
+        words: table_of(img, WORDS, WORD_TABLE),
+        conclusions: table_of(img, CONCLUSIONS, CONCLUSION_TABLE),
     }
 }
 
-// Where row i of a table starts.
-pub fn input_row(h: Header, i: usize) -> usize
-    requires { (h.input_table ≤ 4294967295) × (i ≤ 10000000000) }
-    ensures by_index { (w : ℕ → ℕ) → Heads w h → result ≡ input_place w i }
-    ensures small { result ≤ 200000000000 }
-{
-    h.input_table + i * INPUT_WIDTH
+// An image as far as the load check has come to know it: the bytes go as far as its header and as every table that the
+// header names.
+#[derive(Clone, Copy)]
+pub struct Stored<'a> {
+    pub bytes: &'a [u8],
+    pub header: Header,
+    pub ghost heads: { Heads (word_at bytes.now) header },
+    pub ghost covers: { Covers bytes.now header },
 }
 
-pub fn output_row(h: Header, i: usize) -> usize
-    requires { (h.output_table ≤ 4294967295) × (i ≤ 10000000000) }
-    ensures by_index { (w : ℕ → ℕ) → Heads w h → result ≡ output_place w i }
-    ensures small { result ≤ 200000000000 }
-{
-    h.output_table + i * OUTPUT_WIDTH
-}
+impl Stored<'_> {
+    // The word at place i, which is within the image.
+    pub fn word(&self, i: usize) -> usize
+        requires { i * 4 + 4 ≤ length self.now.bytes.now }
+        ensures { (result ≡ word_at self.now.bytes.now i) × (result ≤ 4294967295) }
+    {
+        whole_word(self.bytes, i)
+    }
 
-pub fn term_row(h: Header, i: usize) -> usize
-    requires { (h.term_table ≤ 4294967295) × (i ≤ 10000000000) }
-    ensures by_index { (w : ℕ → ℕ) → Heads w h → result ≡ term_place w i }
-    ensures small { result ≤ 200000000000 }
-{
-    h.term_table + i * TERM_WIDTH
-}
+    // That word as a crisp value.
+    pub fn crisp(&self, i: usize) -> Crisp
+        requires { i * 4 + 4 ≤ length self.now.bytes.now }
+        ensures { result.0 ≡ crisp_of (word_at self.now.bytes.now i) }
+    {
+        whole_crisp(self.bytes, i)
+    }
+    // The algorithms for AND and OR.
+    pub fn pair(&self) -> Pair
+        ensures { result ≡ pair_of (word_at self.now.bytes.now PAIR_WORD) }
+    {
+        match self.word(PAIR) {
+            MIN_MAX => Pair::MinMax,
+            PROD_ASUM => Pair::ProdAsum,
+            _ => Pair::BdifBsum,
+        }
+    }
 
-pub fn point_row(h: Header, i: usize) -> usize
-    requires { (h.point_table ≤ 4294967295) × (i ≤ 10000000000) }
-    ensures by_index { (w : ℕ → ℕ) → Heads w h → result ≡ point_place w i }
-    ensures small { result ≤ 200000000000 }
-{
-    h.point_table + i * POINT_WIDTH
-}
+    // ACCU.
+    pub fn accumulation(&self) -> Accumulation
+        ensures { result ≡ accu_of (word_at self.now.bytes.now ACCU_WORD) }
+    {
+        match self.word(ACCU) {
+            BY_MAX => Accumulation::Max,
+            _ => Accumulation::Bsum,
+        }
+    }
 
-pub fn rule_row(h: Header, i: usize) -> usize
-    requires { (h.rule_table ≤ 4294967295) × (i ≤ 10000000000) }
-    ensures by_index { (w : ℕ → ℕ) → Heads w h → result ≡ rule_place w i }
-    ensures small { result ≤ 200000000000 }
-{
-    h.rule_table + i * RULE_WIDTH
-}
-
-pub fn conclusion_row(h: Header, i: usize) -> usize
-    requires { (h.conclusion_table ≤ 4294967295) × (i ≤ 10000000000) }
-    ensures by_index { (w : ℕ → ℕ) → Heads w h → result ≡ conclusion_place w i }
-    ensures small { result ≤ 200000000000 }
-{
-    h.conclusion_table + i * CONCLUSION_WIDTH
+    // ACT.
+    pub fn activation(&self) -> Activation
+        ensures { result ≡ act_of (word_at self.now.bytes.now ACT_WORD) }
+    {
+        match self.word(ACT) {
+            BY_MIN => Activation::Min,
+            _ => Activation::Prod,
+        }
+    }
 }

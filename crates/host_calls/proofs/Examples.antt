@@ -6,12 +6,12 @@ use Prim.Native.Nat.{ℕ}
 use lib.Ieee.{Float, fin}
 use lib.IntN.{pos, negsuc}
 use lib.ListN.{replicate}
+use Rattle.std.specs.Prelude.{Ok, Err}
 use Rattle.model.specs.Evaluation.{no_answer, padded, held_of}
 use Rattle.model.specs.declared.Held.{Held}
 use Rattle.model.specs.declared.Mark.TheVariants.{Fired}
 use Rattle.model.specs.declared.Reading.TheVariants.{Real, Int, Absent}
 use Rattle.model.specs.declared.Refusal.TheVariants.{WrongReading}
-use Rattle.model.specs.declared.Verdict.TheVariants.{Accepted, Refused}
 use Rattle.demand_3.specs.Calls.{evaluated, daily}
 use Rattle.call_crossing.specs.declared.GrillenhelmAnswer.{GrillenhelmAnswer}
 use Rattle.outcome_crossing.specs.declared.GrillenhelmOutcome.{GrillenhelmOutcome}
@@ -49,12 +49,12 @@ calls =
 crossed_back : map made_back calls
     ≡ evaluated (record { readings = Real (fin false 15 (pos 1)) ∷ Int (negsuc 4) ∷ replicate 6 Absent; count = 2 })
     (record {
-      verdict = Accepted;
+      verdict = Ok tt;
       answers = record { mark = Fired; thousandths = record { 0 = pos 25000 }; sum = 1000000; value = fin false 25 (pos 0) } ∷ replicate 5 no_answer;
       held = held_of (pos 25000 ∷ []);
     })
     ∷ daily (record { readings = Real (fin false 15 (pos 1)) ∷ replicate 7 Absent; count = 2 })
-    (record { verdict = Refused (WrongReading 1); answers = padded no_answer [] }) (held_of (pos 25000 ∷ []))
+    (record { verdict = Err (WrongReading 1); answers = padded no_answer [] }) (held_of (pos 25000 ∷ []))
     ∷ []
 crossed_back = refl
 

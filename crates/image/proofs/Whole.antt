@@ -4,7 +4,7 @@ use lib.Seq.{slice}
 use Rattle.model.specs.Basic.{gather}
 use Rattle.model.specs.Bounds.{rule_limit, word_limit, conclusion_limit}
 use Rattle.model.specs.Block.{Block, Rule, conclusions}
-use Rattle.model.specs.Image.{terms, points, pair_word, pair_of, accu_word, accu_of, act_word, act_of, name_words, input_table, output_table, term_table, point_words, rule_table, postfix, conclusion_words, counts, widths, offsets, end_of, header_size, header, words, image}
+use Rattle.model.specs.Image.{terms, points, pair_word, accu_word, act_word, name_words, input_table, output_table, term_table, point_words, rule_table, postfix, conclusion_words, counts, widths, offsets, end_of, header_size, header, words, image}
 use Rattle.laws.proofs.Conditions.{length_pairs}
 use Rattle.words.proofs.Bytes.{length_bytes}
 use Rattle.layout.specs.Rows.{laid}
@@ -16,14 +16,12 @@ use Rattle.block_tables.specs.View.{outputs_view, input_view, output_view, whole
 use Rattle.block_tables.specs.Stored.{Stored}
 use Rattle.laws.proofs.Places.{length_tab}
 use Rattle.image.specs.declared.Counts.{Counts}
-use Rattle.variable_rows.specs.Rows.{Slots}
 use Rattle.term_rows.specs.Rows.{held_in}
 use Rattle.image.specs.Rows.{variable_rows, rule_rows, count_list, head_words}
 use Rattle.variable_rows.proofs.Views.{inputs_laid, outputs_laid}
 use Rattle.term_rows.proofs.Views.{Ordered, terms_laid, points_laid, first_output, terms_count, points_count}
 use Rattle.layout.proofs.Lengths.{header_long, inputs_long, outputs_long, terms_long, points_long, rules_long}
 use Rattle.layout.proofs.Whole.{length_conditions}
-use Rattle.layout.proofs.Codes.{pair_code, accu_code, act_code}
 use Rattle.image.proofs.Kept.{words_count, conclusions_count, all_kept}
 
 -- HOW LONG the words of a block are
@@ -58,14 +56,14 @@ module _ (b : Block) where
       )
 
 -- THE WHOLE
-module _ (s : List ℕ) (t : Tables) (h : Heading) (rs : List Rule) (head : Headed s h) (own others : Slots) (order : Ordered t own others)
+module _ (s : List ℕ) (t : Tables) (h : Heading) (rs : List Rule) (head : Headed s h) (own others : List ℕ) (order : Ordered t own others)
     (rules ws ks : List ℕ) (m n k : ℕ) (kept : Stored rs rules ws ks m n k) (wide : length rules ≡ rule_limit * 4) (long : length ws ≡ word_limit) (full : length ks ≡ conclusion_limit * 2) where
   abbrev pub whole : Counts
   whole = record {
     inputs = t.input_count;
     outputs = t.output_count;
-    terms = own.count + others.count;
-    points = held_in t.input_terms own.at own.count + others.count;
+    terms = length own + length others;
+    points = held_in t.input_terms own (length own) + length others;
     rules = m;
     words = n;
     conclusions = k;
@@ -90,9 +88,7 @@ module _ (s : List ℕ) (t : Tables) (h : Heading) (rs : List Rule) (head : Head
   unfolding header head_words offsets whole_view
   header_is =
       ap (λ (cs : List ℕ). 1 ∷ end_of header_size cs widths ∷ (cs ++ (offsets header_size cs widths
-      ++ (pair_word (pair_of h.pair) ∷ accu_word (accu_of h.accu) ∷ act_word (act_of h.act) ∷ 0 ∷ named)))) counts_are
-      ∙ (λ j. 1 ∷ end_of header_size (count_list whole) widths ∷ (count_list whole ++ (offsets header_size (count_list whole) widths
-      ++ (pair_code h.pair head.pair j ∷ accu_code h.accu head.accu j ∷ act_code h.act head.act j ∷ 0 ∷ named))))
+      ++ (pair_word h.pair ∷ accu_word h.accu ∷ act_word h.act ∷ 0 ∷ named)))) counts_are
 
   pub words_are : words (whole_view s t h rs) ≡ (head_words whole h ++ named)
       ++ (variable_rows s t own others ++ (rule_rows rules m ++ (take n ws ++ take (k * 2) ks)))
@@ -101,7 +97,7 @@ module _ (s : List ℕ) (t : Tables) (h : Heading) (rs : List Rule) (head : Head
       (λ j. header_is j
       ++ (inputs_laid s t j
       ++ ((output_table_lem (whole_view s t h rs)
-      ∙ ap (λ (x : ℕ). laid output_row output_next x (outputs_view s t)) (first_output s t own others order) ∙ outputs_laid s t own.count) j
+      ∙ ap (λ (x : ℕ). laid output_row output_next x (outputs_view s t)) (first_output s t own others order) ∙ outputs_laid s t (length own)) j
       ++ (terms_laid s t own others order j
       ++ (points_laid s t own others order j
       ++ ((all_kept rs rules ws ks m n k kept wide long full).table j

@@ -1,31 +1,31 @@
 -- A helper: the words of the tables before the rules, of the rule table and of the header from the arrays that a text is
 -- read into. `words_are` of proofs/Whole ties them to the model's `words`.
-use Rattle.std.specs.Prelude.{ℕ, ◌+◌, ◌*◌, ◌%◌, ◌^◌, ◌≤◌, List, [], ◌∷◌, ◌++◌, slice_index}
+use Rattle.std.specs.Prelude.{ℕ, ◌+◌, ◌*◌, ◌%◌, ◌^◌, ◌≤◌, List, [], ◌∷◌, ◌++◌, length, slice_index}
 use Rattle.model.specs.Bounds.{input_limit, output_limit, point_limit, rule_limit, word_limit, conclusion_limit, all_term_limit}
-use Rattle.model.specs.Image.{layout_word, input_width, output_width, term_width, point_width, end_of, offsets, header_size, widths}
+use Rattle.model.specs.Image.{layout_word, pair_word, accu_word, act_word, input_width, output_width, term_width, point_width, end_of, offsets, header_size, widths}
 use Rattle.block_tables.specs.declared.Heading.{Heading}
 use Rattle.block_tables.specs.declared.Tables.{Tables}
 use Rattle.block_tables.specs.declared.Totals.{Totals}
 use Rattle.block_tables.specs.Stored.{kept_width}
-use Rattle.variable_rows.specs.Rows.{rows, input_rows, output_rows, Slots}
+use Rattle.variable_rows.specs.Rows.{rows, input_rows, output_rows}
 use Rattle.term_rows.specs.Rows.{held_in, term_rows, singleton_rows, point_rows, singleton_points}
 use Rattle.image.specs.declared.Counts.{Counts}
 
--- VARIABLES, terms and points: the tables one after the other, and how many words they are
-unfoldable pub variable_rows : List ℕ → Tables → Slots → Slots → List ℕ
+-- VARIABLES, terms and points: the tables one after the other, and how many words they are. own, others: the places of the
+-- terms of inputs and of outputs
+unfoldable pub variable_rows : List ℕ → Tables → List ℕ → List ℕ → List ℕ
 variable_rows s t own others =
     input_rows s t.inputs t.input_count
-    ++ (output_rows s t.outputs t.output_count own.count
-    ++ (term_rows s t.input_terms own.at own.count
-    ++ (singleton_rows s t.output_terms others.at others.count (held_in t.input_terms own.at
-    own.count)
-    ++ (point_rows t.input_terms own.at own.count
-    ++ singleton_points t.output_terms others.at others.count))))
+    ++ (output_rows s t.outputs t.output_count (length own)
+    ++ (term_rows s t.input_terms own (length own)
+    ++ (singleton_rows s t.output_terms others (length others) (held_in t.input_terms own (length own))
+    ++ (point_rows t.input_terms own (length own)
+    ++ singleton_points t.output_terms others (length others)))))
 
-abbrev pub variable_words : Tables → Slots → Slots → ℕ
+abbrev pub variable_words : Tables → List ℕ → List ℕ → ℕ
 variable_words t own others =
-    t.input_count * input_width + t.output_count * output_width + (own.count + others.count) * term_width
-    + (held_in t.input_terms own.at own.count + others.count) * point_width
+    t.input_count * input_width + t.output_count * output_width + (length own + length others) * term_width
+    + (held_in t.input_terms own (length own) + length others) * point_width
 
 -- RULES: the first condition word and the first conclusion of the next one, in 32 bits
 unfoldable pub rule_words : List ℕ → ℕ × ℕ → ℕ → List ℕ
@@ -69,4 +69,4 @@ pub record Bounded (c : Counts) : Type 0 where
 unfoldable pub head_words : Counts → Heading → List ℕ
 head_words c h =
     layout_word c.rules c.words c.conclusions ∷ end_of header_size (count_list c) widths
-    ∷ (count_list c ++ (offsets header_size (count_list c) widths ++ (h.pair ∷ h.accu ∷ h.act ∷ 0 ∷ [])))
+    ∷ (count_list c ++ (offsets header_size (count_list c) widths ++ (pair_word h.pair ∷ accu_word h.accu ∷ act_word h.act ∷ 0 ∷ [])))

@@ -5,20 +5,20 @@ ghost use Rattle.std.specs.Prelude.{◌≡◌, ◌+◌, ◌*◌, ◌≤◌, List
 ghost use Rattle.std.proofs.Math.Seq.{slice};
 ghost use Rattle.model.specs.Bounds.{input_limit, output_limit, point_limit, rule_limit, word_limit, conclusion_limit, input_term_limit, output_term_limit, all_term_limit};
 ghost use Rattle.model.specs.Block.{Rule};
-ghost use Rattle.model.specs.Image.{name_words, header_size, rule_width, image};
+ghost use Rattle.model.specs.Image.{pair_word, accu_word, act_word, name_words, header_size, rule_width, image};
 ghost use Rattle.model.specs.Outcome.{into, length_in, buffer_after};
 ghost use Rattle.model.specs.Refusals.{written_of};
 ghost use Rattle.block_tables.specs.View.{whole_view, Holds, Headed};
 ghost use Rattle.block_tables.specs.Stored.{kept_width, Stored};
 ghost use Rattle.word_writer.specs.Over.{Wrote};
-ghost use Rattle.variable_rows.specs.Rows.{Listed, slots};
+ghost use Rattle.variable_rows.specs.Rows.{Places};
 ghost use Rattle.term_rows.specs.Rows.{held_in};
 ghost use Rattle.image.specs.Rows.{variable_rows, variable_words, rule_rows, entries_of, Bounded, head_words};
 
 use block_tables::{
     CONCLUSION_WIDTH, Conclusions, Heading, KEPT_RULE_WIDTH, Rules, Tables, Totals, Words,
 };
-use model::{Refusal, Written};
+use model::{Accumulation, Activation, Pair, Refusal};
 
 // As words: the length of the header, the widths of rows.
 const SIZE: u32 = header::SIZE as u32;
@@ -47,43 +47,29 @@ struct Counts {
     pub conclusions: u32,
 }
 
-fn wide(w: u32) -> usize
-    ensures { (result ≡ w) × (result ≤ 4294967295) }
-{
-    w as usize
-}
-
-// The tables of variables, terms and points. own, others: the places of the terms of inputs and of outputs, m and k of
-// them; points: how many points the former have.
+// The tables of variables, terms and points. own, others: the places of the terms of inputs and of outputs; points: how
+// many points the former have.
 fn variables(
     s: &[u8],
-    t: Tables,
-    own: &[usize; bounds::INPUT_TERMS],
-    m: usize,
-    others: &[usize; bounds::INPUT_TERMS],
-    k: usize,
+    t: &Tables,
+    own: &[usize],
+    others: &[usize],
     points: usize,
     out: &mut [u8],
     at: usize,
 ) -> usize
-    requires { Holds s.now t × Listed input_term_limit own.now × Listed output_term_limit others.now
-        × (m ≤ input_term_limit) × (k ≤ output_term_limit) × (points ≡ held_in t.input_terms own.now m)
-        × (points ≤ input_term_limit * point_limit)
-        × ((at + variable_words t (slots own.now m) (slots others.now k)) * 4 ≤ length out.old) }
-    ensures wrote { Wrote at result (variable_rows s.now t (slots own.now m) (slots others.now k))
-        out.old out.new }
-    ensures next { result ≡ at + variable_words t (slots own.now m) (slots others.now k) }
+    requires { Holds s.now t.now × Places input_term_limit own.now × Places output_term_limit others.now
+        × (points ≡ held_in t.now.input_terms own.now (length own.now)) × (points ≤ input_term_limit * point_limit)
+        × ((at + variable_words t.now own.now others.now) * 4 ≤ length out.old) }
+    ensures wrote { Wrote at result (variable_rows s.now t.now own.now others.now) out.old out.new }
+    ensures next { result ≡ at + variable_words t.now own.now others.now }
 {
-    let inputs = t.inputs;
-    let outputs = t.outputs;
-    let terms = t.input_terms;
-    let singletons = t.output_terms;
-    let p = variable_rows::input_table(s, inputs, t.input_count, out, at);
-    let q = variable_rows::output_table(s, outputs, t.output_count, m, out, p);
-    let r = term_rows::term_table(s, terms, own, m, out, q);
-    let e = term_rows::singleton_table(s, singletons, others, k, points, out, r);
-    let f = term_rows::point_table(terms, own, m, out, e);
-    term_rows::singleton_points(singletons, others, k, out, f)
+    let at = variable_rows::input_table(s, &t.inputs[..t.input_count], out, at);
+    let at = variable_rows::output_table(s, &t.outputs[..t.output_count], own.len(), out, at);
+    let at = term_rows::term_table(s, &t.input_terms, own, out, at);
+    let at = term_rows::singleton_table(s, &t.output_terms, others, points, out, at);
+    let at = term_rows::point_table(&t.input_terms, own, out, at);
+    term_rows::singleton_points(&t.output_terms, others, out, at)
 }
 
 // Firsts wrap, so that the table is safe to write from any words.
@@ -92,19 +78,17 @@ fn rule_table(rules: &[u32], n: usize, out: &mut [u8], at: usize) -> usize
     ensures wrote { Wrote at result (rule_rows rules.now n) out.old out.new }
     ensures next { result ≡ at + n * rule_width }
 {
-    let mut word: u32 = 0;
-    let mut conclusion: u32 = 0;
+    let mut word = 0u32;
+    let mut conclusion = 0u32;
     let mut p = at;
-    let mut i: usize = 0;
-    while i < n {
+    for i in 0..n {
         let k = i * KEPT_RULE_WIDTH;
-        let a = rules[k + 1];
-        let b = rules[k + 2];
-        let row = [rules[k], word, a, conclusion, b, rules[k + 3]];
+        let words = rules[k + 1];
+        let conclusions = rules[k + 2];
+        let row = [rules[k], word, words, conclusion, conclusions, rules[k + 3]];
         p = word_writer::copy(&row, out, p);
-        word = std::num::wrapping_add_u32(word, a);
-        conclusion = std::num::wrapping_add_u32(conclusion, b);
-        i += 1;
+        word = word.wrapping_add(words);
+        conclusion = conclusion.wrapping_add(conclusions);
     }
     p
 }
@@ -126,6 +110,25 @@ fn entries(inputs: usize, outputs: usize, terms: usize, points: usize, n: Totals
         words: n.words as u32,
         conclusions: n.conclusions as u32,
     }
+}
+
+// The words of the algorithms, which number them in the order of their declaration.
+fn pair_word(p: Pair) -> u32
+    ensures { result ≡ pair_word p }
+{
+    p as u32
+}
+
+fn accu_word(a: Accumulation) -> u32
+    ensures { result ≡ accu_word a }
+{
+    a as u32
+}
+
+fn act_word(a: Activation) -> u32
+    ensures { result ≡ act_word a }
+{
+    a as u32
 }
 
 // The header up to the names: layout, total, counts, offsets, algorithms.
@@ -162,9 +165,9 @@ fn head_words(c: Counts, h: Heading) -> [u32; header::BLOCK_NAME]
         rules,
         words,
         conclusions,
-        h.pair,
-        h.accu,
-        h.act,
+        pair_word(h.pair),
+        accu_word(h.accu),
+        act_word(h.act),
         0,
     ]
 }
@@ -184,57 +187,48 @@ fn header(
         out.old out.new }
     ensures next { result ≡ header_size }
 {
-    let p = word_writer::copy(&head, out, 0);
-    let n = variable_rows::name_words(s, start, end);
-    let q = word_writer::copy(&n, out, p);
-    let m = variable_rows::name_words(s, h.start, h.end);
-    word_writer::copy(&m, out, q)
+    let at = word_writer::copy(&head, out, 0);
+    let at = word_writer::copy(&variable_rows::name_words(s, start, end), out, at);
+    word_writer::copy(&variable_rows::name_words(s, h.start, h.end), out, at)
 }
 
 // The image into the buffer: its length, or 10 with the length that is needed, which leaves the buffer as it came.
 pub fn store(
     s: &[u8],
-    t: Tables,
+    t: &Tables,
     h: Heading,
     rules: &Rules,
     words: &Words,
     conclusions: &Conclusions,
     n: Totals,
     out: &mut [u8],
-) -> Written
-    requires { Holds s.now t × Headed s.now h × ((rs : List Rule)
+) -> Result<usize, Refusal>
+    requires { Holds s.now t.now × Headed s.now h × ((rs : List Rule)
         × Stored rs rules.now words.now conclusions.now n.rules n.words n.conclusions) }
     ensures { (rs : List Rule)
         → Stored rs rules.now words.now conclusions.now
         n.rules n.words n.conclusions
-        → (written_of result ≡ length_in (into (length out.old) (image (whole_view s.now t h rs))))
+        → (written_of result ≡ length_in (into (length out.old) (image (whole_view s.now t.now h rs))))
         × (out.new ≡ buffer_after out.old
-        (into (length out.old) (image (whole_view s.now t h rs)))) }
+        (into (length out.old) (image (whole_view s.now t.now h rs)))) }
 {
-    // As slices, whose lengths are then known.
-    let rows: &[u32] = rules;
-    let ws: &[u32] = words;
-    let ks: &[u32] = conclusions;
-    let inputs = t.inputs;
-    let outputs = t.outputs;
-    let terms = t.input_terms;
     let mut own = [0; bounds::INPUT_TERMS];
     let mut others = [0; bounds::INPUT_TERMS];
-    let a = variable_rows::input_slots(inputs, t.input_count, &mut own);
-    let b = variable_rows::output_slots(outputs, t.output_count, &mut others);
-    let points = term_rows::point_count(terms, &own, a);
-    let c = entries(t.input_count, t.output_count, a + b, points + b, n);
+    let m = variable_rows::input_slots(&t.inputs[..t.input_count], &mut own);
+    let k = variable_rows::output_slots(&t.outputs[..t.output_count], &mut others);
+    let own = &own[..m];
+    let others = &others[..k];
+    let points = term_rows::point_count(&t.input_terms, own);
+    let c = entries(t.input_count, t.output_count, m + k, points + k, n);
     let head = head_words(c, h);
-    let size = wide(head[header::TOTAL]) * 4;
+    let size = head[header::TOTAL] as usize * 4;
     if out.len() < size {
-        return Written::Refused(Refusal::BufferTooShort(size));
+        return Err(Refusal::BufferTooShort(size));
     }
-    let p = header(s, head, t.start, t.end, h, out);
-    let q = variables(s, t, &own, a, &others, b, points, out, p);
-    let r = rule_table(rows, n.rules, out, q);
-    let k = n.words;
-    let m = n.conclusions * CONCLUSION_WIDTH;
-    let e = word_writer::copy_front(ws, k, out, r);
-    word_writer::copy_front(ks, m, out, e);
-    Written::Bytes(size)
+    let at = header(s, head, t.start, t.end, h, out);
+    let at = variables(s, t, own, others, points, out, at);
+    let at = rule_table(rules, n.rules, out, at);
+    let at = word_writer::copy(&words[..n.words], out, at);
+    word_writer::copy(&conclusions[..n.conclusions * CONCLUSION_WIDTH], out, at);
+    Ok(size)
 }

@@ -34,6 +34,10 @@ module _ {A : Type 0} where
       ∙ ap (λ (k : ℕ). xs ++ drop k (replicate n a)) e
       ∙ ap (λ (l : List A). xs ++ l) (drop_replicate n (length xs) a)
 
+  -- one more place of an array
+  pub place_more : (l l₀ : List A) (p q : ℕ) (xs : List A) (y : A) → l ≡ sets l₀ p xs → q ≡ p + length xs → set l q y ≡ sets l₀ p (xs ++ (y ∷ []))
+  place_more l l₀ p q xs y h e = (λ j. set (h j) (e j) y) ∙ sym (sets_append l₀ p xs (y ∷ []))
+
   -- a place past xs reads as the default
   pub filled_at : (n : ℕ) (a : A) (xs : List A) (k : ℕ) → get_or (filled n a xs) k a ≡ get_or xs k a
   filled_at n a xs k = go (n - length xs) xs k

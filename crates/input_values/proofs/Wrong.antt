@@ -1,16 +1,13 @@
 -- The values of the inputs, one by one, and the first that is wrong.
 use mathlib.Core.Path.{◌≡◌, refl, sym, ap, ◌∙◌}
 use mathlib.Core.List.{List, [], ◌∷◌}
-use mathlib.Core.Logic.{⊎_elim}
 use mathlib.Core.Option.{Option, none, some}
 use Prim.Native.Nat.{ℕ, zero, suc, ◌+◌, ◌≤◌, ◌<◌}
 use native.Mathlib.Omega.{arith}
 use lib.IntN.{ℤ, pos}
 use lib.ListN.{length, get_or}
-use types.Run.{OneOf}
-use denote.Enum.Declared.{tag_of}
+use Rattle.std.specs.Prelude.{Result}
 use Rattle.model.specs.Basic.{tab}
-use Rattle.model.specs.contracts.Taken.{the_type}
 use Rattle.model.specs.Block.{Input}
 use Rattle.model.specs.declared.InputType.{InputType}
 use Rattle.model.specs.Outcome.{Outcome, accepted, refused, and_then}
@@ -18,8 +15,8 @@ use Rattle.model.specs.Readings.{taken, value_in}
 use Rattle.model.specs.Evaluation.{values_of}
 use Rattle.model.specs.Image.{input_at, decode, INPUTS}
 use Rattle.model.specs.declared.Reading.{Reading}
-use Rattle.model.specs.declared.Taken.{Taken}
-use Rattle.model.specs.declared.Taken.TheVariants.{Value, Absent as Missing, NotFinite, WrongKind}
+use Rattle.model.specs.declared.Crisp.{Crisp}
+use Rattle.model.specs.declared.NotTaken.{NotTaken}
 use Rattle.laws.proofs.Places.{length_tab}
 use Rattle.input_values.specs.Values.{before, values_read}
 
@@ -120,7 +117,7 @@ module _ (w : ℕ → ℕ) (rs : List Reading) where
   unfolding decode
   found_most = omega (arith, read_most (tab (input_at w) (w INPUTS) 0) rs, length_tab (input_at w) (w INPUTS) 0)
 
-  module _ (i : ℕ) (d : Reading) (k : InputType) (t : Taken) (h : i < w INPUTS) (l : i < length rs) (m : i ≤ length found)
+  module _ (i : ℕ) (d : Reading) (k : InputType) (t : Result Crisp NotTaken) (h : i < w INPUTS) (l : i < length rs) (m : i ≤ length found)
       (ek : k ≡ (input_at w i).type) (et : t ≡ taken k (get_or rs i d)) where
     value_is : value_in (taken (input_at w (0 + i)).type (get_or rs i d)) ≡ value_in t
     value_is =
@@ -133,16 +130,6 @@ module _ (w : ℕ → ℕ) (rs : List Reading) where
     unfolding decode
     found_next x e = next_right (input_at w) d (w INPUTS) 0 i rs x h l m (value_is ∙ e)
 
-    -- every variant but the first
-    pub found_all : OneOf (1 ∷ 2 ∷ 3 ∷ []) (tag_of the_type t) → length found ≡ i
+    pub found_all : value_in t ≡ none → length found ≡ i
     unfolding decode
-    found_all o = next_wrong (input_at w) d (w INPUTS) 0 i rs h l m (value_is ∙ no_value t o)
-      where
-        never : OneOf (1 ∷ 2 ∷ 3 ∷ []) 0 → ⊥
-        never q = ⊎_elim (λ e. omega arith) (λ r. ⊎_elim (λ e. omega arith) (λ e. omega arith) r) q
-
-        no_value : (u : Taken) → OneOf (1 ∷ 2 ∷ 3 ∷ []) (tag_of the_type u) → value_in u ≡ none
-        no_value (Value x) q = absurd (never q)
-        no_value Missing q = refl
-        no_value NotFinite q = refl
-        no_value WrongKind q = refl
+    found_all e = next_wrong (input_at w) d (w INPUTS) 0 i rs h l m (value_is ∙ e)

@@ -1,8 +1,9 @@
 -- Helpers: the numbers by which keywords are told apart. Case does not count in them. The contract of `keyword_at` ties
 -- them to the model's `keyword_at`; `may_not` of proofs/Laws says that a word which may be no keyword is none.
-use Rattle.std.specs.Prelude.{◌≡◌, Bool, List, [], ◌∷◌, ◌++◌, ℕ, ◌+◌, ◌-◌, ◌*◌, ◌/◌, ◌%◌, ◌^◌, eqb, length, take, get_or, if◌then◌else◌}
+use Rattle.std.specs.Prelude.{◌≡◌, ◌<◌, MatchOption, Bool, List, [], ◌∷◌, ◌++◌, ℕ, ◌+◌, ◌-◌, ◌*◌, ◌/◌, ◌%◌, ◌^◌, eqb, length, take, get_or, if◌then◌else◌}
 use Rattle.model.specs.Basic.{index_of}
-use Rattle.model.specs.Keywords.{keywords}
+use Rattle.std.specs.declared.option.Option.{Option}
+use Rattle.model.specs.Keywords.{keywords, keyword_at}
 use Rattle.keywords.specs.declared.Row.{Row}
 
 -- how many keywords there are, and how long the longest is
@@ -11,6 +12,10 @@ keyword_count = 43
 
 abbrev pub keyword_limit : ℕ
 keyword_limit = 18
+
+-- r is which keyword w is, or none
+abbrev pub Which : List ℕ → Option ℕ → Type 0
+Which w r = MatchOption r (keyword_count ≡ keyword_at w) (λ k. (k ≡ keyword_at w) × (k < keyword_count))
 
 -- by the length, the first byte and the last
 abbrev pub slot_of : List ℕ → ℕ

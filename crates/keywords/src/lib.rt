@@ -4,12 +4,11 @@
 #![tactic(auto)]
 
 ghost use Rattle.std.specs.Prelude.{◌≡◌, true, [], map, ◌+◌, ◌*◌, ◌%◌, ◌≤◌, ◌<◌, ltb, length, get_or};
-ghost use Rattle.model.specs.Basic.{alike};
 ghost use Rattle.model.specs.Keywords.{keywords, keyword_at};
-ghost use Rattle.keywords.specs.Slots.{keyword_count, keyword_limit, slot_of, group_of, joined, size_of, start_of, slot_row, rows, row_in, may_be, Others};
+ghost use Rattle.keywords.specs.Slots.{keyword_count, keyword_limit, slot_of, group_of, joined, size_of, start_of, slot_row, rows, row_in, may_be, Others, Which};
 
 // How many keywords there are, how long the longest is, and a bit for each length that one has.
-pub const COUNT: usize = 43;
+const COUNT: usize = 43;
 
 const LONGEST: usize = 18;
 
@@ -18,25 +17,9 @@ const LENGTHS: usize = 290556;
 // The bytes of the keywords of more than 4.
 const LONGER: u8 = 156;
 
-// The words are the same but for case.
-fn is_word(w: &[u8], t: &[u8]) -> bool
-    ensures { result ≡ alike w.now t.now }
-{
-    if w.len() != t.len() {
-        return false;
-    }
-    let mut i = 0;
-    while i < t.len() {
-        if !characters::is_alike(w[i], t[i]) {
-            return false;
-        }
-        i += 1;
-    }
-    true
-}
-
 // The keyword of a slot, where it begins in the text of its group, and how long it is. Where no keyword has the slot, it
 // is COUNT, which has no bytes.
+// Kept: with an option in its place the table of `slot_row` would be longer, and each word is looked up there.
 #[derive(Clone, Copy)]
 struct Row {
     keyword: u8,
@@ -51,9 +34,9 @@ fn keyword_row(h: usize, keyword: u8, start: u8, size: u8) -> Row
     ensures { result ≡ slot_row h }
 {
     Row {
-        keyword: keyword,
-        start: start,
-        size: size,
+        keyword,
+        start,
+        size,
     }
 }
 
@@ -121,49 +104,49 @@ fn slot_row(h: usize) -> Row
 }
 
 // The word of slot h beside the keyword of that slot, which is a part of the text of the word's group.
-fn in_slot(w: &[u8], h: usize, text: &[u8]) -> usize
-    requires { (h ≡ slot_of w.now) × (text.now ≡ joined (group_of (length w.now)) keywords) }
-    ensures { (result ≡ keyword_at w.now) × (result ≤ keyword_count) }
+fn in_slot(w: &[u8], h: usize, text: &[u8]) -> Option<usize>
+    requires { (h ≡ slot_of w.now) × (0 < length w.now) × (text.now ≡ joined (group_of (length w.now)) keywords) }
+    ensures { Which w.now result }
 {
     let r = slot_row(h);
     let n = r.size as usize;
     if w.len() != n {
-        return COUNT;
+        return None;
     }
     let a = r.start as usize;
-    let e = a + n;
-    if is_word(w, &text[a..e]) {
-        return r.keyword as usize;
+    if w.eq_ignore_ascii_case(&text[a..a + n]) {
+        Some(r.keyword as usize)
+    } else {
+        None
     }
-    COUNT
 }
 
 // The keywords of 2, of 3 and of 4 bytes have a text each, since a text is stored into the frame before it is compared;
 // and a function each, since in one function all four would be.
-fn of_two(w: &[u8], h: usize) -> usize
+fn of_two(w: &[u8], h: usize) -> Option<usize>
     requires { (h ≡ slot_of w.now) × (length w.now ≡ 2) }
-    ensures { (result ≡ keyword_at w.now) × (result ≤ keyword_count) }
+    ensures { Which w.now result }
 {
     in_slot(w, h, b"IFISLMNCORRM")
 }
 
-fn of_three(w: &[u8], h: usize) -> usize
+fn of_three(w: &[u8], h: usize) -> Option<usize>
     requires { (h ≡ slot_of w.now) × (length w.now ≡ 3) }
-    ensures { (result ≡ keyword_at w.now) × (result ≤ keyword_count) }
+    ensures { Which w.now result }
 {
     in_slot(w, h, b"ACTANDCoACoGMAXMINNOTVARINT")
 }
 
-fn of_four(w: &[u8], h: usize) -> usize
+fn of_four(w: &[u8], h: usize) -> Option<usize>
     requires { (h ≡ slot_of w.now) × (length w.now ≡ 4) }
-    ensures { (result ≡ keyword_at w.now) × (result ≤ keyword_count) }
+    ensures { Which w.now result }
 {
     in_slot(w, h, b"ACCUASUMBDIFBSUMCoGSNSUMPRODRULETERMTHENWITHREAL")
 }
 
-fn of_more(w: &[u8], h: usize) -> usize
-    requires { (h ≡ slot_of w.now) × (length w.now ≡ 2 → ⊥) × (length w.now ≡ 3 → ⊥) × (length w.now ≡ 4 → ⊥) }
-    ensures { (result ≡ keyword_at w.now) × (result ≤ keyword_count) }
+fn of_more(w: &[u8], h: usize) -> Option<usize>
+    requires { (h ≡ slot_of w.now) × (0 < length w.now) × (length w.now ≡ 2 → ⊥) × (length w.now ≡ 3 → ⊥) × (length w.now ≡ 4 → ⊥) }
+    ensures { Which w.now result }
 {
     in_slot(
         w,
@@ -173,21 +156,16 @@ fn of_more(w: &[u8], h: usize) -> usize
     )
 }
 
-fn of_slot(w: &[u8], h: usize) -> usize
-    requires { h ≡ slot_of w.now }
-    ensures { (result ≡ keyword_at w.now) × (result ≤ keyword_count) }
+fn of_slot(w: &[u8], h: usize) -> Option<usize>
+    requires { (h ≡ slot_of w.now) × (0 < length w.now) }
+    ensures { Which w.now result }
 {
-    let n = w.len();
-    if n == 2 {
-        return of_two(w, h);
+    match w.len() {
+        2 => of_two(w, h),
+        3 => of_three(w, h),
+        4 => of_four(w, h),
+        _ => of_more(w, h),
     }
-    if n == 3 {
-        return of_three(w, h);
-    }
-    if n == 4 {
-        return of_four(w, h);
-    }
-    of_more(w, h)
 }
 
 // The slot of the words of n bytes that begin with a and end in z.
@@ -248,20 +226,13 @@ pub fn may_be(n: usize, a: u8) -> bool
     (b >> n) % 2 == 1
 }
 
-// Which keyword the word is; COUNT where it is none.
-pub fn keyword_at(w: &[u8]) -> usize
-    ensures value { result ≡ keyword_at w.now }
-    ensures within { result ≤ keyword_count }
+// Which keyword the word is.
+pub fn keyword_at(w: &[u8]) -> Option<usize>
+    ensures { Which w.now result }
 {
     let n = w.len();
-    if LONGEST < n {
-        return COUNT;
-    }
-    if (LENGTHS >> n) % 2 == 0 {
-        return COUNT;
-    }
-    if !may_be(n, w[0]) {
-        return COUNT;
+    if LONGEST < n || (LENGTHS >> n) % 2 == 0 || !may_be(n, w[0]) {
+        return None;
     }
     of_slot(w, slot(n, w[0], w[n - 1]))
 }

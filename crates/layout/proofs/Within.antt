@@ -43,13 +43,13 @@ module _ (bytes : List ℕ) (long : length bytes ≡ word_at bytes 1 * 4) (ok : 
       let o = offsets (word_at bytes) ok in
       record {
         head = header_within;
-        inputs = omega (arith, long, o, e.inputs, e.input_table_lem);
-        outputs = omega (arith, long, o, e.outputs, e.output_table_lem);
-        terms = omega (arith, long, o, e.terms, e.term_table_lem);
-        points = omega (arith, long, o, e.points, e.point_table);
-        rules = omega (arith, long, o, e.rules, e.rule_table_lem);
-        words = omega (arith, long, o, e.words, e.word_table);
-        conclusions = omega (arith, long, o, e.conclusions, e.conclusion_table);
+        inputs = omega (arith, long, o, e.inputs.rows, e.inputs.start);
+        outputs = omega (arith, long, o, e.outputs.rows, e.outputs.start);
+        terms = omega (arith, long, o, e.terms.rows, e.terms.start);
+        points = omega (arith, long, o, e.points.rows, e.points.start);
+        rules = omega (arith, long, o, e.rules.rows, e.rules.start);
+        words = omega (arith, long, o, e.words.rows, e.words.start);
+        conclusions = omega (arith, long, o, e.conclusions.rows, e.conclusions.start);
       }
 
 ends : (f c : ℕ → ℕ) (k i p j : ℕ) → j < k → Runs f c k i p → (p ≤ f (i + j)) × (f (i + j) + c (i + j) ≤ p + sums c k i)

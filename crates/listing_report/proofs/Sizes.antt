@@ -1,12 +1,12 @@
--- How long the image of a well-formed block and the line of a refusal can be; the end of a line.
-use mathlib.Core.Path.{◌≡◌, refl, sym, ap, ◌∙◌}
-use mathlib.Core.Bool.{Bool, true, false}
-use mathlib.Core.List.{List, [], ◌∷◌, ◌++◌, map}
-use Prim.Native.Nat.{ℕ, ◌*◌, ◌-◌, ◌≤◌, ◌<◌}
+-- How long the image of a well-formed block and the line of a refusal can be.
+use mathlib.Core.Path.{◌≡◌, refl, ap}
+use mathlib.Core.Bool.{Bool, true}
+use mathlib.Core.List.{List, [], ◌∷◌, map}
+use Prim.Native.Nat.{ℕ, ◌*◌, ◌≤◌, ◌<◌}
 use native.Mathlib.Nat.{suc-mul}
 use native.Mathlib.Omega.{arith}
-use lib.ListN.{length, take, drop, length-append, length-drop, length-map}
-use lib.Seq.{length-take-le, take_all}
+use lib.ListN.{length, length-append, length-map}
+use Rattle.std.specs.Prelude.{Option, Some, None, IfSome}
 use Rattle.model.specs.Bounds.{image_limit}
 use Rattle.model.specs.Basic.{all, gather}
 use Rattle.model.specs.Block.{Singleton, Input, Block, input_terms, output_terms}
@@ -22,28 +22,13 @@ use Rattle.listing_laws.proofs.Facts.{term_facts, input_facts, output_facts, blo
 use Rattle.listing_laws.proofs.Room.{digits_room}
 
 -- THE LINE OF A REFUSAL
-place_short : (placed : Bool) (n : ℕ) → n < 18446744073709551616 → length (place_text (place_of placed n)) ≤ 20
-place_short false n h = omega arith
-place_short true n h = (digits_room 19 n (omega arith)).short
+place_short : (place : Option ℕ) → IfSome place (λ n. n < 18446744073709551616) → length (place_text (place_of place)) ≤ 20
+place_short None h = omega arith
+place_short (Some n) h = (digits_room 19 n (omega (arith, h))).short
 
-pub line_short : (n place : ℕ) (placed : Bool) → n < 256 → place < 18446744073709551616 → length (refused_line n (place_of placed place)) ≤ 64
+pub line_short : (n : ℕ) (place : Option ℕ) → n < 256 → IfSome place (λ m. m < 18446744073709551616) → length (refused_line n (place_of place)) ≤ 64
 unfolding refused_line
-line_short n place placed h k = simp length-append (omega (arith, (digits_room 2 n (omega arith)).short, place_short placed place k))
-
--- THE END OF A LINE of m bytes: its last n
-module _ (m n : ℕ) (line : List ℕ) (room : length line ≡ m) (short : n ≤ m) where
-  abbrev end : List ℕ
-  end = take (m - (m - n)) (drop (m - n) line)
-
-  pub end_length : length end ≡ n
-  end_length =
-      let e : m - (m - n) ≡ n = omega arith in
-      let d = length-drop (m - n) line in
-      length-take-le (m - (m - n)) (drop (m - n) line) (omega (arith, d)) ∙ e
-
-  -- it is all that is copied
-  pub whole_end : (out : List ℕ) → end ++ drop n out ≡ take (length end) end ++ drop (length end) out
-  whole_end out = (λ i. sym (take_all (length end) end (omega arith)) i ++ drop (sym end_length i) out)
+line_short n place h k = simp length-append (omega (arith, (digits_room 2 n (omega arith)).short, place_short place k))
 
 -- THE IMAGE
 gather_few : {A B : Type 0} (g : A → List B) (ok : A → Bool) (m : ℕ) → ((x : A) → ok x ≡ true → length (g x) ≤ m)

@@ -10,35 +10,37 @@ ghost use Rattle.model.specs.Listing.{listing};
 ghost use Rattle.model.specs.Outcome.{accepted};
 ghost use Rattle.model.specs.Printed.{place_text, refused_line, printed};
 ghost use Rattle.refusals.specs.Told.{place_of};
-ghost use Rattle.listing_writer.specs.Prepends.{Prepends};
+ghost use Rattle.listing_writer.specs.Prepends.{Writes};
 ghost use Rattle.listing_report.specs.Shows.{Shows, ShowsRefusal};
 
-use listing_writer::puts;
-use model::{Refusal, Written};
+use listing_writer::Listing;
+use model::Refusal;
+use number_listing::digits;
 use refusals::Told;
 
 // No line of a refusal is longer.
 const LINE: usize = 64;
 
-fn place(out: &mut [u8], k: usize, t: Told) -> usize
-    ensures { Prepends k result (place_text (place_of t.placed t.place)) out.old out.new }
+fn place(out: &mut Listing<LINE>, t: Told)
+    ensures { Writes (place_text (place_of t.place)) out.old out.new }
 {
-    if t.placed {
-        return number_listing::digits(out, k, t.place);
+    match t.place {
+        Some(n) => digits(out, n),
+        None => out.puts(b"none"),
     }
-    puts(out, k, b"none")
 }
 
-fn refused_line(out: &mut [u8], k: usize, t: Told) -> usize
-    ensures prepends { Prepends k result (refused_line t.number (place_of t.placed t.place))
+#[tactic(auto, using(listing_writer::proofs::Prepends::parts), unfolding(model::specs::Printed::refused_line))]
+fn refused_line(out: &mut Listing<LINE>, t: Told)
+    ensures writes { Writes (refused_line t.number (place_of t.place))
         out.old out.new }
-    ensures short { length (refused_line t.number (place_of t.placed t.place)) ≤ 64 }
+    ensures short { length (refused_line t.number (place_of t.place)) ≤ 64 }
 {
-    let a = puts(out, k, b"\n");
-    let b = place(out, a, t);
-    let c = puts(out, b, b" at ");
-    let d = number_listing::digits(out, c, t.number as usize);
-    puts(out, d, b"refused ")
+    out.puts(b"\n");
+    place(out, t);
+    out.puts(b" at ");
+    digits(out, t.number as usize);
+    out.puts(b"refused ");
 }
 
 // The line of a refusal.
@@ -47,10 +49,10 @@ fn refused(why: Refusal, out: &mut [u8]) -> usize
     ensures { ShowsRefusal why result out.old out.new }
 {
     let t = refusals::number_and_place(why);
-    let mut line = [0u8; LINE];
-    let n = refused_line(&mut line, 0, t);
-    let first = LINE - n;
-    out[..n].copy_from_slice(&line[first..]);
+    let mut line = Listing::<LINE>::new();
+    refused_line(&mut line, t);
+    let n = line.count();
+    out[..n].copy_from_slice(line.text());
     n
 }
 
@@ -61,8 +63,8 @@ fn listed(img: &[u8], out: &mut [u8]) -> usize
         → Shows (listing b) result out.old out.new }
 {
     match lister::list(img, out) {
-        Written::Bytes(n) => n,
-        Written::Refused(why) => refused(why, out),
+        Ok(n) => n,
+        Err(why) => refused(why, out),
     }
 }
 
@@ -73,7 +75,7 @@ pub fn print(s: &[u8], out: &mut [u8]) -> usize
 {
     let mut image = [0u8; bounds::IMAGE];
     match reader::read(s, &mut image) {
-        Written::Bytes(n) => listed(&image[..n], out),
-        Written::Refused(why) => refused(why, out),
+        Ok(n) => listed(&image[..n], out),
+        Err(why) => refused(why, out),
     }
 }

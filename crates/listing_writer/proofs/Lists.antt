@@ -1,51 +1,50 @@
 -- Items of a table written from the last to the first: one after the other, and with commas between.
 use mathlib.Core.Path.{◌≡◌, refl, ap, ◌∙◌}
 use mathlib.Core.List.{List, [], ◌∷◌, ◌++◌, map}
+use lib.ListN.{length, length-map}
 use Prim.Native.Nat.{ℕ, suc, ◌+◌, ◌-◌, ◌≤◌, ◌<◌}
 use native.Mathlib.Omega.{arith}
-use lib.ListN.{length, length-map}
 use Rattle.model.specs.Basic.{bytes, gather, tab}
+use Rattle.listing_writer.proofs.Prepends.{parts}
 use Rattle.model.specs.Listing.{commaed}
 use Rattle.laws.proofs.Places.{length_tab}
-use Rattle.listing_writer.specs.Prepends.{Prepends}
-use Rattle.listing_writer.proofs.Prepends.{joined, nothing}
 
--- the items from i on, of n from s on
-abbrev pub from : {A : Type 0} → (ℕ → A) → ℕ → ℕ → ℕ → List A
-from g s n i = tab g (n - i) (s + i)
+-- the items of a table from place i to below e
+unfoldable pub from : {A : Type 0} → (ℕ → A) → ℕ → ℕ → List A
+from g e i = tab g (e - i) i
 
-module _ {A : Type 0} (g : ℕ → A) (s n : ℕ) where
-  from_end : from g s n n ≡ []
-  unfolding tab
-  from_end = let z : n - n ≡ 0 = omega arith in rw z
+module _ {A : Type 0} (g : ℕ → A) where
+  from_end : (e : ℕ) → from g e e ≡ []
+  unfolding from tab
+  from_end e = let z : e - e ≡ 0 = omega arith in rw z
 
-  pub from_more : (i : ℕ) → 0 < i → i ≤ n → from g s n (i - 1) ≡ g (s + (i - 1)) ∷ from g s n i
-  unfolding tab
-  from_more i h l =
-      let a : n - (i - 1) ≡ suc (n - i) = omega arith in
-      let b : suc (s + (i - 1)) ≡ s + i = omega arith in
+  from_more : (e i : ℕ) → 0 < i → i ≤ e → from g e (i - 1) ≡ g (i - 1) ∷ from g e i
+  unfolding from tab
+  from_more e i h l =
+      let a : e - (i - 1) ≡ suc (e - i) = omega arith in
+      let b : suc (i - 1) ≡ i = omega arith in
       rw (a, b) refl
 
-  pub from_all : (i : ℕ) → i ≤ 0 → from g s n i ≡ tab g n s
-  from_all i h =
-      let a : n - i ≡ n = omega arith in
-      let b : s + i ≡ s = omega arith in
-      λ j. tab g (a j) (b j)
-
 -- ONE AFTER THE OTHER
-module _ {A : Type 0} (f : A → List ℕ) (g : ℕ → A) (s n : ℕ) {k : ℕ} {old : List ℕ} where
-  pub items_none : Prepends k k (gather f (from g s n n)) old old
+module _ {A : Type 0} (f : A → List ℕ) (g : ℕ → A) where
+  pub items_none : (e i : ℕ) → i ≡ e → gather f (from g e i) ≡ []
   unfolding gather
-  items_none = rw (from_end g s n) (nothing k old)
+  items_none e i h = rw (h, from_end g e)
 
-  pub items_more : (p q i : ℕ) (mid new : List ℕ) → 0 < i → i ≤ n → Prepends k p (gather f (from g s n i)) old mid
-      → Prepends p q (f (g (s + (i - 1)))) mid new → Prepends k q (gather f (from g s n (i - 1))) old new
+  pub items_more : (e i : ℕ) → 0 < i → i ≤ e → gather f (from g e (i - 1)) ≡ f (g (i - 1)) ++ gather f (from g e i)
   unfolding gather
-  items_more p q i mid new h l v w = rw (from_more g s n i h l) (joined v w)
+  items_more e i h l = rw (from_more g e i h l) refl
 
-  pub items_all : (p i : ℕ) (new : List ℕ) → i ≤ 0 → Prepends k p (gather f (from g s n i)) old new
-      → Prepends k p (gather f (tab g n s)) old new
-  items_all p i new h v = rw (from_all g s n i h) at v
+  pub items_all : (n i : ℕ) → i ≡ 0 → gather f (from g n i) ≡ gather f (tab g n 0)
+  unfolding from
+  items_all n i h = let d : n - i ≡ n = omega arith in rw (d, h)
+
+  pub items_from : (a n i : ℕ) → i ≡ a → gather f (from g (a + n) i) ≡ gather f (tab g n a)
+  unfolding from
+  items_from a n i h = let d : a + n - a ≡ n = omega arith in rw (h, d)
+
+-- items written from the last to the first
+pub ruleset items = (parts, items_none, items_more, items_all, items_from)
 
 -- WITH COMMAS BETWEEN
 commaed_cons : (s : List ℕ) (ss : List (List ℕ)) → 0 < length ss → commaed (s ∷ ss) ≡ s ++ (bytes ", " ++ commaed ss)
@@ -53,28 +52,33 @@ unfolding commaed
 commaed_cons s [] h = absurd (omega arith)
 commaed_cons s (t ∷ ss) h = refl
 
-module _ {A : Type 0} (f : A → List ℕ) (g : ℕ → A) (s n : ℕ) {k : ℕ} {old : List ℕ} where
-  pub commaed_empty : n ≡ 0 → Prepends k k (commaed (map f (tab g n s))) old old
-  unfolding commaed tab
-  commaed_empty e = rw e (nothing k old)
+module _ {A : Type 0} (f : A → List ℕ) (g : ℕ → A) where
+  pub commaed_none : (e i : ℕ) → i ≡ e → commaed (map f (from g e i)) ≡ []
+  unfolding commaed
+  commaed_none e i h = rw (h, from_end g e)
 
   -- the last item
-  pub commaed_last : (q i : ℕ) (new : List ℕ) → 0 < i → i ≡ n → Prepends k q (f (g (s + (i - 1)))) old new
-      → Prepends k q (commaed (map f (from g s n (i - 1)))) old new
+  pub commaed_last : (e i : ℕ) → 0 < i → i ≡ e → commaed (map f (from g e (i - 1))) ≡ f (g (i - 1))
   unfolding commaed
-  commaed_last q i new h l w =
-      let e : from g s n i ≡ [] = ap (from g s n) l ∙ from_end g s n in
-      rw (from_more g s n i h (omega arith)) (rw e w)
+  commaed_last e i h l =
+      let n : from g e i ≡ [] = ap (from g e) l ∙ from_end g e in
+      rw (from_more g e i h (omega arith)) (rw n refl)
 
   -- an item and a comma before the others
-  pub commaed_more : (p m q i : ℕ) (mid mid' new : List ℕ) → 0 < i → i < n
-      → Prepends k p (commaed (map f (from g s n i))) old mid → Prepends p m (bytes ", ") mid mid'
-      → Prepends m q (f (g (s + (i - 1)))) mid' new → Prepends k q (commaed (map f (from g s n (i - 1)))) old new
-  commaed_more p m q i mid mid' new h l v c w =
-      let long : 0 < length (map f (from g s n i)) = omega (arith, length-map (from g s n i) f, length_tab g (n - i) (s + i)) in
-      let e = commaed_cons (f (g (s + (i - 1)))) (map f (from g s n i)) long in
-      rw (from_more g s n i h (omega arith)) (rw e (joined (joined v c) w))
+  pub commaed_more : (e i : ℕ) → 0 < i → i < e
+      → commaed (map f (from g e (i - 1))) ≡ f (g (i - 1)) ++ (bytes ", " ++ commaed (map f (from g e i)))
+  unfolding from
+  commaed_more e i h l =
+      let long : 0 < length (map f (from g e i)) = omega (arith, length-map (from g e i) f, length_tab g (e - i) i) in
+      rw (from_more g e i h (omega arith)) (commaed_cons (f (g (i - 1))) (map f (from g e i)) long)
 
-  pub commaed_all : (p i : ℕ) (new : List ℕ) → i ≤ 0 → Prepends k p (commaed (map f (from g s n i))) old new
-      → Prepends k p (commaed (map f (tab g n s))) old new
-  commaed_all p i new h v = rw (from_all g s n i h) at v
+  pub commaed_all : (n i : ℕ) → i ≡ 0 → commaed (map f (from g n i)) ≡ commaed (map f (tab g n 0))
+  unfolding from
+  commaed_all n i h = let d : n - i ≡ n = omega arith in rw (d, h)
+
+  pub commaed_from : (a n i : ℕ) → i ≡ a → commaed (map f (from g (a + n) i)) ≡ commaed (map f (tab g n a))
+  unfolding from
+  commaed_from a n i h = let d : a + n - a ≡ n = omega arith in rw (h, d)
+
+-- such items written from the last to the first
+pub ruleset commaed_items = (parts, commaed_none, commaed_last, commaed_more, commaed_all, commaed_from)

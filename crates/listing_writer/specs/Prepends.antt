@@ -1,6 +1,7 @@
 -- A helper: a text written from the end of a buffer to its front. `listing_writer/proofs/Prepends.stands` ties it to the
 -- text: where there is room, the buffer ends with it.
 use Rattle.std.specs.Prelude.{◌≡◌, List, [], ◌∷◌, ℕ, suc, ◌-◌, ltb, length, set, if◌then◌else◌}
+use Rattle.listing_writer.specs.declared.Listing.{Listing}
 
 -- the greatest number of bytes that is counted
 abbrev pub top : ℕ
@@ -25,3 +26,7 @@ prepended k (x ∷ xs) old = set_before (prepended k xs old) (count_after k xs) 
 pub record Prepends (k r : ℕ) (xs old new : List ℕ) : Type 0 where
   pub count : r ≡ count_after k xs
   pub contents : new ≡ prepended k xs old
+
+-- xs was written before the listing old, which is new then
+abbrev pub Writes : {N : ℕ} → List ℕ → Listing N → Listing N → Type 0
+Writes xs old new = Prepends old.count new.count xs old.bytes new.bytes

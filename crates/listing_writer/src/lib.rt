@@ -1,55 +1,67 @@
-// Bytes of a listing, written from the end of a lent buffer to its front: numbers and conditions are read from their
-// ends, so each is written in one pass. k counts the bytes written already; what does not fit is only counted.
+// The bytes of a listing.
 #![tactic(auto)]
 
-ghost use Rattle.std.specs.Prelude.{[], ◌∷◌, ◌+◌, ◌≤◌, length};
-ghost use Rattle.listing_writer.specs.Prepends.{Prepends};
+ghost use Rattle.std.specs.Prelude.{◌≡◌, [], ◌∷◌, ◌-◌, ◌≤◌, length, drop};
+ghost use Rattle.listing_writer.specs.Prepends.{Writes};
 
-// A byte before the last k, if there is room; the count with it.
-pub fn put(out: &mut [u8], k: usize, c: u8) -> usize
-    ensures { Prepends k result (c ∷ []) out.old out.new }
-{
-    let n = out.len();
-    if k < n {
-        out[n - 1 - k] = c;
-        return k + 1;
-    }
-    if k < 18446744073709551615 {
-        return k + 1;
-    }
-    k
+// A text that grows from its end to its front: numbers and conditions are read from their ends, so each is written in
+// one pass. It stands at the end of the bytes; what does not fit is only counted.
+#[derive(Drop)]
+pub struct Listing<const N: usize> {
+    bytes: [u8; N],
+    count: usize,
 }
 
-// A text before the last k bytes, all of which has room there.
-fn fill(out: &mut [u8], k: usize, s: &[u8]) -> usize
-    requires { k + length s.now ≤ length out.old }
-    ensures { Prepends k result s.now out.old out.new }
-{
-    let m = s.len();
-    let first = out.len() - k - m;
-    let mut i = m;
-    while 0 < i {
-        i -= 1;
-        out[first + i] = s[i];
-    }
-    k + m
-}
-
-// A text before the last k bytes.
-pub fn puts(out: &mut [u8], k: usize, s: &[u8]) -> usize
-    ensures { Prepends k result s.now out.old out.new }
-{
-    let m = s.len();
-    if m <= out.len() {
-        if k <= out.len() - m {
-            return fill(out, k, s);
+impl<const N: usize> Listing<N> {
+    // With nothing written.
+    pub fn new() -> Listing<N>
+        ensures { result.count ≡ 0 }
+    {
+        Listing {
+            bytes: [0; N],
+            count: 0,
         }
     }
-    let mut p = k;
-    let mut i = m;
-    while 0 < i {
-        p = put(out, p, s[i - 1]);
-        i -= 1;
+
+    // A byte before the text.
+    pub fn put(&mut self, c: u8)
+        ensures { Writes (c ∷ []) self.old self.new }
+    {
+        if self.count < N {
+            self.bytes[N - 1 - self.count] = c;
+        }
+        self.count = self.count.saturating_add(1);
     }
-    p
+
+    // A text before it.
+    pub fn puts(&mut self, s: &[u8])
+        ensures { Writes s.now self.old self.new }
+    {
+        if s.len() <= N && self.count <= N - s.len() {
+            let end = N - self.count;
+            let bytes = &mut self.bytes[..];
+            bytes[end - s.len()..end].copy_from_slice(s);
+            self.count += s.len();
+        } else {
+            for i in (0..s.len()).rev() {
+                self.put(s[i]);
+            }
+        }
+    }
+
+    // How many bytes it has.
+    pub fn count(&self) -> usize
+        ensures { result ≡ self.now.count }
+    {
+        self.count
+    }
+
+    // The text, if it fits.
+    pub fn text(&self) -> &[u8]
+        requires { self.now.count ≤ N }
+        ensures { result.now ≡ drop (N - self.now.count) self.now.bytes }
+    {
+        let bytes = &self.bytes[..];
+        &bytes[N - self.count..]
+    }
 }

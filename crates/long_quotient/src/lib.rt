@@ -10,7 +10,7 @@ fn shift_below(b: u64, r: u64) -> u32
     ensures result_bound { (b * 2 ^ result ≤ r) × (r < b * 2 ^ (result + 1)) }
     ensures small { result < 64 }
 {
-    let k = u64::leading_zeros(b) - u64::leading_zeros(r);
+    let k = b.leading_zeros() - r.leading_zeros();
     if b << k <= r { k } else { k - 1 }
 }
 

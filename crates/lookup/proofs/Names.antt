@@ -1,67 +1,43 @@
 -- Laws of names as places in a text: when two are the same, rows by their names, and a table with one more.
-use mathlib.Core.Path.{◌≡◌, refl, sym, ◌∙◌}
-use mathlib.Core.List.{List}
+use Rattle.std.specs.Prelude.{Some, None, is_some}
+use Rattle.std.specs.declared.option.Option.{Option}
+use mathlib.Core.Path.{◌≡◌, sym, refl, ◌∙◌}
+use mathlib.Core.List.{List, [], ◌∷◌}
 use mathlib.Core.Bool.{Bool, true, false, and-false}
-use Prim.Native.Nat.{ℕ, zero, suc, ◌+◌, ◌-◌, ◌≤◌, ◌<◌}
+use Prim.Native.Nat.{ℕ, zero, suc, ◌+◌, ◌≤◌, ◌<◌}
+use native.Mathlib.Numerals.{add-one}
 use native.Mathlib.Omega.{arith}
 use borrow.Author.Tests.{eqb-true, eqb-false}
-use lib.Arith.{lt_of_le-ne}
 use lib.Dec.{eqb}
-use lib.ListN.{length, get_or, set, length-set}
-use lib.Seq.{slice, slice-cons, slice_empty, length-slice, get_or-set_same, get_or-set_other}
+use lib.ListN.{length, drop, get_or, set, length-set, drop_of_length-le}
+use lib.Seq.{drop-cons, get_or-set_same, get_or-set_other}
 use Rattle.model.specs.Basic.{index_of, capital, tab}
 use Rattle.model.specs.Bounds.{symbol_limit}
 use Rattle.model.specs.Tokens.{same_name}
 use Rattle.laws.proofs.Words.{other_word}
-use Rattle.lookup.specs.Names.{Placed}
+use Rattle.lookup.specs.Names.{Placed, among, Found}
 
--- NAMES OF DIFFERENT LENGTHS, AND BYTE BY BYTE
-module _ (s : List ℕ) (a e b f : ℕ) (he : e ≤ length s) (hf : f ≤ length s) where
-  pub differ_long : (e - a ≡ f - b → ⊥) → same_name (slice a e s) (slice b f s) ≡ false
+-- TWO TEXTS, BYTE BY BYTE
+module _ (v w : List ℕ) (i : ℕ) where
+  pub no_more : length v ≤ i → length w ≤ i → same_name (drop i v) (drop i w) ≡ true
   unfolding same_name
-  differ_long h = other_word (slice a e s) (slice b f s) (λ q. h (sym (length-slice a e s he) ∙ q ∙ length-slice b f s hf))
+  no_more h g = rw (drop_of_length-le v h, drop_of_length-le w g) refl
 
-pub differ_at : (s : List ℕ) (j a e b f : ℕ) → e ≤ length s → f ≤ length s → a + j < e → b + j < f → eqb (capital (get_or s (a + j) 0)) (capital (get_or s (b + j) 0)) ≡ false
-    → same_name (slice a e s) (slice b f s) ≡ false
+  pub one_more : i < length v → i < length w → eqb (capital (get_or v i 0)) (capital (get_or w i 0)) ≡ true → same_name (drop (i + 1) v) (drop (i + 1) w) ≡ true
+      → same_name (drop i v) (drop i w) ≡ true
+  unfolding same_name
+  one_more h g e q = rw (drop-cons v i 0 h, drop-cons w i 0 g, e) (rw add-one at q)
+
+pub differ_at : (v w : List ℕ) (i : ℕ) → i < length v → i < length w → eqb (capital (get_or v i 0)) (capital (get_or w i 0)) ≡ false → same_name v w ≡ false
 unfolding same_name
-differ_at s zero a e b f he hf ha hb q =
-    let p : a + 0 ≡ a = omega arith in
-    let r : b + 0 ≡ b = omega arith in
-    rw (slice-cons a e s 0 (omega arith) he, slice-cons b f s 0 (omega arith) hf) (simp (rw (p, r) at q))
-differ_at s (suc j) a e b f he hf ha hb q =
-    let p : a + suc j ≡ suc a + j = omega arith in
-    let r : b + suc j ≡ suc b + j = omega arith in
-    rw (
-      slice-cons a e s 0 (omega arith) he,
-      slice-cons b f s 0 (omega arith) hf,
-      differ_at s j (suc a) e (suc b) f he hf (omega arith) (omega arith) (rw (p, r) at q),
-    ) (and-false (eqb (capital (get_or s a 0)) (capital (get_or s b 0))))
+differ_at [] w i h g e = absurd (omega arith)
+differ_at (c ∷ v) [] i h g e = absurd (omega arith)
+differ_at (c ∷ v) (d ∷ w) zero h g e = rw e refl
+differ_at (c ∷ v) (d ∷ w) (suc i) h g e = rw (differ_at v w i (omega arith) (omega arith) e) (and-false (eqb (capital c) (capital d)))
 
-pub agree : (s : List ℕ) (n a e b f : ℕ) → a + n ≡ e → b + n ≡ f → e ≤ length s → f ≤ length s
-    → ((k : ℕ) → k < n → eqb (capital (get_or s (a + k) 0)) (capital (get_or s (b + k) 0)) ≡ true) → same_name (slice a e s) (slice b f s) ≡ true
+pub differ_long : (v w : List ℕ) → (length v ≡ length w → ⊥) → same_name v w ≡ false
 unfolding same_name
-agree s zero a e b f ha hb he hf q =
-    let p : a ≡ e = omega arith in
-    let r : b ≡ f = omega arith in
-    rw (p, r, slice_empty e s, slice_empty f s)
-agree s (suc n) a e b f ha hb he hf q =
-    let p : a + 0 ≡ a = omega arith in
-    let r : b + 0 ≡ b = omega arith in
-    let z : eqb (capital (get_or s a 0)) (capital (get_or s b 0)) ≡ true = rw (p, r) at (q 0 (omega arith)) in
-    rw (slice-cons a e s 0 (omega arith) he, slice-cons b f s 0 (omega arith) hf)
-    (simp z (agree s n (suc a) e (suc b) f (omega arith) (omega arith) he hf
-    (λ k h.
-    let u : a + suc k ≡ suc a + k = omega arith in
-    let t : b + suc k ≡ suc b + k = omega arith in
-    rw (u, t) at (q (suc k) (omega arith)))))
-
--- one place more, downwards
-pub one_back : (P : ℕ → Type 0) (j n : ℕ) → 0 < j → P (j - 1) → ((m : ℕ) → j ≤ m → m < n → P m) → (m : ℕ) → j - 1 ≤ m → m < n → P m
-one_back P j n h p q m a b = by (eqb m (j - 1)) refl
-  where
-    by : (t : Bool) → eqb m (j - 1) ≡ t → P m
-    by true e = rw (eqb-true m (j - 1) e) p
-    by false e = let z = lt_of_le-ne a (λ w. eqb-false m (j - 1) e (sym w)) in q m (omega arith) b
+differ_long v w h = other_word v w h
 
 -- rows are found by their names
 pub index_tab : {A : Type 0} (name : A → List ℕ) (f : ℕ → A) (g : ℕ → List ℕ) (w : List ℕ) → ((k : ℕ) → name (f k) ≡ g k)
@@ -101,3 +77,13 @@ module _ (s names : List ℕ) (k a e : ℕ) where
       inside j true u q r = rw (eqb-true j k q, start_same hk n) (omega arith)
       inside j false true q r = rw (eqb-true j (symbol_limit + k) r, end_same hk n) es
       inside j false false q r = rw (place_other j (eqb-false j k q) (eqb-false j (symbol_limit + k) r)) (p.inside j)
+
+-- A NAME THAT IS LOOKED UP
+module _ (s names w : List ℕ) (n k : ℕ) where
+  pub taken : (r : Option ℕ) → Found s names w n k r → is_some r ≡ true → among s names w n k < n
+  taken None f e = cc
+  taken (Some i) f e = rw (sym f.0) f.1
+
+  pub free : (r : Option ℕ) → Found s names w n k r → is_some r ≡ false → n ≤ among s names w n k
+  free None f e = omega (arith, f)
+  free (Some i) f e = cc

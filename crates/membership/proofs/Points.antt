@@ -27,22 +27,21 @@ module _ (f : ℕ → Point) (x : ℤ) where
       rw (t, e, q) refl
 
   -- below the next point, at or above it, and with no next
-  module _ (i e : ℕ) where
-    next : i + 1 < e → tab f (e - (i + 1)) (i + 1) ≡ f (i + 1) ∷ tab f (e - (i + 1 + 1)) (i + 1 + 1)
+  module _ (p i e : ℕ) where
+    next : i < e → tab f (e - i) i ≡ f i ∷ tab f (e - (i + 1)) (i + 1)
     unfolding tab
     next h =
-        let q : suc (i + 1) ≡ i + 1 + 1 = omega arith in
-        ap (λ (k : ℕ). tab f k (i + 1)) (step e (i + 1) h) ∙ ap (λ (k : ℕ). f (i + 1) ∷ tab f (e - (i + 1 + 1)) k) q
+        let q : suc i ≡ i + 1 = omega arith in
+        ap (λ (k : ℕ). tab f k i) (step e i h) ∙ ap (λ (k : ℕ). f i ∷ tab f (e - (i + 1)) k) q
 
-    pub below_next : i + 1 < e → lt_z x (f (i + 1)).at ≡ true → degree_from x (f i) (tab f (e - (i + 1)) (i + 1)) ≡ on_line x (f i) (f (i + 1))
+    pub below_next : i < e → lt_z x (f i).at ≡ true → degree_from x (f p) (tab f (e - i) i) ≡ on_line x (f p) (f i)
     unfolding degree_from
     below_next h t = rw (next h, t) refl
 
-    pub after_next : i + 1 < e → lt_z x (f (i + 1)).at ≡ false
-        → degree_from x (f i) (tab f (e - (i + 1)) (i + 1)) ≡ degree_from x (f (i + 1)) (tab f (e - (i + 1 + 1)) (i + 1 + 1))
+    pub after_next : i < e → lt_z x (f i).at ≡ false → degree_from x (f p) (tab f (e - i) i) ≡ degree_from x (f i) (tab f (e - (i + 1)) (i + 1))
     unfolding degree_from
     after_next h t = rw (next h, t) refl
 
-    pub at_last : e ≤ i + 1 → degree_from x (f i) (tab f (e - (i + 1)) (i + 1)) ≡ (f i).degree
+    pub at_last : e ≤ i → degree_from x (f p) (tab f (e - i) i) ≡ (f p).degree
     unfolding degree_from tab
-    at_last h = rw (gone e (i + 1) h) refl
+    at_last h = rw (gone e i h) refl

@@ -9,6 +9,7 @@ use Prim.Native.Nat.{ℕ}
 use lib.Ieee.{Float, nan, inf, fin, binary32, binary64, of_int, of_bits, to_bits}
 use lib.IntN.{ℤ, pos, negsuc, nat_abs}
 use lib.ListN.{get_or}
+use Rattle.std.specs.Prelude.{Result, Ok, Err}
 use Rattle.model.specs.Block.{Term, Range, Output, term, Block, real, int, min-max, by-max, by-min, by-prod, block_of, with_act}
 use Rattle.model.specs.Outcome.{Outcome, accepted, refused}
 use Rattle.model.specs.Readings.{real_of, taken, value_in, float_of}
@@ -18,11 +19,11 @@ use Rattle.model.specs.declared.Mark.{Mark}
 use Rattle.model.specs.declared.Mark.TheVariants.{None, Fired, Default, Held as HeldMark}
 use Rattle.model.specs.declared.Held.{Held}
 use Rattle.model.specs.declared.Evaluation.{Evaluation}
+use Rattle.model.specs.declared.Refusal.{Refusal}
 use Rattle.model.specs.declared.Refusal.TheVariants.{WrongCount, WrongHeld}
-use Rattle.model.specs.declared.Verdict.{Verdict}
-use Rattle.model.specs.declared.Verdict.TheVariants.{Accepted, Refused}
-use Rattle.model.specs.declared.Taken.{Taken}
-use Rattle.model.specs.declared.Taken.TheVariants.{Value, Absent as Missing, NotFinite, WrongKind}
+use Rattle.model.specs.declared.Crisp.{Crisp}
+use Rattle.model.specs.declared.NotTaken.{NotTaken}
+use Rattle.model.specs.declared.NotTaken.TheVariants.{Absent as Missing, NotFinite, WrongKind}
 use Rattle.model.specs.declared.Reading.{Reading}
 use Rattle.model.specs.declared.Reading.TheVariants.{Real, Int, Absent}
 use Rattle.model.proofs.Opened.{opened}
@@ -44,21 +45,21 @@ real_values :
 unfolding opened
 real_values = refl
 
-abbrev crisp : ℤ → Taken
-crisp x = Value (record { 0 = x })
+abbrev crisp : ℤ → Result Crisp NotTaken
+crisp x = Ok (record { 0 = x })
 
 -- what each kind of reading is to a REAL and to an INT
 real_readings : map (taken real) (Real (fin true 5 (pos 0)) ∷ Real (inf false) ∷ Real (inf true) ∷ Real nan ∷ Int (pos 5) ∷ Absent ∷ [])
-    ≡ crisp (negsuc 4999) ∷ NotFinite ∷ NotFinite ∷ NotFinite ∷ WrongKind ∷ Missing ∷ []
+    ≡ crisp (negsuc 4999) ∷ Err NotFinite ∷ Err NotFinite ∷ Err NotFinite ∷ Err WrongKind ∷ Err Missing ∷ []
 unfolding opened
 real_readings = refl
 
 int_readings : map (taken int) (Int (pos 32767) ∷ Int (negsuc 32767) ∷ Int (pos 0) ∷ Real (fin false 5 (pos 0)) ∷ Real nan ∷ Absent ∷ [])
-    ≡ crisp (pos 32767000) ∷ crisp (negsuc 32767999) ∷ crisp (pos 0) ∷ WrongKind ∷ WrongKind ∷ Missing ∷ []
+    ≡ crisp (pos 32767000) ∷ crisp (negsuc 32767999) ∷ crisp (pos 0) ∷ Err WrongKind ∷ Err WrongKind ∷ Err Missing ∷ []
 unfolding opened
 int_readings = refl
 
-no_values : map value_in (Missing ∷ NotFinite ∷ WrongKind ∷ []) ≡ none ∷ none ∷ none ∷ []
+no_values : map value_in (Err Missing ∷ Err NotFinite ∷ Err WrongKind ∷ []) ≡ none ∷ none ∷ none ∷ []
 no_values = refl
 
 -- thousandths / 1000 as a 64-bit float
@@ -183,7 +184,7 @@ one = answer HeldMark (pos 7) 0 0x3f7cac083126e979
 abbrev before : Held
 before = held_of (pos 5 ∷ [])
 
-abbrev evaluation : Verdict → List Answer → Held → Evaluation
+abbrev evaluation : Result (Unit {0}) Refusal → List Answer → Held → Evaluation
 evaluation v given h = record { verdict = v; answers = padded no_answer given; held = h }
 
 abbrev TellsOne : Evaluation → Type 0
@@ -192,13 +193,13 @@ TellsOne r = Tells r before (accepted (call_result (one ∷ [])))
 abbrev TellsRefused : Evaluation → Type 0
 TellsRefused r = Tells r before (refused 12 none)
 
-daily_call : leaving (record { verdict = Refused WrongCount; answers = padded no_answer (one ∷ []) }) before ≡ evaluation (Refused WrongCount) (one ∷ []) before
+daily_call : leaving (record { verdict = Err WrongCount; answers = padded no_answer (one ∷ []) }) before ≡ evaluation (Err WrongCount) (one ∷ []) before
 daily_call = refl
 
-told : TellsOne (evaluation Accepted (one ∷ []) (held_of (pos 7 ∷ [])))
+told : TellsOne (evaluation (Ok tt) (one ∷ []) (held_of (pos 7 ∷ [])))
 told = record { verdict = refl; answers = refl; held = refl }
 
-told_refused : TellsRefused (evaluation (Refused WrongCount) [] before)
+told_refused : TellsRefused (evaluation (Err WrongCount) [] before)
 told_refused = record { verdict = refl; answers = refl; held = refl }
 
 abbrev number_in : Outcome (Unit {0}) → ℕ
@@ -211,20 +212,20 @@ first_answer given = get_or (map (λ a. nat_abs a.thousandths.0) given) 0 0
 abbrev first_figure : Held → ℕ
 first_figure h = get_or (map (λ c. nat_abs c.0) h.figures) 0 0
 
-verdict_not_told : TellsOne (evaluation (Refused WrongCount) (one ∷ []) (held_of (pos 7 ∷ []))) → ⊥
+verdict_not_told : TellsOne (evaluation (Err WrongCount) (one ∷ []) (held_of (pos 7 ∷ []))) → ⊥
 verdict_not_told t = let z : ◌≡◌ {A = ℕ} 12 0 = ap number_in t.verdict in omega (arith, z)
 
-number_not_told : TellsRefused (evaluation (Refused WrongHeld) [] before) → ⊥
+number_not_told : TellsRefused (evaluation (Err WrongHeld) [] before) → ⊥
 number_not_told t = let z : ◌≡◌ {A = ℕ} 13 12 = ap number_in t.verdict in omega (arith, z)
 
-answers_not_told : TellsOne (evaluation Accepted [] (held_of (pos 7 ∷ []))) → ⊥
+answers_not_told : TellsOne (evaluation (Ok tt) [] (held_of (pos 7 ∷ []))) → ⊥
 answers_not_told t = let z : ◌≡◌ {A = ℕ} 0 7 = ap first_answer t.answers in omega (arith, z)
 
-refused_not_answered : TellsRefused (evaluation (Refused WrongCount) (one ∷ []) before) → ⊥
+refused_not_answered : TellsRefused (evaluation (Err WrongCount) (one ∷ []) before) → ⊥
 refused_not_answered t = let z : ◌≡◌ {A = ℕ} 7 0 = ap first_answer t.answers in omega (arith, z)
 
-held_not_told : TellsOne (evaluation Accepted (one ∷ []) before) → ⊥
+held_not_told : TellsOne (evaluation (Ok tt) (one ∷ []) before) → ⊥
 held_not_told t = let z : ◌≡◌ {A = ℕ} 5 7 = ap first_figure t.held in omega (arith, z)
 
-refused_not_moved : TellsRefused (evaluation (Refused WrongCount) [] (held_of (pos 7 ∷ []))) → ⊥
+refused_not_moved : TellsRefused (evaluation (Err WrongCount) [] (held_of (pos 7 ∷ []))) → ⊥
 refused_not_moved t = let z : ◌≡◌ {A = ℕ} 7 5 = ap first_figure t.held in omega (arith, z)

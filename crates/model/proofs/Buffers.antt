@@ -6,6 +6,7 @@ use mathlib.Core.Path.{◌≡◌, refl, ap}
 use Prim.Native.Nat.{ℕ}
 use native.Mathlib.Omega.{arith}
 use lib.ListN.{length, drop, replicate}
+use Rattle.std.specs.Prelude.{Ok, Err}
 use Rattle.model.specs.Basic.{bytes}
 use Rattle.model.specs.Outcome.{Outcome, accepted, refused, into, length_in, verdict_in, buffer_after}
 use Rattle.model.specs.Refusals.{refusal_of, written_of, verdict_of}
@@ -13,8 +14,6 @@ use Rattle.model.specs.Image.{image}
 use Rattle.model.specs.Buffers.{reads_into, lists_into, ReadsTo}
 use Rattle.model.specs.declared.Refusal.{Refusal}
 use Rattle.model.specs.declared.Refusal.TheVariants.{TextTooLong, WrongToken, WrongNumber, WrongName, NotDeclared, TooMany, WrongPosition, Unpaired, PartMissing, BufferTooShort, ImageNotAccepted, WrongCount, WrongHeld, WrongReading, TextOver}
-use Rattle.model.specs.declared.Written.TheVariants.{Bytes, Refused as NotWritten}
-use Rattle.model.specs.declared.Verdict.TheVariants.{Accepted, Refused as NotAccepted}
 use Rattle.model.proofs.Opened.{opened}
 use Rattle.model.proofs.Example.{example_text, trust, example_listing}
 
@@ -33,10 +32,10 @@ numbered =
 refusal_numbers : map (λ r. refusal_of {A = ℕ} r) refusals ≡ numbered
 refusal_numbers = refl
 
-written_numbers : map written_of (Bytes 5 ∷ map NotWritten refusals) ≡ accepted 5 ∷ numbered
+written_numbers : map written_of (Ok 5 ∷ map Err refusals) ≡ accepted 5 ∷ numbered
 written_numbers = refl
 
-verdict_numbers : map verdict_of (Accepted ∷ map NotAccepted refusals) ≡ accepted tt ∷ numbered
+verdict_numbers : map verdict_of (Ok tt ∷ map Err refusals) ≡ accepted tt ∷ numbered
 verdict_numbers = refl
 
 -- ROOM: one byte short, exact, one byte more

@@ -3,10 +3,11 @@ use mathlib.Core.Bool.{true, false, true≢false}
 use mathlib.Core.List.{List, [], ◌∷◌, ◌++◌, map, append-nil}
 use mathlib.Core.Option.{none, some}
 use mathlib.Core.Path.{◌≡◌, refl, sym, ap, ◌∙◌}
-use Prim.Native.Nat.{ℕ, ◌+◌, ◌≤◌}
+use Prim.Native.Nat.{ℕ, ◌≤◌}
 use native.Mathlib.Omega.{arith}
 use borrow.Author.Tests.{lt-ltb, le-ltb}
 use lib.ListN.{length, take, drop, replicate, length-drop}
+use Rattle.std.specs.Prelude.{Ok, Err}
 use Rattle.model.specs.Basic.{bytes, gather}
 use Rattle.model.specs.Bounds.{text_limit}
 use Rattle.model.specs.Outcome.{accepted, refused}
@@ -14,8 +15,6 @@ use Rattle.model.specs.Image.{image}
 use Rattle.model.specs.Buffers.{reads_into}
 use Rattle.model.specs.Chunks.{TextCall, chunk, finish, text_of, any_finish, is_over, answer, answer_after, TextState, is_open, bytes_in, answer_in, behind, closed, state_after, Made, appended, finished, call_of, state_then, Tells, Trace, EachCall}
 use Rattle.model.specs.declared.Refusal.TheVariants.{WrongToken, TextOver}
-use Rattle.model.specs.declared.Written.TheVariants.{Refused as NotWritten}
-use Rattle.model.specs.declared.Verdict.TheVariants.{Accepted, Refused as NotAccepted}
 use Rattle.model.proofs.Opened.{opened}
 use Rattle.model.proofs.Example.{example_text, trust}
 
@@ -158,9 +157,9 @@ module _ (s : List ℕ) (room : length s ≡ 65536) where
 
   abbrev made : List Made
   made =
-      appended (120 ∷ []) Accepted after_chunk ∷ appended [] Accepted after_chunk
-      ∷ finished (7 ∷ []) (NotWritten (WrongToken 0)) (7 ∷ []) after_end ∷ appended (32 ∷ []) (NotAccepted TextOver) after_end
-      ∷ finished (7 ∷ []) (NotWritten TextOver) (7 ∷ []) after_end ∷ []
+      appended (120 ∷ []) (Ok tt) after_chunk ∷ appended [] (Ok tt) after_chunk
+      ∷ finished (7 ∷ []) (Err (WrongToken 0)) (7 ∷ []) after_end ∷ appended (32 ∷ []) (Err TextOver) after_end
+      ∷ finished (7 ∷ []) (Err TextOver) (7 ∷ []) after_end ∷ []
 
   traced : Trace (state s 0) made
   unfolding opened

@@ -1,13 +1,12 @@
 -- W-201 of document 02: a text that comes in chunks, what each call is answered and leaves, and the claim on every list of
 -- calls.
-use Rattle.std.specs.Prelude.{Bool, true, false, ◌&&◌, ◌||◌, not, List, [], ◌∷◌, ◌++◌, ◌≡◌, ℕ, suc, ◌+◌, ◌≤◌, ltb, leb, length, take, drop, if◌then◌else◌}
+use Rattle.std.specs.Prelude.{Bool, true, false, ◌&&◌, ◌||◌, not, List, [], ◌∷◌, ◌++◌, ◌≡◌, ℕ, suc, ◌+◌, ◌≤◌, ltb, leb, length, take, drop, Result, if◌then◌else◌}
 use Rattle.std.proofs.Math.Option.{none, some}
 use Rattle.model.specs.Bounds.{text_limit}
 use Rattle.model.specs.Outcome.{Outcome, accepted, refused, verdict_in, length_in, buffer_after}
 use Rattle.model.specs.Refusals.{written_of, verdict_of}
 use Rattle.model.specs.Buffers.{reads_into}
-use Rattle.model.specs.declared.Verdict.{Verdict}
-use Rattle.model.specs.declared.Written.{Written}
+use Rattle.model.specs.declared.Refusal.{Refusal}
 
 -- CALLS
 -- bytes that have come, perhaps none; or the end, with the image buffer that is lent to it
@@ -77,8 +76,8 @@ state_after t (finish buffer) = if not (is_open t) then t else closed t
 -- A LIST OF CALLS AS A HOST MAKES IT
 -- a call, what was returned and the state then; of the end also the image buffer then
 pub data Made : Type 0 where
-  appended : List ℕ → Verdict → TextState → Made
-  finished : List ℕ → Written → List ℕ → TextState → Made
+  appended : List ℕ → Result (Unit {0}) Refusal → TextState → Made
+  finished : List ℕ → Result ℕ Refusal → List ℕ → TextState → Made
 
 abbrev pub call_of : Made → TextCall
 call_of (appended d r t) = chunk d

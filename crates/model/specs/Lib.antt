@@ -5,6 +5,7 @@ pub mod Refusals
 pub mod Keywords
 pub mod Tokens
 pub mod Block
+pub mod Ranges
 pub mod Parse
 pub mod Declarations
 pub mod Rules

@@ -1,5 +1,5 @@
 -- Readings: what a REAL, an INT or no reading at all is as a crisp value; and a crisp value as a 64-bit float.
-use Rattle.std.specs.Prelude.{Bool, ℕ, ◌*◌, Float, ℤ, pos, neg_ℤ, ◌*ℤ◌, if◌then◌else◌}
+use Rattle.std.specs.Prelude.{Bool, ℕ, ◌*◌, Float, ℤ, pos, neg_ℤ, ◌*ℤ◌, Result, Ok, Err, if◌then◌else◌}
 use Rattle.std.proofs.Math.Option.{Option, none, some}
 use Rattle.std.specs.Float.{nan, inf, fin, binary64}
 use Rattle.std.specs.Float.Ieee.{up, down, of_int, div}
@@ -7,8 +7,9 @@ use Rattle.std.specs.Int.Signed.{lt_z}
 use Rattle.model.specs.Bounds.{crisp_limit}
 use Rattle.model.specs.Block.{InputType, real, int}
 use Rattle.model.specs.Degrees.{nearestℤ}
-use Rattle.model.specs.declared.Taken.{Taken}
-use Rattle.model.specs.declared.Taken.TheVariants.{Value, Absent as Missing, NotFinite, WrongKind}
+use Rattle.model.specs.declared.Crisp.{Crisp}
+use Rattle.model.specs.declared.NotTaken.{NotTaken}
+use Rattle.model.specs.declared.NotTaken.TheVariants.{Absent as Missing, NotFinite, WrongKind}
 use Rattle.model.specs.declared.Reading.{Reading}
 use Rattle.model.specs.declared.Reading.TheVariants.{Real, Int, Absent}
 
@@ -22,25 +23,23 @@ clamped z =
 abbrev pub nearest_thousandth : Bool → ℕ → ℤ → ℤ
 nearest_thousandth s m e = nearestℤ (if s then neg_ℤ (pos (1000 * m * up e)) else pos (1000 * m * up e)) (down e)
 
-unfoldable pub real_of : Float → Taken
-real_of nan = NotFinite
-real_of (inf s) = NotFinite
-real_of (fin s m e) = Value (record { 0 = clamped (nearest_thousandth s m e) })
+unfoldable pub real_of : Float → Result Crisp NotTaken
+real_of nan = Err NotFinite
+real_of (inf s) = Err NotFinite
+real_of (fin s m e) = Ok (record { 0 = clamped (nearest_thousandth s m e) })
 
-unfoldable pub taken : InputType → Reading → Taken
+unfoldable pub taken : InputType → Reading → Result Crisp NotTaken
 taken real (Real x) = real_of x
-taken real (Int n) = WrongKind
-taken real Absent = Missing
-taken int (Real x) = WrongKind
-taken int (Int n) = Value (record { 0 = n *ℤ pos 1000 })
-taken int Absent = Missing
+taken real (Int n) = Err WrongKind
+taken real Absent = Err Missing
+taken int (Real x) = Err WrongKind
+taken int (Int n) = Ok (record { 0 = n *ℤ pos 1000 })
+taken int Absent = Err Missing
 
 -- none where the reading is absent, not finite or not of the declared type
-abbrev pub value_in : Taken → Option ℤ
-value_in (Value c) = some c.0
-value_in Missing = none
-value_in NotFinite = none
-value_in WrongKind = none
+abbrev pub value_in : Result Crisp NotTaken → Option ℤ
+value_in (Ok c) = some c.0
+value_in (Err e) = none
 
 -- thousandths / 1000, rounded once
 unfoldable pub float_of : ℤ → Float

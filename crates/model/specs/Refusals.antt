@@ -1,14 +1,10 @@
 -- Refusal numbers: the number and the place of each case of each answer.
-use Rattle.std.specs.Prelude.{Bool, ℕ}
+use Rattle.std.specs.Prelude.{Bool, ℕ, Result, Ok, Err}
 use Rattle.std.proofs.Math.Option.{Option, none, some}
 use Rattle.model.specs.Basic.{between}
 use Rattle.model.specs.Outcome.{Outcome, accepted, refused}
 use Rattle.model.specs.declared.Refusal.{Refusal}
 use Rattle.model.specs.declared.Refusal.TheVariants.{TextTooLong, WrongToken, WrongNumber, WrongName, NotDeclared, TooMany, WrongPosition, Unpaired, PartMissing, BufferTooShort, ImageNotAccepted, WrongCount, WrongHeld, WrongReading, TextOver}
-use Rattle.model.specs.declared.Written.{Written}
-use Rattle.model.specs.declared.Written.TheVariants.{Bytes, Refused as NotWritten}
-use Rattle.model.specs.declared.Verdict.{Verdict}
-use Rattle.model.specs.declared.Verdict.TheVariants.{Accepted, Refused as NotAccepted}
 
 abbrev pub number_and_place : Refusal → ℕ × Option ℕ
 number_and_place TextTooLong = (1, some 0)
@@ -34,12 +30,15 @@ reader_number n = between 2 9 n
 abbrev pub refusal_of : {A : Type 0} → Refusal → Outcome A
 refusal_of r = refused (number_and_place r).0 (number_and_place r).1
 
+-- what a public function answers: its result, or the refusal
+abbrev pub told_of : {A : Type 0} → Result A Refusal → Outcome A
+told_of (Ok a) = accepted a
+told_of (Err r) = refusal_of r
+
 -- the reader's and the lister's answer: how many bytes were written
-abbrev pub written_of : Written → Outcome ℕ
-written_of (Bytes n) = accepted n
-written_of (NotWritten r) = refusal_of r
+abbrev pub written_of : Result ℕ Refusal → Outcome ℕ
+written_of w = told_of w
 
 -- the load check's answer, and that of an evaluation
-abbrev pub verdict_of : Verdict → Outcome (Unit {0})
-verdict_of Accepted = accepted tt
-verdict_of (NotAccepted r) = refusal_of r
+abbrev pub verdict_of : Result (Unit {0}) Refusal → Outcome (Unit {0})
+verdict_of v = told_of v

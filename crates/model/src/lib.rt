@@ -3,29 +3,36 @@
 
 // A crisp value, in thousandths.
 #[repr(C)]
-#[derive(Clone, Copy)]
+#[derive(Clone, Copy, PartialEq, Eq, PartialOrd, Ord)]
 pub struct Crisp(pub i32);
 
 // A degree, in millionths.
-#[derive(Clone, Copy)]
+#[derive(Clone, Copy, PartialEq, Eq, PartialOrd, Ord)]
 pub struct Degree(pub u32);
 
 // A point of a term.
-#[derive(Clone, Copy)]
+#[derive(Clone, Copy, PartialEq, Eq)]
 pub struct Point {
     pub at: Crisp,
     pub degree: Degree,
 }
 
+// RANGE of an output: its figures lie from the least to the most.
+#[derive(Clone, Copy, PartialEq, Eq)]
+pub struct Range {
+    pub least: Crisp,
+    pub most: Crisp,
+}
+
 // The declared type of an input.
-#[derive(Clone, Copy)]
+#[derive(Clone, Copy, PartialEq, Eq)]
 pub enum InputType {
     Real,
     Int,
 }
 
 // The algorithms for AND and OR: MIN/MAX, PROD/ASUM, BDIF/BSUM.
-#[derive(Clone, Copy)]
+#[derive(Clone, Copy, PartialEq, Eq)]
 pub enum Pair {
     MinMax,
     ProdAsum,
@@ -33,14 +40,14 @@ pub enum Pair {
 }
 
 // How the degrees that rules give a term become its height: ACCU.
-#[derive(Clone, Copy)]
+#[derive(Clone, Copy, PartialEq, Eq)]
 pub enum Accumulation {
     Max,
     Bsum,
 }
 
 // ACT: singletons make it without effect.
-#[derive(Clone, Copy)]
+#[derive(Clone, Copy, PartialEq, Eq)]
 pub enum Activation {
     Min,
     Prod,
@@ -54,17 +61,16 @@ pub enum Reading {
     Absent,
 }
 
-// What a reading is to an input of a declared type.
-#[derive(Clone, Copy)]
-pub enum Taken {
-    Value(Crisp),
+// Why a reading gives an input of a declared type no value.
+#[derive(Clone, Copy, PartialEq, Eq)]
+pub enum NotTaken {
     Absent,
     NotFinite,
     WrongKind,
 }
 
 // What an output's figure rests on.
-#[derive(Clone, Copy)]
+#[derive(Clone, Copy, PartialEq, Eq)]
 pub enum Mark {
     None,
     Fired,
@@ -83,13 +89,13 @@ pub struct Answer {
 
 // The held record: a figure for each output, 0 in the places past the last. Hosts lend it.
 #[repr(C)]
-#[derive(Clone, Copy)]
+#[derive(Clone, Copy, PartialEq, Eq)]
 pub struct Held {
     pub figures: [Crisp; 6],
 }
 
 // The refusals, in the order of their numbers; each holds its place where it has one of its own.
-#[derive(Clone, Copy)]
+#[derive(Clone, Copy, PartialEq, Eq)]
 pub enum Refusal {
     TextTooLong,
     WrongToken(usize),
@@ -108,38 +114,19 @@ pub enum Refusal {
     TextOver,
 }
 
-// What the reader and the lister answer: how many bytes they wrote, or the refusal.
-#[derive(Clone, Copy)]
-pub enum Written {
-    Bytes(usize),
-    Refused(Refusal),
-}
-
-// What the load check and each evaluation answer.
-#[derive(Clone, Copy)]
-pub enum Verdict {
-    Accepted,
-    Refused(Refusal),
-}
-
-// The fresh held record of an image.
-#[derive(Clone, Copy)]
-pub struct Fresh {
-    pub verdict: Verdict,
-    pub held: Held,
-}
-
 // One evaluation: the answers of all outputs, and the held record after it.
+// Kept: a verdict beside the answers, since a refused call too answers all outputs and leaves the record (`Tells`).
 #[derive(Clone, Copy)]
 pub struct Evaluation {
-    pub verdict: Verdict,
+    pub verdict: Result<(), Refusal>,
     pub answers: [Answer; 6],
     pub held: Held,
 }
 
 // One call for daily use: the answers of all outputs; the held record is brought up to date where it stands.
+// Kept: a verdict beside the answers, as in `Evaluation`.
 #[derive(Clone, Copy)]
 pub struct Reply {
-    pub verdict: Verdict,
+    pub verdict: Result<(), Refusal>,
     pub answers: [Answer; 6],
 }

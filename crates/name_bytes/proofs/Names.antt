@@ -1,23 +1,23 @@
 -- What makes bytes a name.
-use Rattle.std.specs.Prelude.{if◌then◌else◌}
+use Rattle.std.specs.Prelude.{if◌then◌else◌, Option, Some, None, is_some}
+use Rattle.std.specs.Option.{unwrap_or}
 use mathlib.Core.Path.{◌≡◌, refl, sym, ap, ◌∙◌}
 use mathlib.Core.List.{List, [], ◌∷◌}
 use mathlib.Core.Bool.{Bool, true, false, ◌&&◌, ◌||◌, not, and-true, or-false}
 use Prim.Native.Nat.{ℕ, zero, suc, ◌≤◌, ◌<◌}
 use native.Mathlib.Omega.{arith}
-use borrow.Author.Tests.{ne_eqb, eqb-true, eqb-false, leb-true, le-leb, lt-leb, lt-ltb, le-ltb}
+use borrow.Author.Tests.{eqb-true, eqb-false, ne_eqb, lt-ltb, le-ltb}
 use lib.Dec.{leb, ltb, eqb}
 use lib.ListN.{length, take, get_or}
-use lib.Seq.{length-take-le}
 use Rattle.model.specs.Basic.{every, all, run}
 use Rattle.model.specs.Bounds.{name_limit}
 use Rattle.model.specs.Keywords.{keyword_at, is_keyword}
 use Rattle.model.specs.Tokens.{is_digit, starts_name, is_name_byte, starts, tidy, is_name}
-use Rattle.laws.proofs.Tests.{Every, one_fails, both}
+use Rattle.laws.proofs.Tests.{one_fails, both, clash}
 use Rattle.laws.proofs.Lists.{run_all}
-use Rattle.characters.proofs.Laws.{run_out}
-use Rattle.name_bytes.specs.Names.{name_length, tidy_end}
-use Rattle.name_bytes.proofs.Spelling.{tidy_ends, untidy_none}
+use Rattle.keywords.specs.Slots.{keyword_count, Which}
+use Rattle.name_bytes.specs.Names.{name_length, tidy_at, tidy_end}
+use Rattle.name_bytes.proofs.Spelling.{tidy_ends}
 
 starts_take : (f : ℕ → Bool) (s : List ℕ) (n : ℕ) → 0 < n → n ≤ length s → starts f (take n s) ≡ f (get_or s 0 0)
 starts_take f [] n h l = absurd (omega arith)
@@ -32,74 +32,56 @@ unfolding is_name every
 name_spelt w =
     ap (λ (b : Bool). starts starts_name w && (all is_name_byte w && (tidy w && (leb (length w) name_limit && b)))) (and-true (not (is_keyword w)))
 
-pub no_keyword : (w : List ℕ) (k : ℕ) → k ≡ keyword_at w → k ≤ 43 → eqb k 43 ≡ not (is_keyword w)
+pub told : (w : List ℕ) (k : ℕ) → k ≡ keyword_at w → k ≤ 43 → not (eqb k 43) ≡ is_keyword w
 unfolding is_keyword
-no_keyword w k e h = go (eqb k 43) refl
+told w k e h = go (eqb k 43) refl
   where
-    go : (b : Bool) → eqb k 43 ≡ b → eqb k 43 ≡ not (ltb (keyword_at w) 43)
-    go true q = q ∙ ap not (sym (ap (λ (n : ℕ). ltb n 43) (sym e) ∙ le-ltb k 43 (omega (arith, eqb-true k 43 q))))
-    go false q = q ∙ ap not (sym (ap (λ (n : ℕ). ltb n 43) (sym e) ∙ lt-ltb k 43 (omega (arith, eqb-false k 43 q))))
+    go : (b : Bool) → eqb k 43 ≡ b → not (eqb k 43) ≡ ltb (keyword_at w) 43
+    go true q = ap not q ∙ sym (ap (λ (n : ℕ). ltb n 43) (sym e) ∙ le-ltb k 43 (omega (arith, eqb-true k 43 q)))
+    go false q = ap not q ∙ sym (ap (λ (n : ℕ). ltb n 43) (sym e) ∙ lt-ltb k 43 (omega (arith, eqb-false k 43 q)))
 
-digit_first : (c : ℕ) → is_digit c ≡ true → starts_name c ≡ false
-digit_first c h =
-    let t = both (leb 48 c) (leb c 57) h in
-    let m = leb-true c 57 t.1 in
-    simp (lt-leb 65 c (omega arith), lt-leb 97 c (omega arith), ne_eqb c 95 (λ z. omega arith))
-
-run_first : (f : ℕ → Bool) (s : List ℕ) → 0 < run f s → f (get_or s 0 0) ≡ true
-unfolding run
-run_first f [] h = absurd (omega arith)
-run_first f (c ∷ s) h = go (f c) refl
+pub told_by : (w : List ℕ) (r : Option ℕ) → Which w r → is_some r ≡ is_keyword w
+told_by w None e = told w keyword_count e (omega arith)
+told_by w (Some k) e = go (told w k e.0 (omega (arith, e.1)))
   where
-    go : (b : Bool) → f c ≡ b → f c ≡ true
-    go true e = e
-    go false e = absurd (omega (arith, run_out f c s e))
+    go : not (eqb k 43) ≡ is_keyword w → true ≡ is_keyword w
+    go q = sym (ap not (ne_eqb k 43 (omega (arith, e.1)))) ∙ q
 
--- n name bytes, tidy, from the start of s on; 0 where they are not
-module _ (s : List ℕ) (n : ℕ) (e : n ≡ tidy_end false 0 s) where
-  pub untidy : n ≡ 0 → name_length s ≡ 0
-  unfolding name_length
-  untidy h = go (tidy (take (run is_name_byte s) s)) refl
-    where
-      go : (b : Bool) → tidy (take (run is_name_byte s) s) ≡ b → name_length s ≡ 0
-      go true q =
-          let z = untidy_none s (sym e ∙ h) q in
-          ap (λ (k : ℕ). if is_name (take k s) then k else 0) z ∙ unfold is_name in refl
-      go false q = simp (sym (name_spelt (take (run is_name_byte s) s)) ∙ one_fails (name_tests (take (run is_name_byte s) s)) 2 q)
+pub first_starts : (w : List ℕ) → all is_name_byte w ≡ true → 0 < length w → is_digit (get_or w 0 0) ≡ false → starts starts_name w ≡ true
+unfolding all
+first_starts [] h l d = absurd (omega arith)
+first_starts (c ∷ w) h l d =
+    sym (or-false (starts_name c)) ∙ ap (λ (b : Bool). starts_name c || b) (sym d) ∙ (both (is_name_byte c) (all is_name_byte w) h).0
 
-  module _ (h : 0 < n) where
-    judged : (b : Bool) → is_name (take n s) ≡ b → name_length s ≡ (if b then n else 0)
+-- the name bytes that s starts with
+module _ (s : List ℕ) where
+  abbrev m : ℕ
+  m = run is_name_byte s
+
+  by : (b : Bool) → tidy (take m s) ≡ b → tidy_end false 0 s ≡ tidy_at (not b) m
+  by b q = tidy_ends s ∙ ap (λ (x : Bool). tidy_at (not x) m) q
+
+  module _ (n : ℕ) (e : Some n ≡ tidy_end false 0 s) where
+    ended : (n ≡ m) × (tidy (take m s) ≡ true)
+    ended = go (tidy (take m s)) refl
+      where
+        go : (b : Bool) → tidy (take m s) ≡ b → (n ≡ m) × (tidy (take m s) ≡ true)
+        go true q = (ap (λ (o : Option ℕ). unwrap_or o 0) (e ∙ by true q), q)
+        go false q = clash (sym (ap is_some (e ∙ by false q)))
+
+    pub clean : (all is_name_byte (take n s) ≡ true) × (tidy (take n s) ≡ true)
+    clean = rw ended.0 (run_all is_name_byte s, ended.1)
+
+    pub judged : (b : Bool) → is_name (take n s) ≡ b → (if b then Some n else None) ≡ name_length s
     unfolding name_length
-    judged b q = ap (λ (k : ℕ). if is_name (take k s) then k else 0) (sym (tidy_ends n s e h).0) ∙ (λ j. if q j then n else 0)
+    judged b q =
+        sym (ap (λ (k : ℕ). if is_name (take k s) then Some k else None) (sym ended.0) ∙ (λ j. if q j then Some n else None))
 
-    pub named : is_name (take n s) ≡ true → name_length s ≡ n
-    named = judged true
-
-    failed : (k : ℕ) → get_or (name_tests (take n s)) k true ≡ false → name_length s ≡ 0
-    failed k q = judged false (sym (name_spelt (take n s)) ∙ one_fails (name_tests (take n s)) k q)
-
-    module _ (l : n ≤ length s) where
-      pub too_long : name_limit < n → name_length s ≡ 0
-      too_long g = failed 3 (lt-leb (length (take n s)) name_limit (omega (arith, length-take-le n s l)))
-
-      pub digit : is_digit (get_or s 0 0) ≡ true → name_length s ≡ 0
-      digit d = failed 0 (starts_take starts_name s n h l ∙ digit_first (get_or s 0 0) d)
-
-    pub keyword : not (is_keyword (take n s)) ≡ false → name_length s ≡ 0
-    keyword = failed 4
-
-    -- the first of them begins a name where it is no digit
-    first_starts : is_digit (get_or s 0 0) ≡ false → starts_name (get_or s 0 0) ≡ true
-    first_starts d =
-        let c = get_or s 0 0 in
-        sym (or-false (starts_name c)) ∙ ap (λ (b : Bool). starts_name c || b) (sym d) ∙ run_first is_name_byte s (omega (arith, (tidy_ends n s e h).0))
-
-    pub spelt : n ≤ length s → n ≤ name_limit → is_digit (get_or s 0 0) ≡ false → Every (take 4 (name_tests (take n s)))
-    spelt l g d =
-        let few : length (take n s) ≤ name_limit = omega (arith, length-take-le n s l) in (
-          starts_take starts_name s n h l ∙ first_starts d,
-          (
-            ap (λ (k : ℕ). all is_name_byte (take k s)) (tidy_ends n s e h).0 ∙ run_all is_name_byte s,
-            ((tidy_ends n s e h).1, (le-leb _ _ few, tt)),
-          ),
-        )
+  pub untidy : None ≡ tidy_end false 0 s → None ≡ name_length s
+  unfolding name_length
+  untidy e = go (tidy (take m s)) refl
+    where
+      go : (b : Bool) → tidy (take m s) ≡ b → None ≡ name_length s
+      go true q = clash (ap is_some (e ∙ by true q))
+      go false q =
+          sym (ap (λ (b : Bool). if b then Some m else None) (sym (name_spelt (take m s)) ∙ one_fails (name_tests (take m s)) 2 q))

@@ -1,16 +1,16 @@
 -- The bytes of a name, read once: where they end, and whether they are tidy.
-use Rattle.std.specs.Prelude.{if◌then◌else◌}
+use Rattle.std.specs.Prelude.{if◌then◌else◌, None, Some}
 use mathlib.Core.Path.{◌≡◌, refl, sym, ap, ◌∙◌}
 use mathlib.Core.List.{List, [], ◌∷◌}
-use mathlib.Core.Bool.{Bool, true, false, ◌||◌, not}
+use mathlib.Core.Bool.{Bool, true, false, not}
 use Prim.Native.Nat.{ℕ, suc, ◌+◌, ◌≤◌, ◌<◌}
 use native.Mathlib.Numerals.{add-one}
 use native.Mathlib.Omega.{arith}
 use borrow.Author.Tests.{eqb-true}
 use lib.ListN.{length, take, drop, get_or, drop_of_length-le}
 use lib.Seq.{drop-cons}
-use Rattle.model.specs.Basic.{between, run}
-use Rattle.model.specs.Tokens.{is_digit, is_underscore, is_name_byte, tidy}
+use Rattle.model.specs.Basic.{run}
+use Rattle.model.specs.Tokens.{is_underscore, is_name_byte, tidy}
 use Rattle.laws.proofs.Tests.{clash}
 use Rattle.characters.proofs.Laws.{tidy_cons, run_in, run_out}
 use Rattle.name_bytes.specs.Names.{ends_name, tidy_at, tidy_end}
@@ -38,47 +38,6 @@ module _ (s : List ℕ) (u : Bool) (i : ℕ) where
   unfolding tidy_end
   at_past h = rw (drop_of_length-le s h)
 
-pub tidy_small : (u : Bool) (n k : ℕ) → n ≤ k → tidy_at u n ≤ k
-tidy_small true n k h = omega arith
-tidy_small false n k h = h
-
--- how the byte is told
-abbrev pub letter : ℕ → Bool
-letter c = between 65 90 c || between 97 122 c
-
-or_first : (a b d e : Bool) → a || b ≡ true → (a || (b || d)) || e ≡ true
-or_first true b d e h = refl
-or_first false true d e h = refl
-or_first false false d e h = clash h
-
-or_last : (a b e : Bool) → a || b ≡ false → (a || (b || false)) || e ≡ e
-or_last true b e h = clash (sym h)
-or_last false true e h = clash (sym h)
-or_last false false e h = refl
-
-letter_plain : (c : ℕ) → letter c ≡ true → is_underscore c ≡ false
-letter_plain c h = go (is_underscore c) refl
-  where
-    go : (b : Bool) → is_underscore c ≡ b → is_underscore c ≡ false
-    go true e = clash (sym (ap letter (eqb-true c 95 e)) ∙ h)
-    go false e = e
-
-module _ (u : Bool) (c : ℕ) where
-  pub letter_stays : letter c ≡ true → ends_name u c ≡ false
-  letter_stays h =
-      (λ j. if letter_plain c h j then u else not (is_name_byte c))
-      ∙ ap not (or_first (between 65 90 c) (between 97 122 c) (is_underscore c) (is_digit c) h)
-
-  pub other_ends : (d : Bool) → letter c ≡ false → is_underscore c ≡ false → d ≡ is_digit c → ends_name u c ≡ not d
-  other_ends d h e q =
-      (λ j. if e j then u else not ((between 65 90 c || (between 97 122 c || e j)) || is_digit c))
-      ∙ ap not (or_last (between 65 90 c) (between 97 122 c) (is_digit c) h ∙ sym q)
-
-pub at_letter : (s : List ℕ) (u : Bool) (i : ℕ) → i < length s → letter (get_or s i 0) ≡ true → tidy_end u i (drop i s) ≡ tidy_end false (i + 1) (drop (i + 1) s)
-at_letter s u i h e =
-    let c = get_or s i 0 in
-    at_more s u i h (letter_stays u c e) ∙ ap (λ (b : Bool). tidy_end b (i + 1) (drop (i + 1) s)) (letter_plain c e)
-
 -- UNDERSCORES
 -- what follows is tidy; u: an underscore stands before it
 abbrev tidy_after : Bool → List ℕ → Bool
@@ -90,14 +49,14 @@ unfolding tidy
 after_plain true c w e = simp e (tidy_cons c w e)
 after_plain false c w e = tidy_cons c w e
 
-after_under : (c : ℕ) (w : List ℕ) (k : ℕ) → is_underscore c ≡ true → tidy_at (not (tidy_after true (c ∷ w))) k ≡ 0
+after_under : (c : ℕ) (w : List ℕ) (k : ℕ) → is_underscore c ≡ true → tidy_at (not (tidy_after true (c ∷ w))) k ≡ None
 unfolding tidy
 after_under c w k e = simp e
 
 after_none : (u : Bool) (n : ℕ) → tidy_at u n ≡ tidy_at (not (tidy_after u [])) (n + 0)
 unfolding tidy
 after_none true n = refl
-after_none false n = omega arith
+after_none false n = ap (λ (k : ℕ). Some k) (omega arith)
 
 ends : (u : Bool) (n : ℕ) (s : List ℕ)
     → tidy_end u n s ≡ tidy_at (not (tidy_after u (take (run is_name_byte s) s))) (n + run is_name_byte s)
@@ -130,21 +89,6 @@ ends u n (c ∷ s) = go (λ v k. ends v k s) u (is_underscore c) refl (is_name_b
     go ih u false e false f =
         rw (run_out is_name_byte c s f) (end_here u n c s (here u false false e f) ∙ after_none u n)
 
--- a name ends where its bytes do, if it is tidy
-pub tidy_ends : (n : ℕ) (s : List ℕ) → n ≡ tidy_end false 0 s → 0 < n → (n ≡ run is_name_byte s) × (tidy (take n s) ≡ true)
-tidy_ends n s e h = go (tidy (take m s)) refl
-  where
-    m : ℕ
-    m = run is_name_byte s
-
-    at : n ≡ tidy_at (not (tidy (take m s))) (0 + m)
-    at = e ∙ ends false 0 s
-
-    go : (b : Bool) → tidy (take m s) ≡ b → (n ≡ m) × (tidy (take n s) ≡ true)
-    go true q =
-        let g : n ≡ m = omega (arith, rw q at at) in
-        (g, ap (λ (k : ℕ). tidy (take k s)) g ∙ q)
-    go false q = absurd (omega (arith, rw q at at))
-
-pub untidy_none : (s : List ℕ) → tidy_end false 0 s ≡ 0 → tidy (take (run is_name_byte s) s) ≡ true → run is_name_byte s ≡ 0
-untidy_none s h q = omega (arith, rw q at (sym (ends false 0 s) ∙ h))
+-- where the name bytes end, if they are tidy
+pub tidy_ends : (s : List ℕ) → tidy_end false 0 s ≡ tidy_at (not (tidy (take (run is_name_byte s) s))) (run is_name_byte s)
+tidy_ends s = let e : 0 + run is_name_byte s ≡ run is_name_byte s = omega arith in rw e at (ends false 0 s)

@@ -1,16 +1,20 @@
 -- The bytes of four words are those of the image; a name is those before the first zero.
 use mathlib.Core.Path.{◌≡◌, refl, sym, ap, ◌∙◌}
 use mathlib.Core.Bool.{Bool, true, false, not}
-use mathlib.Core.List.{List}
+use mathlib.Core.List.{List, [], ◌∷◌}
 use Prim.Native.Nat.{ℕ, suc, ◌+◌, ◌*◌, ◌≤◌, ◌<◌}
 use native.Mathlib.Omega.{arith}
 use borrow.Author.Tests.{ltb-false, ltb-true}
 use lib.Dec.{ltb, eqb}
 use lib.ListN.{length, take, drop, get_or, length-drop, get_or-eq_default}
 use lib.Seq.{length-take-le, get_or-take, get_or-drop}
+use Rattle.std.specs.Option.{unwrap_or}
+use Rattle.std.specs.List.{position, prefix_len}
+use Rattle.std.proofs.lemmas.List.Sums.{prefix_len-le-length}
 use Rattle.model.specs.Basic.{run, tab}
 use Rattle.model.specs.Image.{word_at, bytes_of, name_at}
 use Rattle.laws.proofs.Places.{At, tab_nth}
+use Rattle.characters.proofs.Laws.{run_in, run_out}
 use Rattle.words.proofs.Bytes.{bytes_at, part_word}
 
 -- what stands past the end is 0
@@ -76,3 +80,22 @@ pub name_front : (w : ℕ → ℕ) (o : ℕ) (s : List ℕ) (n : ℕ) → s ≡ 
     → take n s ≡ name_at w o
 unfolding name_at
 name_front w o s n es en = rw (en, es)
+
+run_is : (f : ℕ → Bool) (s : List ℕ) → prefix_len f s ≡ run f s
+run_is f [] = unfold run in refl
+run_is f (c ∷ s) = go (run_is f s) (f c) refl
+  where
+    go : prefix_len f s ≡ run f s → (b : Bool) → f c ≡ b → prefix_len f (c ∷ s) ≡ run f (c ∷ s)
+    go ih true e = rw (run_in f c s e, e) (omega (arith, ih))
+    go ih false e = rw (run_out f c s e, e) refl
+
+-- the first place that passes, or the length
+pub run_until : (f : ℕ → Bool) (s : List ℕ) → unwrap_or (position f s) (length s) ≡ run (λ c. not (f c)) s
+run_until f s = go (ltb n (length s)) refl ∙ run_is (λ c. not (f c)) s
+  where
+    n : ℕ
+    n = prefix_len (λ c. not (f c)) s
+
+    go : (b : Bool) → ltb n (length s) ≡ b → unwrap_or (position f s) (length s) ≡ prefix_len (λ c. not (f c)) s
+    go true e = rw e refl
+    go false e = rw e (omega (arith, prefix_len-le-length (λ c. not (f c)) s, ltb-false n (length s) e))

@@ -3,20 +3,22 @@
 
 ghost use Rattle.std.specs.Prelude.{◌≤◌};
 ghost use Rattle.model.specs.Image.{word_at, name_at};
-ghost use Rattle.listing_writer.specs.Prepends.{Prepends};
+ghost use Rattle.listing_writer.specs.Prepends.{Writes};
+
+use bounds::{LISTING, NAME};
+use listing_writer::Listing;
+use name_field::{bytes_at, first_zero};
 
 // The name in the four words from place o on.
-pub fn name(out: &mut [u8], k: usize, img: &[u8], o: usize) -> usize
+pub fn name(out: &mut Listing<LISTING>, img: &[u8], o: usize)
     requires { o ≤ 900000000000 }
-    ensures { Prepends k result (name_at (word_at img.now) o) out.old out.new }
+    ensures { Writes (name_at (word_at img.now) o) out.old out.new }
 {
-    let a = o * 4;
-    let e = a + bounds::NAME;
-    if e <= img.len() {
-        let n = name_field::first_zero(&img[a..e]);
-        return listing_writer::puts(out, k, &img[a..a + n]);
+    let from = o * 4;
+    if let Some(s) = img.get(from..from + NAME) {
+        out.puts(&s[..first_zero(s)]);
+    } else {
+        let s = bytes_at(img, o);
+        out.puts(&s[..first_zero(&s)]);
     }
-    let s = name_field::bytes_at(&img[0..], o);
-    let n = name_field::first_zero(&s);
-    listing_writer::puts(out, k, &s[..n])
 }

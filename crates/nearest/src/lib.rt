@@ -16,12 +16,11 @@ pub fn nearest_quotient(a: u64, b: u64) -> u64
     if 2 * a < b {
         return 0;
     }
-    if b < 4294967296 {
-        if a <= 1_000_000 * b {
-            return short_quotient(a, b);
-        }
+    if b < 4294967296 && a <= 1_000_000 * b {
+        short_quotient(a, b)
+    } else {
+        long_quotient(a, b)
     }
-    long_quotient(a, b)
 }
 
 // The same, worked out from k on where it is no less: a shorter quotient.
@@ -31,9 +30,10 @@ pub fn nearest_above(a: u64, b: u64, k: u64) -> u64
 {
     let least = k * b;
     if least <= a {
-        return k + nearest_quotient(a - least, b);
+        k + nearest_quotient(a - least, b)
+    } else {
+        nearest_quotient(a, b)
     }
-    nearest_quotient(a, b)
 }
 
 // To a over 2 to the power of j + 1.

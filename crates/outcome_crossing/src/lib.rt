@@ -6,7 +6,7 @@ ghost use Rattle.model.specs.Outcome.{accepted};
 ghost use Rattle.model.specs.Refusals.{refusal_of, written_of, verdict_of};
 ghost use Rattle.outcome_crossing.specs.Outcomes.{outcome_of, bare_outcome};
 
-use model::{Refusal, Verdict, Written};
+use model::Refusal;
 
 // 0, or the number of the refusal; its place, where it has one; how many bytes were written.
 #[repr(C)]
@@ -25,7 +25,7 @@ fn accepted(length: usize) -> GrillenhelmOutcome
         refusal: 0,
         has_place: 0,
         place: 0,
-        length: length,
+        length,
     }
 }
 
@@ -35,26 +35,26 @@ fn refused(why: Refusal) -> GrillenhelmOutcome
     let t = refusals::number_and_place(why);
     GrillenhelmOutcome {
         refusal: t.number as u32,
-        has_place: t.placed as u32,
-        place: t.place,
+        has_place: t.place.is_some() as u32,
+        place: t.place.unwrap_or(0),
         length: 0,
     }
 }
 
-pub fn written(w: Written) -> GrillenhelmOutcome
+pub fn written(w: Result<usize, Refusal>) -> GrillenhelmOutcome
     ensures { result ≡ outcome_of (λ n. n) (written_of w) }
 {
     match w {
-        Written::Bytes(n) => accepted(n),
-        Written::Refused(why) => refused(why),
+        Ok(n) => accepted(n),
+        Err(why) => refused(why),
     }
 }
 
-pub fn verdict(v: Verdict) -> GrillenhelmOutcome
+pub fn verdict(v: Result<(), Refusal>) -> GrillenhelmOutcome
     ensures { result ≡ bare_outcome (verdict_of v) }
 {
     match v {
-        Verdict::Accepted => accepted(0),
-        Verdict::Refused(why) => refused(why),
+        Ok(()) => accepted(0),
+        Err(why) => refused(why),
     }
 }

@@ -1,4 +1,5 @@
 -- How parts that are read make up a longer part: one after the other, and again and again.
+use Rattle.std.specs.Prelude.{None}
 use mathlib.Core.Path.{◌≡◌, refl, sym, ap, ◌∙◌}
 use mathlib.Core.Bool.{true}
 use mathlib.Core.List.{List, [], ◌++◌, append-nil}
@@ -160,7 +161,7 @@ module _ (k : ℕ) (part : Part) (s : List ℕ) where
   turns_end p₀ p g h = record { reads = g.3 h; fewer = g.1; good = g.0 }
 
   -- after a refusal none follows
-  pub turns_none : (p : ParseState) (d : Cursor) (t : Tables) → (k ≡ 0 → ⊥) → (d.why ≡ 0 → ⊥) → Reads part s p (at d t) → Reads all s p (at d t)
+  pub turns_none : (p : ParseState) (d : Cursor) (t : Tables) → (k ≡ 0 → ⊥) → (d.refused ≡ None → ⊥) → Reads part s p (at d t) → Reads all s p (at d t)
   unfolding view
   turns_none p d t h w y =
       let z : Reads (repeated k part) s (at d t) (at d t) =

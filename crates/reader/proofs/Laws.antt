@@ -1,6 +1,6 @@
 -- The parts of a text make up document 01's reading of it.
+use Rattle.std.specs.Prelude.{None, Some}
 use mathlib.Core.Path.{◌≡◌, refl, sym, ap, ◌∙◌}
-use mathlib.Core.Bool.{true}
 use mathlib.Core.List.{List}
 use mathlib.Core.Option.{some}
 use Prim.Native.Nat.{ℕ, ◌*◌, ◌≤◌, ◌<◌}
@@ -12,7 +12,6 @@ use Rattle.model.specs.Bounds.{text_limit, rule_limit, word_limit, conclusion_li
 use Rattle.model.specs.Block.{Block, Rule}
 use Rattle.model.specs.Keywords.{RULE}
 use Rattle.model.specs.Outcome.{Outcome, accepted, refused, and_then, into}
-use Rattle.model.specs.Refusals.{reader_number}
 use Rattle.model.specs.Parse.{Parse, repeated}
 use Rattle.model.specs.Rules.{rule, rule_block}
 use Rattle.model.specs.Reader.{function_block, start, outcome_of, reads}
@@ -20,7 +19,7 @@ use Rattle.model.specs.Image.{image}
 use Rattle.model.specs.Buffers.{reads_into}
 use Rattle.model.proofs.Texts.{text_not_too_long}
 use Rattle.cursor.specs.declared.Cursor.{Cursor}
-use Rattle.cursor.specs.View.{seen}
+use Rattle.cursor.specs.View.{seen, why_of, place_of}
 use Rattle.block_tables.specs.declared.Tables.{Tables}
 use Rattle.block_tables.specs.declared.Heading.{Heading}
 use Rattle.block_tables.specs.View.{inputs_view, outputs_view, block_view, whole_view}
@@ -28,7 +27,9 @@ use Rattle.parse_state.specs.Reads.{view}
 use Rattle.rule_heading.specs.Opening.{opening, headed, Bare}
 use Rattle.rule_text.specs.Progress.{Kept, holding}
 use Rattle.block_text.specs.Block.{inputs_text, outputs_text, front_text, back_text, Ends}
-use Rattle.refusals.proofs.Numbers.{reads_known}
+use Rattle.refusals.specs.Faults.{number}
+use Rattle.cursor.specs.declared.Refused.{Refused}
+use Rattle.cursor.proofs.Laws.{never_zero}
 
 pub bare : (s : List ℕ) (t : Tables) → Bare (block_view s t)
 unfolding block_view
@@ -90,11 +91,11 @@ module _ (s : List ℕ) (t : Tables) (h : Heading) where
       abbrev end : Parse
       end = function_block (start s)
 
-      why_is : f.why ≡ (function_block (start s)).why
+      why_is : why_of f.refused ≡ (function_block (start s)).why
       unfolding seen
       why_is = x.why ∙ ap (λ (z : Parse). z.why) read_so
 
-      place_is : f.place ≡ (function_block (start s)).place
+      place_is : place_of f.refused ≡ (function_block (start s)).place
       unfolding seen
       place_is = x.place ∙ ap (λ (z : Parse). z.place) read_so
 
@@ -102,20 +103,19 @@ module _ (s : List ℕ) (t : Tables) (h : Heading) where
       unfolding seen
       block_is = sym (whole_is rs) ∙ x.block ∙ ap (λ (z : Parse). z.block) read_so
 
-      pub number : (f.why ≡ 0 → ⊥) → reader_number f.why ≡ true
-      number z = ap reader_number why_is ∙ (reads_known s).number (λ e. z (why_is ∙ e))
-
       module _ (room : ℕ) (l : length s ≤ text_limit) where
-        pub refused_so : (f.why ≡ 0 → ⊥) → reads_into room s ≡ refused f.why (some f.place)
+        pub refused_so : (w : Refused) → f.refused ≡ Some w → reads_into room s ≡ refused (number w.fault) (some w.place)
         unfolding reads_into
-        refused_so z =
-            let e : outcome_of end ≡ refused end.why (some end.place) = simp (ne_eqb _ _ (λ q. z (why_is ∙ q))) refl in
+        refused_so w q =
+            let y : end.why ≡ number w.fault = sym why_is ∙ ap why_of q in
+            let z : end.place ≡ w.place = sym place_is ∙ ap place_of q in
+            let e : outcome_of end ≡ refused end.why (some end.place) = simp (ne_eqb _ _ (λ n. never_zero w.fault (sym y ∙ n))) refl in
             ap (λ (o : Outcome Block). and_then o (λ b. into room (image b))) (text_not_too_long s l ∙ e)
-            ∙ (λ j. refused (sym why_is j) (some (sym place_is j)))
+            ∙ (λ j. refused (y j) (some (z j)))
 
-        pub accepted_so : f.why ≡ 0 → reads_into room s ≡ into room (image (whole_view s t h rs))
+        pub accepted_so : f.refused ≡ None → reads_into room s ≡ into room (image (whole_view s t h rs))
         unfolding reads_into
         accepted_so z =
-            let e : outcome_of end ≡ accepted end.block = simp (eq-eqb _ _ (sym why_is ∙ z)) refl in
+            let e : outcome_of end ≡ accepted end.block = simp (eq-eqb _ _ (sym why_is ∙ ap why_of z)) refl in
             ap (λ (o : Outcome Block). and_then o (λ b. into room (image b))) (text_not_too_long s l ∙ e)
             ∙ ap (λ (b : Block). into room (image b)) (sym block_is)

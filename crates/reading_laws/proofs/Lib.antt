@@ -8,3 +8,4 @@ pub mod Fuzzify
 pub mod Defuzzify
 pub mod RuleBlock
 pub mod WellRead
+pub mod Refused

@@ -1,15 +1,13 @@
 // Readings as crisp values: the bits of a REAL to its nearest thousandth, an INT times 1000.
 #![tactic(auto)]
 
-ghost use Rattle.std.specs.Prelude.{◌≡◌, ◌*◌, ◌-◌, ◌^◌, ◌≤◌, ◌<◌, min, pos, ◌*ℤ◌};
+ghost use Rattle.std.specs.Prelude.{◌≡◌, ◌*◌, ◌-◌, ◌^◌, ◌≤◌, ◌<◌, min, pos, ◌*ℤ◌, IfOk};
 ghost use Rattle.model.specs.Bounds.{crisp_limit};
 ghost use Rattle.model.specs.Readings.{real_of, taken};
-ghost use Rattle.model.specs.declared.Crisp.{Crisp};
-ghost use Rattle.model.specs.declared.Taken.TheVariants.{Value};
 ghost use Rattle.crisp.specs.Crisp.{InCrisp};
 ghost use Rattle.readings.specs.Fields.{magnitude_of, significand_of};
 
-use model::{Crisp, InputType, Reading, Taken};
+use model::{Crisp, InputType, NotTaken, Reading};
 
 // A float's significand, by its fields: below the least exponent the leading bit is 0.
 fn significand(e: u64, t: u64) -> u64
@@ -23,7 +21,7 @@ fn significand(e: u64, t: u64) -> u64
 fn exponent(e: u64) -> u64
     ensures { result ≡ e - 1 }
 {
-    if e == 0 { 0 } else { e - 1 }
+    e.saturating_sub(1)
 }
 
 // The thousandths of q * 2^k / 2^149, at most the crisp limit; a half goes up, and down where `down` is 1.
@@ -38,29 +36,28 @@ fn magnitude(down: u64, q: u64, k: u64) -> u64
     if j > 40 {
         return 0;
     }
-    let v = nearest::nearest_shift(2 * (1000 * q) - down, j);
-    if v < 1_000_000_000 { v } else { 1_000_000_000 }
+    nearest::nearest_shift(2 * (1000 * q) - down, j).min(1_000_000_000)
 }
 
-pub fn real(x: f32) -> Taken
+pub fn real(x: f32) -> Result<Crisp, NotTaken>
     ensures { result ≡ real_of x }
 {
     if x != x {
-        return Taken::NotFinite;
+        return Err(NotTaken::NotFinite);
     }
     let b = f32::to_bits(x) as u64;
     let e = b % 2147483648 / 8388608;
     let t = b % 8388608;
     if e == 255 {
-        return Taken::NotFinite;
+        return Err(NotTaken::NotFinite);
     }
     let q = significand(e, t);
     let k = exponent(e);
     let v = magnitude(b / 2147483648, q, k);
     if b < 2147483648 {
-        Taken::Value(Crisp(v as i32))
+        Ok(Crisp(v as i32))
     } else {
-        Taken::Value(Crisp(-(v as i32)))
+        Ok(Crisp(-(v as i32)))
     }
 }
 
@@ -70,19 +67,14 @@ fn int(n: i16) -> Crisp
     Crisp(n as i32 * 1000)
 }
 
-pub fn taken(kind: InputType, reading: Reading) -> Taken
-    ensures { (result ≡ taken kind reading) × ((c : Crisp) → result ≡ Value c → InCrisp c.0) }
+pub fn taken(kind: InputType, reading: Reading) -> Result<Crisp, NotTaken>
+    ensures { (result ≡ taken kind reading) × IfOk result (λ c. InCrisp c.0) }
 {
-    match kind {
-        InputType::Real => match reading {
-            Reading::Real(x) => real(x),
-            Reading::Int(_) => Taken::WrongKind,
-            Reading::Absent => Taken::Absent,
-        },
-        InputType::Int => match reading {
-            Reading::Real(_) => Taken::WrongKind,
-            Reading::Int(n) => Taken::Value(int(n)),
-            Reading::Absent => Taken::Absent,
-        },
+    match (kind, reading) {
+        (_, Reading::Absent) => Err(NotTaken::Absent),
+        (InputType::Real, Reading::Real(x)) => real(x),
+        (InputType::Int, Reading::Int(n)) => Ok(int(n)),
+        (InputType::Real, Reading::Int(_)) => Err(NotTaken::WrongKind),
+        (InputType::Int, Reading::Real(_)) => Err(NotTaken::WrongKind),
     }
 }

@@ -1,62 +1,71 @@
 // Refusals by number and place: one of the reader's made from them, and any told by them.
 #![tactic(auto)]
 
-ghost use Rattle.std.specs.Prelude.{◌≡◌, true, false, ℕ};
+ghost use Rattle.std.specs.Prelude.{◌≡◌, true, ℕ, Some, None};
 ghost use Rattle.std.proofs.Math.Option.{some};
 ghost use Rattle.model.specs.Outcome.{refused};
-ghost use Rattle.model.specs.Refusals.{refusal_of, reader_number};
+ghost use Rattle.model.specs.Refusals.{refusal_of};
+ghost use Rattle.refusals.specs.Faults.{number};
 ghost use Rattle.refusals.specs.Told.{place_of};
 
 use model::Refusal;
 
-// The refusal of this number at this place.
-pub fn refusal_of(why: u8, place: usize) -> Refusal
-    requires { reader_number why ≡ true }
-    ensures { refusal_of {A = ℕ} result ≡ refused why (some place) }
+// What the reader refuses a text for.
+#[derive(Clone, Copy, PartialEq, Eq)]
+pub enum Fault {
+    WrongToken,
+    WrongNumber,
+    WrongName,
+    NotDeclared,
+    TooMany,
+    WrongPosition,
+    Unpaired,
+    PartMissing,
+}
+
+// The refusal for a fault at this place.
+pub fn refusal_of(fault: Fault, place: usize) -> Refusal
+    ensures { refusal_of {A = ℕ} result ≡ refused (number fault) (some place) }
 {
-    match why {
-        2 => Refusal::WrongToken(place),
-        3 => Refusal::WrongNumber(place),
-        4 => Refusal::WrongName(place),
-        5 => Refusal::NotDeclared(place),
-        6 => Refusal::TooMany(place),
-        7 => Refusal::WrongPosition(place),
-        8 => Refusal::Unpaired(place),
-        _ => Refusal::PartMissing(place),
+    match fault {
+        Fault::WrongToken => Refusal::WrongToken(place),
+        Fault::WrongNumber => Refusal::WrongNumber(place),
+        Fault::WrongName => Refusal::WrongName(place),
+        Fault::NotDeclared => Refusal::NotDeclared(place),
+        Fault::TooMany => Refusal::TooMany(place),
+        Fault::WrongPosition => Refusal::WrongPosition(place),
+        Fault::Unpaired => Refusal::Unpaired(place),
+        Fault::PartMissing => Refusal::PartMissing(place),
     }
 }
 
-// The number of a refusal, and its place if it has one; else place is 0.
+// The number of a refusal, and its place if it has one.
 #[derive(Clone, Copy)]
 pub struct Told {
     pub number: u8,
-    pub placed: bool,
-    pub place: usize,
+    pub place: Option<usize>,
 }
 
 fn at(number: u8, place: usize) -> Told
-    ensures { (result.number ≡ number) × (result.placed ≡ true) × (result.place ≡ place) }
+    ensures { (result.number ≡ number) × (result.place ≡ Some place) }
 {
     Told {
-        number: number,
-        placed: true,
-        place: place,
+        number,
+        place: Some(place),
     }
 }
 
 fn nowhere(number: u8) -> Told
-    ensures { (result.number ≡ number) × (result.placed ≡ false) × (result.place ≡ 0) }
+    ensures { (result.number ≡ number) × (result.place ≡ None) }
 {
     Told {
-        number: number,
-        placed: false,
-        place: 0,
+        number,
+        place: None,
     }
 }
 
 pub fn number_and_place(r: Refusal) -> Told
-    ensures { (refusal_of {A = ℕ} r ≡ refused result.number (place_of result.placed result.place))
-        × (result.placed ≡ false → result.place ≡ 0) }
+    ensures { refusal_of {A = ℕ} r ≡ refused result.number (place_of result.place) }
 {
     match r {
         Refusal::TextTooLong => at(1, 0),

@@ -1,4 +1,5 @@
 -- An accepted image, listed and read again, is that image; and what the two functions' answers come to together.
+use Rattle.std.specs.Prelude.{Ok, Err}
 use Rattle.std.specs.Prelude.{if◌then◌else◌}
 use mathlib.Core.Path.{◌≡◌, refl, sym, ap, ◌∙◌}
 use mathlib.Core.Bool.{Bool, true, false}
@@ -21,7 +22,7 @@ use Rattle.laws.proofs.Buffers.{fits}
 use Rattle.image_laws.proofs.Loads.{loads_iff}
 use Rattle.listing_laws.proofs.RoundTrip.{listing_reads}
 use Rattle.relisting.specs.Relists.{Relisting, not_accepted, no_room_for_listing, again, relists_by, relists, answer_of, without_listing, listing_after, image_after}
-use Rattle.relisting.specs.declared.Relisted.TheVariants.{Bytes, NotAccepted, ImageTooShort}
+use Rattle.relisting.specs.declared.NotRelisted.TheVariants.{NotAccepted, ImageTooShort}
 
 -- a length is no refusal
 clashing : {A : Type 0} (n : ℕ) (why : Refusal) → refusal_of {A = ℕ} why ≡ accepted n → A
@@ -30,7 +31,7 @@ clashing n why e = let z : ◌≡◌ {A = ℕ} 0 1 = cc in absurd (omega arith)
 module _ (img : List ℕ) (text room : ℕ) where
   -- WITHOUT ROOM for the image
   module _ (small : room < length img) where
-    pub no_room : (o : Outcome Block) → accepted tt ≡ verdict_in o → ImageTooShort (length img) ≡ answer_of (relists_by text room img o)
+    pub no_room : (o : Outcome Block) → accepted tt ≡ verdict_in o → Err (ImageTooShort (length img)) ≡ answer_of (relists_by text room img o)
     no_room (accepted b) e = rw (lt-ltb room (length img) small) refl
     no_room (refused n p) e = let z : ◌≡◌ {A = ℕ} 0 1 = cc in absurd (omega arith)
 
@@ -38,7 +39,7 @@ module _ (img : List ℕ) (text room : ℕ) where
     both_stay (accepted b) old new = rw (lt-ltb room (length img) small) (refl, refl)
     both_stay (refused n p) old new = (refl, refl)
 
-  pub not_loaded : (o : Outcome Block) (why : Refusal) → refusal_of why ≡ verdict_in o → NotAccepted ≡ answer_of (relists_by text room img o)
+  pub not_loaded : (o : Outcome Block) (why : Refusal) → refusal_of why ≡ verdict_in o → Err NotAccepted ≡ answer_of (relists_by text room img o)
   not_loaded (accepted b) why e = let z : ◌≡◌ {A = ℕ} 0 1 = cc in absurd (omega arith)
   not_loaded (refused n p) why e = refl
 
@@ -112,7 +113,7 @@ module _ (img : List ℕ) (text room : ℕ) where
     pub record Listed (n : ℕ) (old new : List ℕ) : Type 0 where
       pub front : take n new ≡ listing b
       pub within : n ≤ length new
-      pub answer : Bytes n ≡ answer_of told
+      pub answer : Ok n ≡ answer_of told
       pub text_holds : new ≡ listing_after old told
       pub image_holds : (out : List ℕ) → buffer_after out (reads_into room (listing b)) ≡ image_after out told
 
@@ -131,7 +132,7 @@ module _ (img : List ℕ) (text room : ℕ) where
             record {
               front = (λ i. take (long i) (holds i)) ∙ take-append_seam (listing b) (drop (length (listing b)) old);
               within = omega (arith, ap length holds, length-append (listing b) (drop (length (listing b)) old));
-              answer = ap Bytes long ∙ ap answer_of (sym r);
+              answer = ap Ok long ∙ ap answer_of (sym r);
               text_holds = holds ∙ ap (listing_after old) (sym r);
               image_holds = λ out. ap (buffer_after out) (reads_again h) ∙ ap (image_after out) (sym r);
             }

@@ -1,12 +1,12 @@
 -- A helper: an image listed and read again. `relisting/proofs/Again.reads_again` ties it to the reader's rules.
-use Rattle.std.specs.Prelude.{List, ◌++◌, ℕ, ltb, length, drop, if◌then◌else◌}
+use Rattle.std.specs.Prelude.{List, ◌++◌, ℕ, ltb, length, drop, Result, Ok, Err, if◌then◌else◌}
 use Rattle.std.proofs.Math.Option.{none, some}
 use Rattle.model.specs.Block.{Block}
 use Rattle.model.specs.Image.{loads}
 use Rattle.model.specs.Listing.{listing}
 use Rattle.model.specs.Outcome.{Outcome, accepted, refused}
-use Rattle.relisting.specs.declared.Relisted.{Relisted}
-use Rattle.relisting.specs.declared.Relisted.TheVariants.{Bytes, NotAccepted, ImageTooShort, ListingTooShort}
+use Rattle.relisting.specs.declared.NotRelisted.{NotRelisted}
+use Rattle.relisting.specs.declared.NotRelisted.TheVariants.{NotAccepted, ImageTooShort, ListingTooShort}
 
 pub data Relisting : Type 0 where
   not_accepted : Relisting
@@ -27,17 +27,17 @@ relists_by text room img (accepted b) =
 unfoldable pub relists : ℕ → ℕ → List ℕ → Relisting
 relists text room img = relists_by text room img (loads img)
 
-abbrev pub answer_of : Relisting → Relisted
-answer_of not_accepted = NotAccepted
-answer_of (no_room_for_image n) = ImageTooShort n
-answer_of (no_room_for_listing n) = ListingTooShort n
-answer_of (again s i) = Bytes (length s)
+abbrev pub answer_of : Relisting → Result ℕ NotRelisted
+answer_of not_accepted = Err NotAccepted
+answer_of (no_room_for_image n) = Err (ImageTooShort n)
+answer_of (no_room_for_listing n) = Err (ListingTooShort n)
+answer_of (again s i) = Ok (length s)
 
 -- a refusal of the lister: 11 has no place, 10 the length that is needed
-abbrev pub without_listing : Outcome ℕ → Relisted
-without_listing (accepted n) = NotAccepted
-without_listing (refused n none) = NotAccepted
-without_listing (refused n (some needed)) = ListingTooShort needed
+abbrev pub without_listing : Outcome ℕ → Result ℕ NotRelisted
+without_listing (accepted n) = Err NotAccepted
+without_listing (refused n none) = Err NotAccepted
+without_listing (refused n (some needed)) = Err (ListingTooShort needed)
 
 -- bytes past the end stay, and where nothing is written all of them
 abbrev pub listing_after : List ℕ → Relisting → List ℕ

@@ -1,22 +1,23 @@
 -- The laws of reading a heading.
-use Rattle.std.specs.Prelude.{if◌then◌else◌}
+use Rattle.std.specs.Prelude.{None, if◌then◌else◌}
 use mathlib.Core.Path.{◌≡◌, refl, sym, ap, ◌∙◌}
 use mathlib.Core.Bool.{Bool, true, false, ◌||◌, not}
 use mathlib.Core.List.{List, []}
-use mathlib.Core.Option.{Option, some}
-use Prim.Native.Nat.{ℕ, zero, suc, ◌≤◌}
+use mathlib.Core.Option.{Option, none, some}
+use Prim.Native.Nat.{ℕ}
 use native.Mathlib.Omega.{arith}
 use borrow.Author.Tests.{eq-eqb, ne_eqb}
 use lib.Dec.{eqb}
 use lib.Seq.{slice_empty}
 use Rattle.model.specs.Block.{Block, with_rule_block, with_pair, with_act, with_accu}
 use Rattle.model.specs.declared.Pair.{Pair}
-use Rattle.model.specs.declared.Pair.TheVariants.{MinMax as min-max}
+use Rattle.model.specs.declared.Pair.TheVariants.{MinMax as min-max, ProdAsum as prod-asum, BdifBsum as bdif-bsum}
+use Rattle.model.specs.contracts.Pair.{the_type}
+use denote.Enum.Bare.{sameb}
 use Rattle.model.specs.declared.Activation.{Activation}
 use Rattle.model.specs.declared.Activation.TheVariants.{Min as by-min, Prod as by-prod}
 use Rattle.model.specs.declared.Accumulation.{Accumulation}
 use Rattle.model.specs.declared.Accumulation.TheVariants.{Max as by-max, Bsum as by-bsum}
-use Rattle.model.specs.Image.{pair_of}
 use Rattle.model.specs.Keywords.{ACT, AND, BSUM, COLON, MAX, MIN, OR, PROD, SEMICOLON}
 use Rattle.model.specs.Parse.{Parse, Part, kind, text, is, refuse, advance, change, judged, expect, a_name, own_name}
 use Rattle.model.specs.Rules.{same_pair, and_pair, or_pair, algorithm, algorithm_line, algorithms, activation, activation_line, accumulation}
@@ -26,13 +27,13 @@ use Rattle.cursor.proofs.Laws.{kind_seen, text_seen, changed, judged_bad, judged
 use Rattle.block_tables.specs.declared.Heading.{Heading}
 use Rattle.block_tables.specs.View.{Headed}
 use Rattle.rule_heading.specs.declared.Opened.{Opened}
-use Rattle.rule_heading.specs.Opening.{headed, Bare, Opens, pairs, pair_at}
+use Rattle.rule_heading.specs.Opening.{headed, Bare, Opens, pairs}
 
 abbrev pub view : List ℕ → Opened → Block → ℕ → Parse
 view s p b n = seen s p.cursor (headed s p.heading b) n
 
 abbrev pub none_yet : Heading
-none_yet = record { start = 0; end = 0; pair = 0; accu = 0; act = 0 }
+none_yet = record { start = 0; end = 0; pair = min-max; accu = by-max; act = by-min }
 
 pub bare : (s : List ℕ) (b : Block) → Bare b → headed s none_yet b ≡ b
 bare s b h =
@@ -115,15 +116,15 @@ module _ (s : List ℕ) (p : Opened) where
   abbrev with_name : Heading
   with_name = record { start = p.cursor.start; end = p.cursor.end; pair = h.pair; accu = h.accu; act = h.act }
 
-  pub name_headed : Fits s p.cursor → Headed s h → Headed s with_name
-  name_headed f k = record { order = f.order; inside = f.inside; pair = k.pair; accu = k.accu; act = k.act }
+  pub name_headed : Fits s p.cursor → Headed s with_name
+  name_headed f = record { order = f.order; inside = f.inside }
 
   pub name_fault : (w : ℕ) (b : Block) (n : ℕ) → w ≡ fault (a_name (view s p b n) []) → (w ≡ 0 → ⊥)
       → own_name with_rule_block (view s p b n) ≡ refuse w (view s p b n)
   unfolding own_name
   name_fault w b n e z = let y = view s p b n in judged_bad y (advance (change (with_rule_block (text y)) y)) w (a_name y []) [] (sym e) z
 
-  pub name_given : (b : Block) (n : ℕ) → 0 ≡ fault (a_name (view s p b n) []) → p.cursor.why ≡ 0
+  pub name_given : (b : Block) (n : ℕ) → 0 ≡ fault (a_name (view s p b n) []) → p.cursor.refused ≡ None
       → own_name with_rule_block (view s p b n) ≡ advance (seen s p.cursor (headed s with_name b) n)
   unfolding own_name judged numbered
   name_given b n e z =
@@ -133,74 +134,84 @@ module _ (s : List ℕ) (p : Opened) where
       ∙ ap advance (changed s p.cursor (headed s h b) n (with_rule_block (text_of s p.cursor)) z)
 
   -- ALGORITHMS
-  abbrev with_pair_lem : ℕ → Heading
+  abbrev with_pair_lem : Pair → Heading
   with_pair_lem a = record { start = h.start; end = h.end; pair = a; accu = h.accu; act = h.act }
 
-  pub pair_headed : (a : ℕ) → a ≤ 2 → Headed s h → Headed s (with_pair_lem a)
-  pair_headed a e k = record { order = k.order; inside = k.inside; pair = e; accu = k.accu; act = k.act }
+  pub pair_headed : (a : Pair) → Headed s h → Headed s (with_pair_lem a)
+  pair_headed a k = record { order = k.order; inside = k.inside }
 
-  pub algorithm_none : (second : Bool) (a : ℕ) (b : Block) (n : ℕ) → a ≡ 3 → algorithm second (pair_at a) (view s p b n) ≡ refuse 2 (view s p b n)
-  unfolding algorithm
-  algorithm_none second a b n e = ap (λ (x : ℕ). algorithm second (pair_at x) (view s p b n)) e
+  module _ (second : Bool) (k : ℕ) (b : Block) (n : ℕ) where
+    abbrev judged_pair : Parse
+    judged_pair = algorithm second (pairs k (kind (view s p b n))) (view s p b n)
 
-  a_pair : (a : ℕ) → (a ≡ 3 → ⊥) → pair_at a ≡ some (pair_of a)
-  a_pair a z = simp (ne_eqb _ _ z)
+    this_pair : (o : Option Pair) → pairs k p.cursor.kind ≡ o → judged_pair ≡ algorithm second o (view s p b n)
+    this_pair o e = ap (λ (x : Option Pair). algorithm second x (view s p b n)) (ap (pairs k) (kind_seen s p.cursor (headed s h b) n) ∙ e)
 
-  same_pair_lem : (a c : ℕ) → a ≤ 2 → c ≤ 2 → same_pair (pair_of a) (pair_of c) ≡ eqb a c
-  same_pair_lem zero zero u v = refl
-  same_pair_lem zero (suc zero) u v = refl
-  same_pair_lem zero (suc (suc zero)) u v = refl
-  same_pair_lem zero (suc (suc (suc c))) u v = absurd (omega arith)
-  same_pair_lem (suc zero) zero u v = refl
-  same_pair_lem (suc zero) (suc zero) u v = refl
-  same_pair_lem (suc zero) (suc (suc zero)) u v = refl
-  same_pair_lem (suc zero) (suc (suc (suc c))) u v = absurd (omega arith)
-  same_pair_lem (suc (suc zero)) zero u v = refl
-  same_pair_lem (suc (suc zero)) (suc zero) u v = refl
-  same_pair_lem (suc (suc zero)) (suc (suc zero)) u v = refl
-  same_pair_lem (suc (suc zero)) (suc (suc (suc c))) u v = absurd (omega arith)
-  same_pair_lem (suc (suc (suc a))) c u v = absurd (omega arith)
+    pub algorithm_none : pairs k p.cursor.kind ≡ none → judged_pair ≡ refuse 2 (view s p b n)
+    unfolding algorithm
+    algorithm_none e = this_pair none e
 
-  algorithm_some : (second : Bool) (a : ℕ) (b : Block) (n : ℕ) → (a ≡ 3 → ⊥)
-      → algorithm second (pair_at a) (view s p b n) ≡ (if not second || same_pair (pair_of a) (pair_of h.pair) then advance
-      (change (with_pair (pair_of a)) (view s p b n)) else refuse 8 (view s p b n))
-  unfolding algorithm judged seen
-  algorithm_some second a b n z = ap (λ (x : Option Pair). algorithm second x (view s p b n)) (a_pair a z)
+    pub algorithm_other : (a : Pair) → pairs k p.cursor.kind ≡ some a → second ≡ true → same_pair a h.pair ≡ false → judged_pair ≡ refuse 8 (view s p b n)
+    unfolding algorithm judged seen
+    algorithm_other a e u z = this_pair (some a) e ∙ simp (u, z)
 
-  pub algorithm_other : (second : Bool) (a : ℕ) (b : Block) (n : ℕ) → a ≤ 2 → Headed s h → second ≡ true → (h.pair ≡ a → ⊥)
-      → algorithm second (pair_at a) (view s p b n) ≡ refuse 8 (view s p b n)
-  algorithm_other second a b n u k e z =
-      algorithm_some second a b n (λ y. omega arith) ∙ simp (e, same_pair_lem a h.pair u k.pair, ne_eqb a h.pair (λ y. z (sym y)))
+    pub algorithm_set : (a : Pair) → pairs k p.cursor.kind ≡ some a → p.cursor.refused ≡ None → not second || same_pair a h.pair ≡ true
+        → judged_pair ≡ advance (seen s p.cursor (headed s (with_pair_lem a) b) n)
+    unfolding algorithm judged seen
+    algorithm_set a e z u = this_pair (some a) e ∙ simp u (ap advance (changed s p.cursor (headed s h b) n (with_pair a) z))
 
-  pub algorithm_set : (second : Bool) (a : ℕ) (b : Block) (n : ℕ) → a ≤ 2 → p.cursor.why ≡ 0 → not second || same_pair (pair_of a) (pair_of h.pair) ≡ true
-      → algorithm second (pair_at a) (view s p b n) ≡ advance (seen s p.cursor (headed s (with_pair_lem a) b) n)
-  algorithm_set second a b n u z e =
-      algorithm_some second a b n (λ y. omega arith) ∙ simp e (ap advance (changed s p.cursor (headed s h b) n (with_pair (pair_of a)) z))
+  -- pairs compared in the code, and in the rules
+  same_by : (a c : Pair) → sameb the_type c a ≡ same_pair a c
+  same_by min-max min-max = refl
+  same_by min-max prod-asum = refl
+  same_by min-max bdif-bsum = refl
+  same_by prod-asum min-max = refl
+  same_by prod-asum prod-asum = refl
+  same_by prod-asum bdif-bsum = refl
+  same_by bdif-bsum min-max = refl
+  same_by bdif-bsum prod-asum = refl
+  same_by bdif-bsum bdif-bsum = refl
 
-  pub may_first : (second : Bool) (a : ℕ) → second ≡ false → not second || same_pair (pair_of a) (pair_of h.pair) ≡ true
+  pub other_pair : (a : Pair) → not (sameb the_type h.pair a) ≡ true → same_pair a h.pair ≡ false
+  other_pair a e = go (same_pair a h.pair) (rw (same_by a h.pair) at e)
+    where
+      go : (t : Bool) → not t ≡ true → t ≡ false
+      go false q = refl
+      go true q = cc
+
+  pub this_one : (a : Pair) → not (sameb the_type h.pair a) ≡ false → same_pair a h.pair ≡ true
+  this_one a e = go (same_pair a h.pair) (rw (same_by a h.pair) at e)
+    where
+      go : (t : Bool) → not t ≡ false → t ≡ true
+      go false q = cc
+      go true q = refl
+
+  pub may_first : (second : Bool) (a : Pair) → second ≡ false → not second || same_pair a h.pair ≡ true
   may_first second a e = simp e
 
-  pub may_second : (second : Bool) (a : ℕ) → a ≤ 2 → Headed s h → h.pair ≡ a → not second || same_pair (pair_of a) (pair_of h.pair) ≡ true
-  may_second true a u k e = simp (same_pair_lem a h.pair u k.pair, eq-eqb a h.pair (sym e))
-  may_second false a u k e = refl
+  pub may_second : (second : Bool) (a : Pair) → same_pair a h.pair ≡ true → not second || same_pair a h.pair ≡ true
+  may_second true a e = e
+  may_second false a e = refl
 
-  pub line_pair : (second : Bool) (k w : ℕ) (b : Block) (n : ℕ) → pairs k p.cursor.kind ≡ pair_at w
-      → algorithm second (pairs k (kind (view s p b n))) (view s p b n) ≡ algorithm second (pair_at w) (view s p b n)
-  line_pair second k w b n e = ap (λ (x : Option Pair). algorithm second x (view s p b n))
-      (ap (λ (y : ℕ). pairs k y) (kind_seen s p.cursor (headed s h b) n) ∙ e)
+  pub no_end : (k : ℕ) (a : Pair) → pairs k p.cursor.kind ≡ some a → p.cursor.kind ≡ 0 → ⊥
+  no_end k a e z = go (eqb k AND) (sym (ap (pairs k) z) ∙ e)
+    where
+      go : (t : Bool) → (if t then and_pair 0 else or_pair 0) ≡ some a → ⊥
+      go true q = cc
+      go false q = cc
 
   -- ACTIVATION AND ACCUMULATION
-  abbrev with_act_lem : ℕ → Heading
+  abbrev with_act_lem : Activation → Heading
   with_act_lem a = record { start = h.start; end = h.end; pair = h.pair; accu = h.accu; act = a }
 
-  abbrev with_accu_lem : ℕ → Heading
+  abbrev with_accu_lem : Accumulation → Heading
   with_accu_lem a = record { start = h.start; end = h.end; pair = h.pair; accu = a; act = h.act }
 
-  pub act_headed : (a : ℕ) → a ≤ 1 → Headed s h → Headed s (with_act_lem a)
-  act_headed a e k = record { order = k.order; inside = k.inside; pair = k.pair; accu = k.accu; act = e }
+  pub act_headed : (a : Activation) → Headed s h → Headed s (with_act_lem a)
+  act_headed a k = record { order = k.order; inside = k.inside }
 
-  pub accu_headed : (a : ℕ) → a ≤ 1 → Headed s h → Headed s (with_accu_lem a)
-  accu_headed a e k = record { order = k.order; inside = k.inside; pair = k.pair; accu = e; act = k.act }
+  pub accu_headed : (a : Accumulation) → Headed s h → Headed s (with_accu_lem a)
+  accu_headed a k = record { order = k.order; inside = k.inside }
 
   module _ (b : Block) (n : ℕ) where
     -- one of two algorithms, or a wrong token
@@ -208,21 +219,21 @@ module _ (s : List ℕ) (p : Opened) where
       abbrev one_of : Part
       one_of r = if is k r then advance (change f r) else if is l r then advance (change g r) else refuse 2 r
 
-      the_first : p.cursor.kind ≡ k → p.cursor.why ≡ 0 → one_of (view s p b n) ≡ advance (seen s p.cursor (f (headed s h b)) n)
+      the_first : p.cursor.kind ≡ k → p.cursor.refused ≡ None → one_of (view s p b n) ≡ advance (seen s p.cursor (f (headed s h b)) n)
       the_first e z = simp (kind_seen, eq-eqb _ _ e) (ap advance (changed s p.cursor (headed s h b) n f z))
 
-      the_second : eqb l k ≡ false → p.cursor.kind ≡ l → p.cursor.why ≡ 0
+      the_second : eqb l k ≡ false → p.cursor.kind ≡ l → p.cursor.refused ≡ None
           → one_of (view s p b n) ≡ advance (seen s p.cursor (g (headed s h b)) n)
       the_second q e z = simp (kind_seen, e, q, eq-eqb l l refl) (ap advance (changed s p.cursor (headed s h b) n g z))
 
       neither : (p.cursor.kind ≡ k → ⊥) → (p.cursor.kind ≡ l → ⊥) → one_of (view s p b n) ≡ refuse 2 (view s p b n)
       neither u v = simp (kind_seen, ne_eqb _ _ u, ne_eqb _ _ v)
 
-    pub act_min : p.cursor.kind ≡ MIN → p.cursor.why ≡ 0 → activation (view s p b n) ≡ advance (seen s p.cursor (headed s (with_act_lem 0) b) n)
+    pub act_min : p.cursor.kind ≡ MIN → p.cursor.refused ≡ None → activation (view s p b n) ≡ advance (seen s p.cursor (headed s (with_act_lem by-min) b) n)
     unfolding activation
     act_min = the_first MIN (with_act by-min) PROD (with_act by-prod)
 
-    pub act_prod : p.cursor.kind ≡ PROD → p.cursor.why ≡ 0 → activation (view s p b n) ≡ advance (seen s p.cursor (headed s (with_act_lem 1) b) n)
+    pub act_prod : p.cursor.kind ≡ PROD → p.cursor.refused ≡ None → activation (view s p b n) ≡ advance (seen s p.cursor (headed s (with_act_lem by-prod) b) n)
     unfolding activation
     act_prod = the_second MIN (with_act by-min) PROD (with_act by-prod) refl
 
@@ -230,11 +241,11 @@ module _ (s : List ℕ) (p : Opened) where
     unfolding activation
     act_none = neither MIN (with_act by-min) PROD (with_act by-prod)
 
-    pub accu_max : p.cursor.kind ≡ MAX → p.cursor.why ≡ 0 → accumulation (view s p b n) ≡ advance (seen s p.cursor (headed s (with_accu_lem 0) b) n)
+    pub accu_max : p.cursor.kind ≡ MAX → p.cursor.refused ≡ None → accumulation (view s p b n) ≡ advance (seen s p.cursor (headed s (with_accu_lem by-max) b) n)
     unfolding accumulation
     accu_max = the_first MAX (with_accu by-max) BSUM (with_accu by-bsum)
 
-    pub accu_bsum : p.cursor.kind ≡ BSUM → p.cursor.why ≡ 0 → accumulation (view s p b n) ≡ advance (seen s p.cursor (headed s (with_accu_lem 1) b) n)
+    pub accu_bsum : p.cursor.kind ≡ BSUM → p.cursor.refused ≡ None → accumulation (view s p b n) ≡ advance (seen s p.cursor (headed s (with_accu_lem by-bsum) b) n)
     unfolding accumulation
     accu_bsum = the_second MAX (with_accu by-max) BSUM (with_accu by-bsum) refl
 

@@ -1,6 +1,8 @@
 -- A helper: what a rule block begins with, as the rules read it and as it is kept. `parts` of reader/proofs/Laws ties
 -- `opening` to the model's `rule_block`.
 use Rattle.std.specs.Prelude.{◌≡◌, List, [], ℕ, ◌≤◌, eqb, if◌then◌else◌}
+use Rattle.std.specs.declared.option.Option as read
+use Rattle.std.specs.Prelude.{Some, None}
 use Rattle.std.proofs.Math.Option.{Option, none, some}
 use Rattle.std.proofs.Math.Seq.{slice}
 use Rattle.model.specs.Basic.{◌▸◌}
@@ -9,7 +11,6 @@ use Rattle.model.specs.declared.Pair.{Pair}
 use Rattle.model.specs.declared.Pair.TheVariants.{MinMax as min-max}
 use Rattle.model.specs.declared.Activation.TheVariants.{Min as by-min}
 use Rattle.model.specs.declared.Accumulation.TheVariants.{Max as by-max}
-use Rattle.model.specs.Image.{pair_of, accu_of, act_of}
 use Rattle.model.specs.Keywords.{AND, ACCU, COLON, RULEBLOCK, SEMICOLON}
 use Rattle.model.specs.Parse.{Part, expect, own_name}
 use Rattle.model.specs.Rules.{and_pair, or_pair, algorithms, activation_line, accumulation}
@@ -32,9 +33,9 @@ headed s h b = record {
   inputs = b.inputs;
   outputs = b.outputs;
   rule_block = slice h.start h.end s;
-  pair = pair_of h.pair;
-  act = act_of h.act;
-  accu = accu_of h.accu;
+  pair = h.pair;
+  act = h.act;
+  accu = h.accu;
   rules = b.rules;
 }
 
@@ -57,6 +58,7 @@ pub record Opens (part : Part) (s : List ℕ) (p r : Opened) : Type 0 where
 abbrev pub pairs : ℕ → ℕ → Option Pair
 pairs k w = if eqb k AND then and_pair w else or_pair w
 
--- 3 is no pair
-abbrev pub pair_at : ℕ → Option Pair
-pair_at a = if eqb a 3 then none else some (pair_of a)
+-- what was read, as the rules have it
+abbrev pub as_read : read.Option Pair → Option Pair
+as_read None = none
+as_read (Some a) = some a

@@ -4,15 +4,18 @@
 ghost use Rattle.std.specs.Prelude.{◌≡◌, List, ℕ, ◌≤◌, ◌<◌};
 ghost use Rattle.model.specs.Basic.{◌▸◌};
 ghost use Rattle.model.specs.Block.{Block, with_rule_block};
-ghost use Rattle.model.specs.Keywords.{COLON, SEMICOLON, ACCU, END};
-ghost use Rattle.model.specs.Parse.{refuse, expect, own_name};
+ghost use Rattle.model.specs.Keywords.{COLON, SEMICOLON, ACCU};
+ghost use Rattle.model.specs.Parse.{kind, refuse, expect, own_name};
 ghost use Rattle.model.specs.Rules.{and_pair, or_pair, algorithm as algorithmOf, algorithm_line, algorithms as algorithmsOf, activation as activationOf, activation_line, accumulation as accumulationOf};
+ghost use Rattle.refusals.specs.Faults.{number};
 ghost use Rattle.cursor.specs.View.{seen, Fits, left};
 ghost use Rattle.block_tables.specs.View.{Headed};
-ghost use Rattle.rule_heading.specs.Opening.{opening, headed, Bare, Opens, pairs, pair_at};
+ghost use Rattle.rule_heading.specs.Opening.{opening, headed, Bare, Opens, pairs, as_read};
 
 use block_tables::Heading;
 use cursor::Cursor;
+use model::{Accumulation, Activation, Pair};
+use refusals::Fault;
 
 // A reading in a heading, beside what it says so far.
 #[derive(Clone, Copy)]
@@ -21,16 +24,12 @@ pub struct Opened {
     pub heading: Heading,
 }
 
-fn refused(p: Opened, why: u8) -> Opened
-    requires { 0 < why }
-    ensures { (s : List ℕ) → Fits s p.cursor → Headed s p.heading → Opens (refuse why) s p result }
+fn refused(p: Opened, fault: Fault) -> Opened
+    ensures { (s : List ℕ) → Fits s p.cursor → Headed s p.heading → Opens (refuse (number fault)) s p result }
 {
-    let c = p.cursor;
-    let h = p.heading;
-    let d = cursor::refuse(c, why);
     Opened {
-        cursor: d,
-        heading: h,
+        cursor: cursor::refuse(p.cursor, fault),
+        ..p
     }
 }
 
@@ -38,12 +37,9 @@ fn expected(s: &[u8], p: Opened, k: u8) -> Opened
     requires { Fits s.now p.cursor × Headed s.now p.heading × (0 < k) }
     ensures { Opens (expect k) s.now p result }
 {
-    let c = p.cursor;
-    let h = p.heading;
-    let d = cursor::expect(s, c, k);
     Opened {
-        cursor: d,
-        heading: h,
+        cursor: cursor::expect(s, p.cursor, k),
+        ..p
     }
 }
 
@@ -53,85 +49,68 @@ fn block_name(s: &[u8], p: Opened) -> Opened
     ensures { Opens (own_name with_rule_block) s.now p result }
 {
     let c = p.cursor;
-    let w = cursor::name_fault(c);
-    if w != 0 {
-        return refused(p, w);
+    if let Err(fault) = cursor::name_fault(c) {
+        return refused(p, fault);
     }
-    let mut h = p.heading;
-    h.start = c.start;
-    h.end = c.end;
-    let d = cursor::advance(s, c);
     Opened {
-        cursor: d,
-        heading: h,
+        cursor: cursor::advance(s, c),
+        heading: Heading {
+            start: c.start,
+            end: c.end,
+            ..p.heading
+        },
     }
 }
 
-// The pair that an algorithm for AND is of; 3 where it is none.
-fn and_pair(w: u8) -> u32
-    ensures w_value { and_pair w ≡ pair_at result }
-    ensures within { (result ≤ 3) × (result < 3 → w ≡ 0 → ⊥) }
+// The pair that an algorithm for AND is of.
+fn and_pair(w: u8) -> Option<Pair>
+    ensures { as_read result ≡ and_pair w }
 {
-    if w == token_kinds::MIN {
-        return 0;
+    match w {
+        token_kinds::MIN => Some(Pair::MinMax),
+        token_kinds::PROD => Some(Pair::ProdAsum),
+        token_kinds::BDIF => Some(Pair::BdifBsum),
+        _ => None,
     }
-    if w == token_kinds::PROD {
-        return 1;
-    }
-    if w == token_kinds::BDIF {
-        return 2;
-    }
-    3
 }
 
-// The pair that an algorithm for OR is of; 3 where it is none.
-fn or_pair(w: u8) -> u32
-    ensures w_value { or_pair w ≡ pair_at result }
-    ensures within { (result ≤ 3) × (result < 3 → w ≡ 0 → ⊥) }
+// The pair that an algorithm for OR is of.
+fn or_pair(w: u8) -> Option<Pair>
+    ensures { as_read result ≡ or_pair w }
 {
-    if w == token_kinds::MAX {
-        return 0;
+    match w {
+        token_kinds::MAX => Some(Pair::MinMax),
+        token_kinds::ASUM => Some(Pair::ProdAsum),
+        token_kinds::BSUM => Some(Pair::BdifBsum),
+        _ => None,
     }
-    if w == token_kinds::ASUM {
-        return 1;
-    }
-    if w == token_kinds::BSUM {
-        return 2;
-    }
-    3
 }
 
-fn pair_at(k: u8, w: u8) -> u32
-    ensures w_value { pairs k w ≡ pair_at result }
-    ensures within { (result ≤ 3) × (result < 3 → w ≡ 0 → ⊥) }
+// For AND or OR.
+fn pair_of(k: u8, w: u8) -> Option<Pair>
+    ensures { as_read result ≡ pairs k w }
 {
     if k == token_kinds::AND {
-        return and_pair(w);
+        and_pair(w)
+    } else {
+        or_pair(w)
     }
-    or_pair(w)
 }
 
 // The first algorithm sets the pair; the second has to be of it.
-fn algorithm(s: &[u8], p: Opened, second: bool, a: u32) -> Opened
-    requires { Fits s.now p.cursor × Headed s.now p.heading × (a ≤ 3)
-        × (a < 3 → p.cursor.kind ≡ END → ⊥) }
-    ensures { Opens (algorithmOf second (pair_at a)) s.now p result }
+fn algorithm(s: &[u8], p: Opened, second: bool, k: u8) -> Opened
+    requires { Fits s.now p.cursor × Headed s.now p.heading }
+    ensures { Opens (λ y. algorithmOf second (pairs k (kind y)) y) s.now p result }
 {
-    if a == 3 {
-        return refused(p, 2);
+    let Some(pair) = pair_of(k, p.cursor.kind) else {
+        return refused(p, Fault::WrongToken);
+    };
+    if second && p.heading.pair != pair {
+        return refused(p, Fault::Unpaired);
     }
-    let c = p.cursor;
-    let mut h = p.heading;
-    if second {
-        if h.pair != a {
-            return refused(p, 8);
-        }
-    }
-    h.pair = a;
-    let d = cursor::advance(s, c);
     Opened {
-        cursor: d,
-        heading: h,
+        cursor: cursor::advance(s, p.cursor),
+        heading: Heading { pair, ..p.heading },
     }
 }
 
@@ -140,12 +119,10 @@ fn algorithm_line(s: &[u8], p: Opened, second: bool, k: u8) -> Opened
     requires { Fits s.now p.cursor × Headed s.now p.heading × (0 < k) }
     ensures { Opens (algorithm_line second k (pairs k)) s.now p result }
 {
-    let a = expected(s, p, k);
-    let b = expected(s, a, token_kinds::COLON);
-    let c = b.cursor;
-    let w = pair_at(k, c.kind);
-    let d = algorithm(s, b, second, w);
-    expected(s, d, token_kinds::SEMICOLON)
+    let p = expected(s, p, k);
+    let p = expected(s, p, token_kinds::COLON);
+    let p = algorithm(s, p, second, k);
+    expected(s, p, token_kinds::SEMICOLON)
 }
 
 // Each optional, in either order.
@@ -153,46 +130,32 @@ fn algorithms(s: &[u8], p: Opened) -> Opened
     requires { Fits s.now p.cursor × Headed s.now p.heading }
     ensures { Opens algorithmsOf s.now p result }
 {
-    if p.cursor.kind == token_kinds::AND {
-        let q = algorithm_line(s, p, false, token_kinds::AND);
-        if q.cursor.kind == token_kinds::OR {
-            return algorithm_line(s, q, true, token_kinds::OR);
-        }
-        return q;
+    let (first, other) = match p.cursor.kind {
+        token_kinds::AND => (token_kinds::AND, token_kinds::OR),
+        token_kinds::OR => (token_kinds::OR, token_kinds::AND),
+        _ => return p,
+    };
+    let p = algorithm_line(s, p, false, first);
+    if p.cursor.kind == other {
+        algorithm_line(s, p, true, other)
+    } else {
+        p
     }
-    if p.cursor.kind == token_kinds::OR {
-        let q = algorithm_line(s, p, false, token_kinds::OR);
-        if q.cursor.kind == token_kinds::AND {
-            return algorithm_line(s, q, true, token_kinds::AND);
-        }
-        return q;
-    }
-    p
 }
 
 fn activation(s: &[u8], p: Opened) -> Opened
     requires { Fits s.now p.cursor × Headed s.now p.heading }
     ensures { Opens activationOf s.now p result }
 {
-    let c = p.cursor;
-    let mut h = p.heading;
-    if c.kind == token_kinds::MIN {
-        h.act = 0;
-        let d = cursor::advance(s, c);
-        return Opened {
-            cursor: d,
-            heading: h,
-        };
+    let act = match p.cursor.kind {
+        token_kinds::MIN => Activation::Min,
+        token_kinds::PROD => Activation::Prod,
+        _ => return refused(p, Fault::WrongToken),
+    };
+    Opened {
+        cursor: cursor::advance(s, p.cursor),
+        heading: Heading { act, ..p.heading },
     }
-    if c.kind == token_kinds::PROD {
-        h.act = 1;
-        let d = cursor::advance(s, c);
-        return Opened {
-            cursor: d,
-            heading: h,
-        };
-    }
-    refused(p, 2)
 }
 
 // [ACT with its algorithm]
@@ -203,35 +166,25 @@ fn activation_line(s: &[u8], p: Opened) -> Opened
     if p.cursor.kind != token_kinds::ACT {
         return p;
     }
-    let a = expected(s, p, token_kinds::ACT);
-    let b = expected(s, a, token_kinds::COLON);
-    let d = activation(s, b);
-    expected(s, d, token_kinds::SEMICOLON)
+    let p = expected(s, p, token_kinds::ACT);
+    let p = expected(s, p, token_kinds::COLON);
+    let p = activation(s, p);
+    expected(s, p, token_kinds::SEMICOLON)
 }
 
 fn accumulation(s: &[u8], p: Opened) -> Opened
     requires { Fits s.now p.cursor × Headed s.now p.heading }
     ensures { Opens accumulationOf s.now p result }
 {
-    let c = p.cursor;
-    let mut h = p.heading;
-    if c.kind == token_kinds::MAX {
-        h.accu = 0;
-        let d = cursor::advance(s, c);
-        return Opened {
-            cursor: d,
-            heading: h,
-        };
+    let accu = match p.cursor.kind {
+        token_kinds::MAX => Accumulation::Max,
+        token_kinds::BSUM => Accumulation::Bsum,
+        _ => return refused(p, Fault::WrongToken),
+    };
+    Opened {
+        cursor: cursor::advance(s, p.cursor),
+        heading: Heading { accu, ..p.heading },
     }
-    if c.kind == token_kinds::BSUM {
-        h.accu = 1;
-        let d = cursor::advance(s, c);
-        return Opened {
-            cursor: d,
-            heading: h,
-        };
-    }
-    refused(p, 2)
 }
 
 // ACCU with its algorithm
@@ -240,10 +193,10 @@ fn accumulation_line(s: &[u8], p: Opened) -> Opened
     ensures { Opens (λ y. y ▸ expect ACCU ▸ expect COLON ▸ accumulationOf ▸ expect SEMICOLON)
         s.now p result }
 {
-    let a = expected(s, p, token_kinds::ACCU);
-    let b = expected(s, a, token_kinds::COLON);
-    let d = accumulation(s, b);
-    expected(s, d, token_kinds::SEMICOLON)
+    let p = expected(s, p, token_kinds::ACCU);
+    let p = expected(s, p, token_kinds::COLON);
+    let p = accumulation(s, p);
+    expected(s, p, token_kinds::SEMICOLON)
 }
 
 pub fn rule_heading(s: &[u8], c: Cursor) -> Opened
@@ -254,23 +207,19 @@ pub fn rule_heading(s: &[u8], c: Cursor) -> Opened
     ensures within { (left s.now result.cursor ≤ left s.now c)
         × Fits s.now result.cursor × Headed s.now result.heading }
 {
-    let h = Heading {
-        start: 0,
-        end: 0,
-        pair: 0,
-        accu: 0,
-        act: 0,
-    };
-    let a = expected(
-        s,
-        Opened {
-            cursor: c,
-            heading: h,
+    let p = Opened {
+        cursor: c,
+        heading: Heading {
+            start: 0,
+            end: 0,
+            pair: Pair::MinMax,
+            accu: Accumulation::Max,
+            act: Activation::Min,
         },
-        token_kinds::RULEBLOCK,
-    );
-    let b = block_name(s, a);
-    let d = algorithms(s, b);
-    let e = activation_line(s, d);
-    accumulation_line(s, e)
+    };
+    let p = expected(s, p, token_kinds::RULEBLOCK);
+    let p = block_name(s, p);
+    let p = algorithms(s, p);
+    let p = activation_line(s, p);
+    accumulation_line(s, p)
 }

@@ -1,5 +1,5 @@
 -- The laws of reading rules.
-use Rattle.std.specs.Prelude.{if◌then◌else◌}
+use Rattle.std.specs.Prelude.{None, if◌then◌else◌}
 use mathlib.Core.Path.{◌≡◌, refl, sym, ap, ◌∙◌, subst}
 use mathlib.Core.Bool.{Bool, true, false, ◌&&◌, not}
 use mathlib.Core.List.{List, [], ◌∷◌, ◌++◌, append_assoc, append-nil}
@@ -28,7 +28,8 @@ use Rattle.cursor.specs.View.{seen, text_of, Fits, left, Step, fault}
 use Rattle.cursor.proofs.Laws.{kind_seen, text_seen, block_seen, changed, unchanged, judged_bad, judged_good, numbered, lost_is, lost_expect, lost_judged, lost_repeated}
 use Rattle.block_tables.specs.declared.Totals.{Totals}
 use Rattle.block_tables.specs.Stored.{rule_row}
-use Rattle.symbol_table.specs.Symbols.{Describes, output_count, term_count, first, among}
+use Rattle.lookup.specs.Names.{among}
+use Rattle.symbol_table.specs.Symbols.{Describes, output_count, term_count, first}
 use Rattle.condition_text.specs.Pending.{Adds}
 use Rattle.condition_text.proofs.Laws.{adds, words_put}
 use Rattle.rule_text.specs.declared.Concluded.{Concluded}
@@ -277,7 +278,7 @@ module _ (s names symbols : List ℕ) (b : Block) (D : Describes s names symbols
     pub term_unknown : term_count symbols (input_limit + o) ≤ j → concluded_term o here ≡ refuse 5 here
     term_unknown h = term_named ∙ simp (le-ltb _ _ h)
 
-    pub term_known : j < term_count symbols (input_limit + o) → c.why ≡ 0 → concluded_term o here ≡ advance (seen s c (midst b rs (gives (its ∷ []) q)) m)
+    pub term_known : j < term_count symbols (input_limit + o) → c.refused ≡ None → concluded_term o here ≡ advance (seen s c (midst b rs (gives (its ∷ []) q)) m)
     unfolding change_rule
     term_known h z =
         term_named ∙ simp (lt-ltb _ _ h)
@@ -381,7 +382,7 @@ module _ (s : List ℕ) (b : Block) (rs : List Rule) (q : Rule) (m : ℕ) (c : C
         ∙ sym (weight_follows ∙ judged_bad (seen s d whole m)
         (advance (change (change_rule (with_weight (unit_of (text (seen s d whole m))))) (seen s d whole m))) w (a_unit (seen s d whole m)) [] (sym f) z)
 
-    pub weight_given : (w : ℕ) (e : Cursor) → 0 ≡ fault (a_unit (seen s d whole m)) → Step advance s d e → d.why ≡ 0 → w ≡ unit_of (text_of s d)
+    pub weight_given : (w : ℕ) (e : Cursor) → 0 ≡ fault (a_unit (seen s d whole m)) → Step advance s d e → d.refused ≡ None → w ≡ unit_of (text_of s d)
         → seen s e (midst b rs (with_weight w q)) m ≡ weighted (seen s c whole m)
     unfolding weight judged numbered change_rule
     weight_given w e f x z v =
@@ -395,7 +396,7 @@ module _ (s : List ℕ) (b : Block) (rs : List Rule) (q : Rule) (m : ℕ) (c : C
 
 -- A RULE, whole
 -- after a refused condition nothing more is read
-pub given_lost : (s : List ℕ) (d : Cursor) (b : Block) (m n : ℕ) (g : ConditionRead) → Fits s d → (d.why ≡ 0 → ⊥) → seen s d b m ≡ g.parse
+pub given_lost : (s : List ℕ) (d : Cursor) (b : Block) (m n : ℕ) (g : ConditionRead) → Fits s d → (d.refused ≡ None → ⊥) → seen s d b m ≡ g.parse
     → rule_given n g ≡ seen s d b m
 unfolding rule_given listed conclusion weighted
 given_lost s d b m n g f h e =
@@ -422,7 +423,7 @@ from_number s c f b m e =
 abbrev pub begun : ℕ → Condition → Rule
 begun n t = record { number = n; condition = t; conclusions = []; weight = M }
 
-pub given_begun : (s : List ℕ) (d : Cursor) (b : Block) (m n : ℕ) (g : ConditionRead) → d.why ≡ 0 → seen s d b m ≡ g.parse
+pub given_begun : (s : List ℕ) (d : Cursor) (b : Block) (m n : ℕ) (g : ConditionRead) → d.refused ≡ None → seen s d b m ≡ g.parse
     → rule_given n g ≡ expect SEMICOLON (weighted (listed conclusion (expect THEN (seen s d (midst b b.rules (begun n g.tree)) m))))
 unfolding rule_given add_rule
 given_begun s d b m n g h e =
@@ -491,7 +492,7 @@ module _ (s : List ℕ) (b : Block) (c : Cursor) (m : ℕ) where
     rule_room h = simp (kind_seen, eq-eqb _ _ k, how_many_rules, lt-ltb _ _ h)
 
 pub goes_none : {part : Part} {s : List ℕ} {b : Block} {p r : Progress} {rows ws ks : List ℕ} (w : ℕ) → Step (refuse w) s p.cursor r.cursor
-    → r.totals ≡ p.totals → (r.cursor.why ≡ 0 → ⊥)
+    → r.totals ≡ p.totals → (r.cursor.refused ≡ None → ⊥)
     → part (seen s p.cursor b p.totals.words) ≡ refuse w (seen s p.cursor b p.totals.words) → Goes part s b p r rows ws ks
 goes_none {part} {s} {b} {p} {r} w a e z f = record {
   rules = b.rules;
@@ -510,10 +511,10 @@ pub record Runs (s : List ℕ) (b : Block) (rs₀ : List Rule) (n : ℕ) (q₀ q
   pub rules : List Rule
   pub again : Again (repeats RULE rule) (left s q.cursor) (seen s q.cursor (holding rules b) q.totals.words)
       (repeat_on n RULE rule (seen s q₀.cursor (holding rs₀ b) q₀.totals.words))
-  pub kept : q.cursor.why ≡ 0 → Kept rules rows ws ks q.totals
+  pub kept : q.cursor.refused ≡ None → Kept rules rows ws ks q.totals
 
 module _ (s : List ℕ) (b : Block) (rs₀ : List Rule) (n : ℕ) where
-  pub runs_begin : (q : Progress) (rows ws ks : List ℕ) → left s q.cursor < n → (q.cursor.why ≡ 0 → Kept rs₀ rows ws ks q.totals)
+  pub runs_begin : (q : Progress) (rows ws ks : List ℕ) → left s q.cursor < n → (q.cursor.refused ≡ None → Kept rs₀ rows ws ks q.totals)
       → Runs s b rs₀ n q q rows ws ks
   runs_begin q rows ws ks h k = record { rules = rs₀; again = (n, h, refl); kept = k }
 

@@ -1,6 +1,6 @@
 -- A helper: what reading rules adds: the rules' reading of the text, and each rule's words behind those that are kept.
 -- `Goes`, which `rules` ensures, ties both to the model's `rule`.
-use Rattle.std.specs.Prelude.{◌≡◌, List, [], ◌∷◌, ◌++◌, ℕ, ◌+◌, ◌*◌, ◌≤◌, length, take}
+use Rattle.std.specs.Prelude.{None, ◌≡◌, List, [], ◌∷◌, ◌++◌, ℕ, ◌+◌, ◌*◌, ◌≤◌, length, take}
 use Rattle.model.specs.Basic.{gather, total}
 use Rattle.model.specs.Bounds.{rule_limit, word_limit, conclusion_limit}
 use Rattle.model.specs.Block.{Block, Rule, Conclusion, size, with_rules, with_weight}
@@ -9,7 +9,8 @@ use Rattle.model.specs.Parse.{Part}
 use Rattle.cursor.specs.View.{seen, Fits, left}
 use Rattle.block_tables.specs.declared.Totals.{Totals}
 use Rattle.block_tables.specs.Stored.{Stored, kept_width, rule_row}
-use Rattle.symbol_table.specs.Symbols.{Describes}
+use Rattle.symbol_table.specs.declared.Declarations.{Declarations}
+use Rattle.symbol_table.specs.Declarations.{Declares}
 use Rattle.condition_text.specs.Pending.{Adds}
 use Rattle.rule_text.specs.declared.Concluded.{Concluded}
 use Rattle.rule_text.specs.declared.Progress.{Progress}
@@ -24,10 +25,10 @@ pub record Kept (rs : List Rule) (rules ws ks : List ℕ) (n : Totals) : Type 0 
   pub words_count : total (λ r. size r.condition) rs ≡ n.words
   pub conclusions_count : length (gather (λ r. r.conclusions) rs) ≡ n.conclusions
 
--- names and symbols are those of a block whose rules are kept, so that what is said of every such block is said of one
-pub record Standing (s names symbols rules ws ks : List ℕ) (n : Totals) : Type 0 where
+-- some block declares these names, and its rules are kept, so that what is said of every such block is said of one
+pub record Standing (d : Declarations) (rules ws ks : List ℕ) (n : Totals) : Type 0 where
   pub block : Block
-  pub describes : Describes s names symbols block
+  pub describes : Declares d block
   pub kept : Kept block.rules rules ws ks n
 
 -- no more than the limits
@@ -91,7 +92,7 @@ pub record EndsRule (part : Part) (s : List ℕ) (b : Block) (rs : List Rule) (q
 pub record Goes (part : Part) (s : List ℕ) (b : Block) (p r : Progress) (rules' ws' ks' : List ℕ) : Type 0 where
   pub rules : List Rule
   pub reads : seen s r.cursor (holding rules b) r.totals.words ≡ part (seen s p.cursor b p.totals.words)
-  pub kept : r.cursor.why ≡ 0 → Kept rules rules' ws' ks' r.totals
+  pub kept : r.cursor.refused ≡ None → Kept rules rules' ws' ks' r.totals
 
 -- whatever the block
 pub record Within (s : List ℕ) (p r : Progress) : Type 0 where

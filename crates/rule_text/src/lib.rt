@@ -1,7 +1,7 @@
 // Rules from their text: the condition's words, the conclusions and the row of each rule behind those that are kept.
 #![tactic(auto)]
 
-ghost use Rattle.std.specs.Prelude.{◌≡◌, not, List, [], ◌∷◌, ℕ, ◌+◌, ◌*◌, ◌≤◌, ◌<◌, eqb, length};
+ghost use Rattle.std.specs.Prelude.{None, ◌≡◌, not, List, [], ◌∷◌, ℕ, ◌+◌, ◌*◌, ◌≤◌, ◌<◌, eqb, length};
 ghost use Rattle.model.specs.Basic.{all};
 ghost use Rattle.model.specs.Block.{Block, Rule, conclusions as conclusionsOf, with_weight};
 ghost use Rattle.model.specs.Keywords.{SEMICOLON, RULE, THEN};
@@ -10,17 +10,19 @@ ghost use Rattle.model.specs.Parse.{refuse, expect, repeated, listed};
 ghost use Rattle.model.specs.Tokens.{decimal};
 ghost use Rattle.model.specs.Rules.{rule_number, concluded_term, conclusion as conclusionOf, weighted as weightedOf, rule_from, rule as ruleOf};
 ghost use Rattle.block_tables.specs.Stored.{kept_width};
+ghost use Rattle.refusals.specs.Faults.{number};
 ghost use Rattle.cursor.specs.View.{seen, text_of, Fits, left, Step, Moves};
-ghost use Rattle.symbol_table.specs.Symbols.{Symbols, Describes, output_count};
+ghost use Rattle.symbol_table.specs.Symbols.{output_count};
+ghost use Rattle.symbol_table.specs.Declarations.{Declares};
 ghost use Rattle.condition_text.specs.Pending.{Adds};
 ghost use Rattle.rule_text.specs.Progress.{Kept, Standing, FewKept, Rows, Concludes, Onward, EndsRule, Goes, Within, midst};
 
 use block_tables::{CONCLUSION_WIDTH, Conclusions, KEPT_RULE_WIDTH, Rules, Totals, Words};
 use condition_text::Pending;
 use cursor::Cursor;
-use lookup::Names;
 use model::Degree;
-use symbol_table::SymbolTable;
+use refusals::Fault;
+use symbol_table::Declarations;
 
 // The weight of a rule that gives none.
 const ONE: u32 = bounds::M as u32;
@@ -57,12 +59,10 @@ fn is_used(rules: &Rules, count: usize, number: u32) -> bool
     ensures { (rs : List Rule) → Rows rs rules.now count
         → result ≡ not (all (λ q. not (eqb q.number number)) rs) }
 {
-    let mut k = 0;
-    while k < count {
+    for k in 0..count {
         if rules[k * KEPT_RULE_WIDTH] == number {
             return true;
         }
-        k += 1;
     }
     false
 }
@@ -72,138 +72,104 @@ fn rule_number(s: &[u8], rules: &Rules, count: usize, c: Cursor) -> Numbered
     ensures m_value { (b : Block) (m : ℕ) → Rows b.rules rules.now count
         → seen s.now result.cursor b m ≡ rule_number (seen s.now c b m) }
     ensures within { (left s.now result.cursor ≤ left s.now c)
-        × Fits s.now result.cursor × (result.cursor.why ≡ 0 → result.number ≡ decimal (text_of s.now c)) }
+        × Fits s.now result.cursor × (result.cursor.refused ≡ None → result.number ≡ decimal (text_of s.now c)) }
 {
-    let x = number_tokens::number_here(s, c);
-    if x.fault != 0 {
-        return Numbered {
-            cursor: cursor::refuse(c, x.fault),
+    match number_tokens::number_here(s, c) {
+        Err(fault) => Numbered {
+            cursor: cursor::refuse(c, fault),
             number: 0,
-        };
-    }
-    if is_used(rules, count, x.value) {
-        return Numbered {
-            cursor: cursor::refuse(c, 4),
+        },
+        Ok(number) if is_used(rules, count, number) => Numbered {
+            cursor: cursor::refuse(c, Fault::WrongName),
             number: 0,
-        };
-    }
-    Numbered {
-        cursor: cursor::advance(s, c),
-        number: x.value,
+        },
+        Ok(number) => Numbered {
+            cursor: cursor::advance(s, c),
+            number,
+        },
     }
 }
 
-fn not_concluded(p: Concluded, why: u8) -> Concluded
-    requires { 0 < why }
-    ensures by_index { (s : List ℕ) → Fits s p.cursor → Step (refuse why) s p.cursor result.cursor }
+fn not_concluded(p: Concluded, fault: Fault) -> Concluded
+    ensures by_index { (s : List ℕ) → Fits s p.cursor → Step (refuse (number fault)) s p.cursor result.cursor }
     ensures count { result.count ≡ p.count }
 {
-    let c = p.cursor;
-    let d = cursor::refuse(c, why);
     Concluded {
-        cursor: d,
-        count: p.count,
+        cursor: cursor::refuse(p.cursor, fault),
+        ..p
     }
 }
 
 // term, of output o
 fn concluded_term(
-    s: &[u8],
-    names: &Names,
-    symbols: &SymbolTable,
+    d: &Declarations,
     conclusions: &mut Conclusions,
     p: Concluded,
     o: usize,
 ) -> Concluded
-    requires { Fits s.now p.cursor × Symbols s.now names.now symbols.now × (o < output_count symbols.now)
+    requires { Fits d.now.text.now p.cursor × (o < output_count d.now.symbols.now)
         × (p.count < conclusion_limit) }
     ensures concludes { (b : Block) (rs : List Rule) (q : Rule) (m : ℕ)
-        → Describes s.now names.now symbols.now b
-        → Concludes (concluded_term o) s.now b rs q m p result
+        → Declares d.now b
+        → Concludes (concluded_term o) d.now.text.now b rs q m p result
         conclusions.old conclusions.new }
-    ensures onward { Onward s.now p result }
+    ensures onward { Onward d.now.text.now p result }
 {
     let c = p.cursor;
-    let w = cursor::name_fault(c);
-    if w != 0 {
-        return not_concluded(p, w);
+    if let Err(fault) = cursor::name_fault(c) {
+        return not_concluded(p, fault);
     }
     let v = bounds::INPUTS + o;
-    let j = symbol_table::term_of(s, names, symbols, v, c);
-    if symbols[v + 1] - symbols[v] <= j {
-        return not_concluded(p, 5);
-    }
-    let d = cursor::advance(s, c);
-    let n = p.count;
-    conclusions[n * CONCLUSION_WIDTH] = o as u32;
-    conclusions[n * CONCLUSION_WIDTH + 1] = (symbols[v] + j) as u32;
+    let Some(j) = symbol_table::term_of(d.text, d.names, d.symbols, v, c) else {
+        return not_concluded(p, Fault::NotDeclared);
+    };
+    conclusions[p.count * CONCLUSION_WIDTH] = o as u32;
+    conclusions[p.count * CONCLUSION_WIDTH + 1] = (d.symbols[v] + j) as u32;
     Concluded {
-        cursor: d,
-        count: n + 1,
+        cursor: cursor::advance(d.text, c),
+        count: p.count + 1,
     }
 }
 
 // output IS term
-fn conclusion(
-    s: &[u8],
-    names: &Names,
-    symbols: &SymbolTable,
-    conclusions: &mut Conclusions,
-    p: Concluded,
-) -> Concluded
-    requires { Fits s.now p.cursor × Symbols s.now names.now symbols.now × (p.count ≤ conclusion_limit) }
+fn conclusion(d: &Declarations, conclusions: &mut Conclusions, p: Concluded) -> Concluded
+    requires { Fits d.now.text.now p.cursor × (p.count ≤ conclusion_limit) }
     ensures concludes { (b : Block) (rs : List Rule) (q : Rule) (m : ℕ)
-        → Describes s.now names.now symbols.now b
+        → Declares d.now b
         → length (conclusionsOf (midst b rs q)) ≡ p.count
-        → Concludes conclusionOf s.now b rs q m p result conclusions.old conclusions.new }
-    ensures onward { Onward s.now p result }
+        → Concludes conclusionOf d.now.text.now b rs q m p result conclusions.old conclusions.new }
+    ensures onward { Onward d.now.text.now p result }
 {
     let c = p.cursor;
-    let w = cursor::name_fault(c);
-    if w != 0 {
-        return not_concluded(p, w);
+    if let Err(fault) = cursor::name_fault(c) {
+        return not_concluded(p, fault);
     }
-    let o = symbol_table::output_of(s, names, symbols, c);
-    if symbols[symbol_table::OUTPUT_COUNT] <= o {
-        return not_concluded(p, 5);
-    }
-    if bounds::CONCLUSIONS <= p.count {
-        return not_concluded(p, 6);
-    }
-    let d = cursor::advance(s, c);
-    let e = cursor::expect(s, d, token_kinds::IS);
-    let q = Concluded {
-        cursor: e,
-        count: p.count,
+    let Some(o) = symbol_table::output_of(d.text, d.names, d.symbols, c) else {
+        return not_concluded(p, Fault::NotDeclared);
     };
-    concluded_term(s, names, symbols, conclusions, q, o)
+    if bounds::CONCLUSIONS <= p.count {
+        return not_concluded(p, Fault::TooMany);
+    }
+    let mut q = p;
+    q.cursor = cursor::advance(d.text, q.cursor);
+    q.cursor = cursor::expect(d.text, q.cursor, token_kinds::IS);
+    concluded_term(d, conclusions, q, o)
 }
 
 // Conclusions, with commas between them.
-fn conclusion_list(
-    s: &[u8],
-    names: &Names,
-    symbols: &SymbolTable,
-    conclusions: &mut Conclusions,
-    p: Concluded,
-) -> Concluded
-    requires { Fits s.now p.cursor × Symbols s.now names.now symbols.now × (p.count ≤ conclusion_limit) }
+fn conclusion_list(d: &Declarations, conclusions: &mut Conclusions, p: Concluded) -> Concluded
+    requires { Fits d.now.text.now p.cursor × (p.count ≤ conclusion_limit) }
     ensures concludes { (b : Block) (rs : List Rule) (q : Rule) (m : ℕ)
-        → Describes s.now names.now symbols.now b
+        → Declares d.now b
         → length (conclusionsOf (midst b rs q)) ≡ p.count
-        → Concludes (listed conclusionOf) s.now b rs q m p result
+        → Concludes (listed conclusionOf) d.now.text.now b rs q m p result
         conclusions.old conclusions.new }
-    ensures onward { Onward s.now p result }
+    ensures onward { Onward d.now.text.now p result }
 {
-    let mut q = conclusion(s, names, symbols, conclusions, p);
+    let mut q = conclusion(d, conclusions, p);
     while q.cursor.kind == token_kinds::COMMA {
-        let c = q.cursor;
-        let d = cursor::advance(s, c);
-        let n = Concluded {
-            cursor: d,
-            count: q.count,
-        };
-        q = conclusion(s, names, symbols, conclusions, n);
+        q.cursor = cursor::advance(d.text, q.cursor);
+        q = conclusion(d, conclusions, q);
     }
     q
 }
@@ -224,18 +190,15 @@ fn weighted(s: &[u8], c: Cursor) -> Weighed
         };
     }
     let d = cursor::advance(s, c);
-    let x = number_tokens::unit_here(s, d);
-    if x.fault != 0 {
-        return Weighed {
-            cursor: cursor::refuse(d, x.fault),
+    match number_tokens::unit_here(s, d) {
+        Err(fault) => Weighed {
+            cursor: cursor::refuse(d, fault),
             weight: Degree(ONE),
-        };
-    }
-    let e = cursor::advance(s, d);
-    let w = x.value;
-    Weighed {
-        cursor: e,
-        weight: w,
+        },
+        Ok(weight) => Weighed {
+            cursor: cursor::advance(s, d),
+            weight,
+        },
     }
 }
 
@@ -253,167 +216,140 @@ fn put_row(rules: &mut Rules, k: usize, number: u32, words: u32, conclusions: u3
 
 // From THEN on, for the rule of this number and with so many condition words.
 fn rule_given(
-    s: &[u8],
-    names: &Names,
-    symbols: &SymbolTable,
+    d: &Declarations,
     rules: &mut Rules,
     conclusions: &mut Conclusions,
     p: Progress,
     number: u32,
     words: u32,
 ) -> Progress
-    requires { Fits s.now p.cursor × Symbols s.now names.now symbols.now × FewKept p.totals
+    requires { Fits d.now.text.now p.cursor × FewKept p.totals
         × (p.totals.rules < rule_limit) }
     ensures ends_rule { (b : Block) (rs : List Rule) (q : Rule)
-        → Describes s.now names.now symbols.now b
+        → Declares d.now b
         → length (conclusionsOf (midst b rs q)) ≡ p.totals.conclusions → q.weight ≡ M
         → EndsRule (λ y. expect SEMICOLON (weightedOf (listed conclusionOf (expect THEN y))))
-        s.now b rs q p result number words
+        d.now.text.now b rs q p result number words
         rules.old rules.new conclusions.old conclusions.new }
-    ensures within { Within s.now p result }
+    ensures within { Within d.now.text.now p result }
 {
-    let c = p.cursor;
     let t = p.totals;
-    let d = cursor::expect(s, c, token_kinds::THEN);
     let a = Concluded {
-        cursor: d,
+        cursor: cursor::expect(d.text, p.cursor, token_kinds::THEN),
         count: t.conclusions,
     };
-    let q = conclusion_list(s, names, symbols, conclusions, a);
-    let e = q.cursor;
-    let x = weighted(s, e);
-    let f = x.cursor;
-    let g = cursor::expect(s, f, token_kinds::SEMICOLON);
-    let w = x.weight;
+    let q = conclusion_list(d, conclusions, a);
+    let x = weighted(d.text, q.cursor);
     let k = (q.count - t.conclusions) as u32;
-    put_row(rules, t.rules, number, words, k, w);
-    let u = Totals {
-        rules: t.rules + 1,
-        words: t.words,
-        conclusions: q.count,
-    };
+    put_row(rules, t.rules, number, words, k, x.weight);
     Progress {
-        cursor: g,
-        totals: u,
+        cursor: cursor::expect(d.text, x.cursor, token_kinds::SEMICOLON),
+        totals: Totals {
+            rules: t.rules + 1,
+            conclusions: q.count,
+            ..t
+        },
     }
 }
 
 // From the rule's number on.
 fn rule_from(
-    s: &[u8],
-    names: &Names,
-    symbols: &SymbolTable,
+    d: &Declarations,
     rules: &mut Rules,
     words: &mut Words,
     conclusions: &mut Conclusions,
     p: Progress,
 ) -> Progress
-    requires { Fits s.now p.cursor × Symbols s.now names.now symbols.now × FewKept p.totals
+    requires { Fits d.now.text.now p.cursor × FewKept p.totals
         × (p.totals.rules < rule_limit)
-        × Standing s.now names.now symbols.now rules.old words.old conclusions.old p.totals }
-    ensures goes { (b : Block) → Describes s.now names.now symbols.now b
+        × Standing d.now rules.old words.old conclusions.old p.totals }
+    ensures goes { (b : Block) → Declares d.now b
         → Kept b.rules rules.old words.old conclusions.old p.totals
-        → Goes rule_from s.now b p result rules.new words.new conclusions.new }
-    ensures within { Within s.now p result }
+        → Goes rule_from d.now.text.now b p result rules.new words.new conclusions.new }
+    ensures within { Within d.now.text.now p result }
 {
-    let c = p.cursor;
     let t = p.totals;
-    let n = rule_number(s, rules, t.rules, c);
-    let d = n.cursor;
-    let e = cursor::expect(s, d, token_kinds::COLON);
-    let f = cursor::expect(s, e, token_kinds::IF);
+    let n = rule_number(d.text, rules, t.rules, p.cursor);
+    let e = cursor::expect(d.text, n.cursor, token_kinds::COLON);
+    let f = cursor::expect(d.text, e, token_kinds::IF);
     let a = Pending {
         cursor: f,
         words: t.words,
         put: t.words,
     };
-    let q = condition_text::condition(s, names, symbols, words, a, bounds::DEPTH);
-    let g = q.cursor;
-    let u = Totals {
-        rules: t.rules,
-        words: q.words,
-        conclusions: t.conclusions,
-    };
+    let q = condition_text::condition(d, words, a, bounds::DEPTH);
     let r = Progress {
-        cursor: g,
-        totals: u,
+        cursor: q.cursor,
+        totals: Totals {
+            words: q.words,
+            ..t
+        },
     };
-    if g.why != 0 {
+    if r.cursor.refused.is_some() {
         return r;
     }
     let k = (q.put - t.words) as u32;
-    rule_given(s, names, symbols, rules, conclusions, r, n.number, k)
+    rule_given(d, rules, conclusions, r, n.number, k)
 }
 
-fn refused(p: Progress, why: u8) -> Progress
-    requires { 0 < why }
-    ensures by_index { (s : List ℕ) → Fits s p.cursor → Step (refuse why) s p.cursor result.cursor
+fn refused(p: Progress, fault: Fault) -> Progress
+    ensures by_index { (s : List ℕ) → Fits s p.cursor → Step (refuse (number fault)) s p.cursor result.cursor
         × Moves s p.cursor result.cursor }
-    ensures totals { (result.totals ≡ p.totals) × (result.cursor.why ≡ 0 → ⊥) }
+    ensures totals { (result.totals ≡ p.totals) × (result.cursor.refused ≡ None → ⊥) }
 {
-    let c = p.cursor;
-    let t = p.totals;
-    let d = cursor::refuse(c, why);
     Progress {
-        cursor: d,
-        totals: t,
+        cursor: cursor::refuse(p.cursor, fault),
+        ..p
     }
 }
 
 fn rule(
-    s: &[u8],
-    names: &Names,
-    symbols: &SymbolTable,
+    d: &Declarations,
     rules: &mut Rules,
     words: &mut Words,
     conclusions: &mut Conclusions,
     p: Progress,
 ) -> Progress
-    requires { Fits s.now p.cursor × Symbols s.now names.now symbols.now × FewKept p.totals
-        × Standing s.now names.now symbols.now rules.old words.old conclusions.old p.totals }
-    ensures goes { (b : Block) → Describes s.now names.now symbols.now b
+    requires { Fits d.now.text.now p.cursor × FewKept p.totals
+        × Standing d.now rules.old words.old conclusions.old p.totals }
+    ensures goes { (b : Block) → Declares d.now b
         → Kept b.rules rules.old words.old conclusions.old p.totals
-        → Goes ruleOf s.now b p result rules.new words.new conclusions.new }
-    ensures within { Within s.now p result }
-    ensures moves { Moves s.now p.cursor result.cursor }
+        → Goes ruleOf d.now.text.now b p result rules.new words.new conclusions.new }
+    ensures within { Within d.now.text.now p result }
+    ensures moves { Moves d.now.text.now p.cursor result.cursor }
 {
-    let c = p.cursor;
-    let t = p.totals;
-    if c.kind != token_kinds::RULE {
-        return refused(p, 2);
+    if p.cursor.kind != token_kinds::RULE {
+        return refused(p, Fault::WrongToken);
     }
-    if bounds::RULES <= t.rules {
-        return refused(p, 6);
+    if bounds::RULES <= p.totals.rules {
+        return refused(p, Fault::TooMany);
     }
-    let d = cursor::advance(s, c);
     let q = Progress {
-        cursor: d,
-        totals: t,
+        cursor: cursor::advance(d.text, p.cursor),
+        ..p
     };
-    rule_from(s, names, symbols, rules, words, conclusions, q)
+    rule_from(d, rules, words, conclusions, q)
 }
 
 // Rules, one or more.
 pub fn rules(
-    s: &[u8],
-    names: &Names,
-    symbols: &SymbolTable,
+    d: &Declarations,
     rules: &mut Rules,
     words: &mut Words,
     conclusions: &mut Conclusions,
     p: Progress,
 ) -> Progress
-    requires { Fits s.now p.cursor × Symbols s.now names.now symbols.now × FewKept p.totals
-        × Standing s.now names.now symbols.now rules.old words.old conclusions.old p.totals }
-    ensures goes { (b : Block) → Describes s.now names.now symbols.now b
+    requires { Fits d.now.text.now p.cursor × FewKept p.totals
+        × Standing d.now rules.old words.old conclusions.old p.totals }
+    ensures goes { (b : Block) → Declares d.now b
         → Kept b.rules rules.old words.old conclusions.old p.totals
-        → Goes (λ y. repeated RULE ruleOf (ruleOf y)) s.now b p result
+        → Goes (λ y. repeated RULE ruleOf (ruleOf y)) d.now.text.now b p result
         rules.new words.new conclusions.new }
-    ensures within { Within s.now p result }
+    ensures within { Within d.now.text.now p result }
 {
-    let mut q = rule(s, names, symbols, rules, words, conclusions, p);
+    let mut q = rule(d, rules, words, conclusions, p);
     while q.cursor.kind == token_kinds::RULE {
-        q = rule(s, names, symbols, rules, words, conclusions, q);
+        q = rule(d, rules, words, conclusions, q);
     }
     q
 }

@@ -9,21 +9,18 @@ ghost use Rattle.name_letters.specs.Letters.{caseless, letters_of, letters_at};
 use words::whole_word;
 
 // A byte without the bit that tells a small letter from its capital.
-fn without_case(c: usize) -> usize
-    requires { c < 256 }
-    ensures { (result ≡ caseless c) × (result < 256) }
+fn without_case(c: u8) -> u8
+    ensures { result ≡ caseless c }
 {
     c % 32 + c / 64 * 64
 }
 
 // Each byte of a word so: to the compiler one mask.
 fn letters(x: usize) -> usize
+    requires { x ≤ 4294967295 }
     ensures { result ≡ letters_of x }
 {
-    without_case(x % 256)
-        + without_case(x / 256 % 256) * 256
-        + without_case(x / 65536 % 256) * 65536
-        + without_case(x / 16777216 % 256) * 16777216
+    u32::from_le_bytes((x as u32).to_le_bytes().map(without_case)) as usize
 }
 
 // The words at o and q are the same but for case.
@@ -35,19 +32,14 @@ fn same_letters(img: &[u8], o: usize, q: usize) -> bool
 }
 
 // Names, if they are names, are the same but for case.
+#[tactic(auto, using(crate::proofs::Fours::spread))]
 pub fn same_name(img: &[u8], o: usize, q: usize) -> bool
     requires { ((o + 4) * 4 ≤ length img.now) × ((q + 4) * 4 ≤ length img.now) }
     ensures { result ≡ same (tab (letters_at (word_at img.now)) 4 o)
         (tab (letters_at (word_at img.now)) 4 q) }
 {
-    if !same_letters(img, o, q) {
-        return false;
-    }
-    if !same_letters(img, o + 1, q + 1) {
-        return false;
-    }
-    if !same_letters(img, o + 2, q + 2) {
-        return false;
-    }
-    same_letters(img, o + 3, q + 3)
+    same_letters(img, o, q)
+        && same_letters(img, o + 1, q + 1)
+        && same_letters(img, o + 2, q + 2)
+        && same_letters(img, o + 3, q + 3)
 }

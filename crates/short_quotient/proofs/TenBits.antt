@@ -105,3 +105,8 @@ joined a b h l eh el less =
     let e : q * (2 * b) + l / 1024 ≡ 2 * a + b =
     omega (arith, add-mul (h % 1024 * 1024) (l % 1024) (2 * b), mul_assoc (h % 1024) 1024 (2 * b), ap (λ (x : ℕ). h % 1024 * x) m, eh, el) in
     sym (ap (λ (x : ℕ). x / (2 * b)) (sym e) ∙ digits_div q less)
+
+-- what a turn takes away, taken up again
+pub wrapped : (r x : ℕ) → r < 18446744073709551616
+    → ((r + (18446744073709551616 - x % 18446744073709551616)) % 18446744073709551616 + x % 18446744073709551616) % 18446744073709551616 ≡ r
+wrapped r x h = omega arith

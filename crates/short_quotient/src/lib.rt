@@ -12,10 +12,8 @@ fn ten_bits(a: u64, b: u64) -> u64
 {
     let d = 1024 * b - 1;
     let mut r = 1024 * a;
-    let mut k = 10u32;
-    while 0 < k {
-        k -= 1;
-        let t = std::num::wrapping_sub_u64(r, d << k);
+    for k in (0..10u32).rev() {
+        let t = r.wrapping_sub(d << k);
         if t < 9223372036854775808 {
             r = t;
         }

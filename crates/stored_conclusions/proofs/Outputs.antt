@@ -10,6 +10,7 @@ use Rattle.model.specs.WellFormed.{conclusion_ok}
 use Rattle.model.specs.Image.{conclusion_place, conclusion_at, decode, OUTPUTS}
 use Rattle.layout.specs.Tables.{output_count, output_first_at}
 use Rattle.layout.specs.Groups.{tables_ok}
+use Rattle.stored_conclusions.specs.Stored.{conclusion_stored}
 use Rattle.layout.proofs.Whole.{outputs_count}
 use Rattle.layout.proofs.Sound.{output_first_lem, output_terms_lem}
 
@@ -27,9 +28,6 @@ module _ (w : ℕ → ℕ) (frame : tables_ok w ≡ true) where
       go true e = let l : j < w OUTPUTS = ltb-true j (w OUTPUTS) e in rw (outputs_count w, output_first_lem w frame j l, output_terms_lem w j l) refl
       go false e = rw (outputs_count w, e) refl
 
-  -- by the words that the code reads
-  pub conclusion_words : (i j t outputs first n : ℕ) → j ≡ w (conclusion_place w i) → t ≡ w (conclusion_place w i + 1)
-      → outputs ≡ w OUTPUTS → first ≡ output_first_at w j → n ≡ output_count w j
-      → conclusion_ok (decode w) (conclusion_at w i) ≡ every (own outputs j first n t)
-  unfolding conclusion_at
-  conclusion_words i j t outputs first n ej et eo ef en = rw (sym ej, sym et, eo, ef, en) (own_is j t)
+  pub conclusion_spelt : (i : ℕ) → conclusion_stored w i ≡ conclusion_ok (decode w) (conclusion_at w i)
+  unfolding conclusion_stored conclusion_at
+  conclusion_spelt i = sym (own_is (w (conclusion_place w i)) (w (conclusion_place w i + 1)))

@@ -1,51 +1,42 @@
 // The conclusions of a stored image.
 #![tactic(auto)]
 
-ghost use Rattle.std.specs.Prelude.{◌≡◌, true, ◌&&◌, ◌+◌, ◌≤◌, ◌<◌, leb};
+ghost use Rattle.std.specs.Prelude.{◌≡◌, ◌&&◌, ◌+◌, ◌≤◌, ◌<◌, leb};
 ghost use Rattle.model.specs.Basic.{all, tab};
 ghost use Rattle.model.specs.WellFormed.{conclusion_ok};
 ghost use Rattle.model.specs.Image.{word_at, conclusion_at, decode};
-ghost use Rattle.header.specs.Header.{Heads, Covers};
-ghost use Rattle.layout.specs.Groups.{tables_ok};
+ghost use Rattle.stored_conclusions.specs.Stored.{conclusion_stored};
 
-use header::Header;
-use words::whole_word;
+use header::Stored;
+use layout::Laid;
 
 // Conclusion i of all.
-fn conclusion_ok(img: &[u8], h: Header, i: usize) -> bool
-    requires { (tables_ok (word_at img.now) ≡ true) × Heads (word_at img.now) h
-        × Covers img.now h × (i < h.conclusions) }
-    ensures { result
-        ≡ conclusion_ok (decode (word_at img.now)) (conclusion_at (word_at img.now) i) }
+#[tactic(auto, unfolding(model::specs::Basic::every, crate::specs::Stored::conclusion_stored))]
+fn conclusion_ok(image: &Stored, i: usize) -> bool
+    requires { i < image.now.header.conclusions.rows }
+    ensures { result ≡ conclusion_stored (word_at image.now.bytes.now) i }
 {
-    let o = header::conclusion_row(h, i);
-    let j = whole_word(img, o);
-    if h.outputs <= j {
+    let row = image.header.conclusions.row(i);
+    let output = image.word(row);
+    if output >= image.header.outputs.rows {
         return false;
     }
-    let t = whole_word(img, o + header::CONCLUSION_TERM);
-    let v = header::output_row(h, j);
-    let first = whole_word(img, v + header::OUTPUT_FIRST);
-    if t < first {
-        return false;
-    }
-    t < first + whole_word(img, v + header::OUTPUT_TERMS)
+    let of_output = image.header.outputs.row(output);
+    let first = image.word(of_output + header::OUTPUT_FIRST);
+    let end = first + image.word(of_output + header::OUTPUT_TERMS);
+    (first..end).contains(&image.word(row + header::CONCLUSION_TERM))
 }
 
 // The k conclusions from the s-th on: there are some, and each is right.
-pub fn conclusions_ok(img: &[u8], h: Header, s: usize, k: usize) -> bool
-    requires { (tables_ok (word_at img.now) ≡ true) × Heads (word_at img.now) h
-        × Covers img.now h × (s + k ≤ h.conclusions) }
-    ensures { result ≡ leb 1 k && all (conclusion_ok (decode (word_at img.now)))
-        (tab (conclusion_at (word_at img.now)) k s) }
+pub fn conclusions_ok(image: &Laid, s: usize, k: usize) -> bool
+    requires { s + k ≤ image.now.stored.header.conclusions.rows }
+    ensures { result ≡ leb 1 k && all (conclusion_ok (decode (word_at image.now.stored.bytes.now)))
+        (tab (conclusion_at (word_at image.now.stored.bytes.now)) k s) }
 {
-    let e = s + k;
-    let mut j = s;
-    while j < e {
-        if !conclusion_ok(img, h, j) {
+    for i in s..s + k {
+        if !conclusion_ok(&image.stored, i) {
             return false;
         }
-        j += 1;
     }
-    1 <= k
+    k >= 1
 }

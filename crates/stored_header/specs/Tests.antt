@@ -16,15 +16,15 @@ pad_run m (c ∷ l) = pad_run (pad_step m c) l
 -- the header's offsets, each with the one before it and a table's size, and its codes and names
 abbrev pub offset_tests : (ℕ → ℕ) → Header → List Bool
 offset_tests w h =
-    eqb (w LAYOUT) (layout_word h.rules h.words h.conclusions)
-    ∷ eqb h.input_table header_size
-    ∷ eqb h.output_table (h.input_table + h.inputs * input_width)
-    ∷ eqb h.term_table (h.output_table + h.outputs * output_width)
-    ∷ eqb h.point_table (h.term_table + h.terms * term_width)
-    ∷ eqb h.rule_table (h.point_table + h.points * point_width)
-    ∷ eqb h.word_table (h.rule_table + h.rules * rule_width)
-    ∷ eqb h.conclusion_table (h.word_table + h.words * word_width)
-    ∷ eqb (w TOTAL) (h.conclusion_table + h.conclusions * conclusion_width)
+    eqb (w LAYOUT) (layout_word h.rules.rows h.words.rows h.conclusions.rows)
+    ∷ eqb h.inputs.start header_size
+    ∷ eqb h.outputs.start (h.inputs.start + h.inputs.rows * input_width)
+    ∷ eqb h.terms.start (h.outputs.start + h.outputs.rows * output_width)
+    ∷ eqb h.points.start (h.terms.start + h.terms.rows * term_width)
+    ∷ eqb h.rules.start (h.points.start + h.points.rows * point_width)
+    ∷ eqb h.words.start (h.rules.start + h.rules.rows * rule_width)
+    ∷ eqb h.conclusions.start (h.words.start + h.words.rows * word_width)
+    ∷ eqb (w TOTAL) (h.conclusions.start + h.conclusions.rows * conclusion_width)
     ∷ []
 
 abbrev pub code_tests : (ℕ → ℕ) → List Bool

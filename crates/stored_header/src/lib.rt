@@ -63,84 +63,36 @@ pub fn name_exact(img: &[u8], o: usize) -> bool
     pad_word(c, whole_word(img, o + 3)) <= 1
 }
 
-// A table that starts at a, of n rows of s words, ends at e.
-fn follows(e: usize, a: usize, n: usize, s: usize) -> bool
-    requires { (a ≤ 4294967295) × ((n ≤ 4294967295) × (s ≤ 11)) }
-    ensures { result ≡ eqb e (a + n * s) }
-{
-    e == a + n * s
-}
-
+// The layout, each table where the one before it ends, and the total.
+#[tactic(auto, unfolding(model::specs::Basic::every))]
 fn offsets_ok(img: &[u8], h: Header) -> bool
     requires { Heads (word_at img.now) h × (header_size * 4 ≤ length img.now) }
     ensures { result ≡ every (offset_tests (word_at img.now) h) }
 {
-    if whole_word(img, header::LAYOUT) != header::layout_word(h.rules, h.words, h.conclusions) {
-        return false;
-    }
-    if h.input_table != header::SIZE {
-        return false;
-    }
-    if !follows(h.output_table, h.input_table, h.inputs, header::INPUT_WIDTH) {
-        return false;
-    }
-    if !follows(
-        h.term_table,
-        h.output_table,
-        h.outputs,
-        header::OUTPUT_WIDTH,
-    ) {
-        return false;
-    }
-    if !follows(h.point_table, h.term_table, h.terms, header::TERM_WIDTH) {
-        return false;
-    }
-    if !follows(h.rule_table, h.point_table, h.points, header::POINT_WIDTH) {
-        return false;
-    }
-    if !follows(h.word_table, h.rule_table, h.rules, header::RULE_WIDTH) {
-        return false;
-    }
-    if !follows(
-        h.conclusion_table,
-        h.word_table,
-        h.words,
-        header::WORD_WIDTH,
-    ) {
-        return false;
-    }
-    let total = whole_word(img, header::TOTAL);
-    follows(
-        total,
-        h.conclusion_table,
-        h.conclusions,
-        header::CONCLUSION_WIDTH,
-    )
+    whole_word(img, header::LAYOUT)
+        == header::layout_word(h.rules.rows, h.words.rows, h.conclusions.rows)
+        && h.inputs.start == header::SIZE
+        && h.outputs.start == h.inputs.row(h.inputs.rows)
+        && h.terms.start == h.outputs.row(h.outputs.rows)
+        && h.points.start == h.terms.row(h.terms.rows)
+        && h.rules.start == h.points.row(h.points.rows)
+        && h.words.start == h.rules.row(h.rules.rows)
+        && h.conclusions.start == h.words.row(h.words.rows)
+        && whole_word(img, header::TOTAL) == h.conclusions.row(h.conclusions.rows)
 }
 
+// Pair, ACCU, ACT, the spare word and the two names.
+#[tactic(auto, unfolding(model::specs::Basic::every))]
 fn codes_ok(img: &[u8]) -> bool
     requires { header_size * 4 ≤ length img.now }
     ensures { result ≡ every (code_tests (word_at img.now)) }
 {
-    if header::LAST_PAIR < whole_word(img, header::PAIR) {
-        return false;
-    }
-    if header::LAST_ACCU < whole_word(img, header::ACCU) {
-        return false;
-    }
-    if header::LAST_ACT < whole_word(img, header::ACT) {
-        return false;
-    }
-    if whole_word(img, header::SPARE) != 0 {
-        return false;
-    }
-    if !name_exact(img, header::BLOCK_NAME) {
-        return false;
-    }
-    if !name_exact(img, header::RULE_BLOCK_NAME) {
-        return false;
-    }
-    true
+    whole_word(img, header::PAIR) <= header::LAST_PAIR
+        && whole_word(img, header::ACCU) <= header::LAST_ACCU
+        && whole_word(img, header::ACT) <= header::LAST_ACT
+        && whole_word(img, header::SPARE) == 0
+        && name_exact(img, header::BLOCK_NAME)
+        && name_exact(img, header::RULE_BLOCK_NAME)
 }
 
 pub fn header_ok(img: &[u8], h: Header) -> bool
@@ -148,8 +100,5 @@ pub fn header_ok(img: &[u8], h: Header) -> bool
         × (header_size * 4 ≤ length img.now) }
     ensures { result ≡ header_ok (word_at img.now) }
 {
-    if !offsets_ok(img, h) {
-        return false;
-    }
-    codes_ok(img)
+    offsets_ok(img, h) && codes_ok(img)
 }

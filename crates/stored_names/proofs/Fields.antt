@@ -1,5 +1,6 @@
 -- The bytes of a field before the first zero, and the name that the field starts with.
-use Rattle.std.specs.Prelude.{if◌then◌else◌}
+use Rattle.std.specs.Prelude.{if◌then◌else◌, Option, Some, None, is_some}
+use Rattle.std.specs.Option.{unwrap_or}
 use mathlib.Core.Path.{◌≡◌, refl, sym, ap, ◌∙◌}
 use mathlib.Core.List.{List, [], ◌∷◌}
 use mathlib.Core.Bool.{Bool, true, false, ◌&&◌, not}
@@ -75,46 +76,54 @@ module _ (s : List ℕ) where
   whole : letters s ≡ run is_name_byte s → is_name (front s) ≡ is_name (take (run is_name_byte s) s)
   whole e = ap (λ (k : ℕ). is_name (take k s)) e
 
-  length_by : (b : Bool) → is_name (take (run is_name_byte s) s) ≡ b → name_length s ≡ (if b then run is_name_byte s else 0)
+  length_by : (b : Bool) → is_name (take (run is_name_byte s) s) ≡ b → name_length s ≡ (if b then Some (run is_name_byte s) else None)
   unfolding name_length
-  length_by b q = λ j. if q j then run is_name_byte s else 0
+  length_by b q = λ j. if q j then Some (run is_name_byte s) else None
 
-  none_here : name_length s ≡ 0 → is_name (take (run is_name_byte s) s) ≡ false
+  none_here : None ≡ name_length s → is_name (take (run is_name_byte s) s) ≡ false
   none_here h = go (is_name (take (run is_name_byte s) s)) refl
     where
       go : (b : Bool) → is_name (take (run is_name_byte s) s) ≡ b → is_name (take (run is_name_byte s) s) ≡ false
-      go true q = ap (λ (k : ℕ). is_name (take k s)) (sym (length_by true q) ∙ h) ∙ unfold is_name in refl
+      go true q = clash (ap is_some (h ∙ length_by true q))
       go false q = q
 
+  pub no_name : None ≡ name_length s → false ≡ is_name (front s)
+  no_name e = sym (go (ltb (run is_name_byte s) (letters s)) refl)
+    where
+      go : (b : Bool) → ltb (run is_name_byte s) (letters s) ≡ b → is_name (front s) ≡ false
+      go true q = longer (ltb-true _ _ q)
+      go false q = whole (omega (arith, name_within s, ltb-false (run is_name_byte s) (letters s) q)) ∙ none_here e
+
   -- n bytes are the name
-  module _ (n : ℕ) (e : n ≡ name_length s) where
-    pub no_name : n ≡ 0 → is_name (front s) ≡ false
-    no_name h = go (ltb (run is_name_byte s) (letters s)) refl
+  module _ (n : ℕ) (e : Some n ≡ name_length s) where
+    named : (n ≡ run is_name_byte s) × (is_name (take (run is_name_byte s) s) ≡ true)
+    named = go (is_name (take (run is_name_byte s) s)) refl
       where
-        go : (b : Bool) → ltb (run is_name_byte s) (letters s) ≡ b → is_name (front s) ≡ false
-        go true q = longer (ltb-true _ _ q)
-        go false q = whole (omega (arith, name_within s, ltb-false (run is_name_byte s) (letters s) q)) ∙ none_here (sym e ∙ h)
+        go : (b : Bool) → is_name (take (run is_name_byte s) s) ≡ b → (n ≡ run is_name_byte s) × (is_name (take (run is_name_byte s) s) ≡ true)
+        go true q = (ap (λ (o : Option ℕ). unwrap_or o 0) (e ∙ length_by true q), q)
+        go false q = clash (sym (ap is_some (e ∙ length_by false q)))
 
-    module _ (h : n ≡ 0 → ⊥) where
-      named : (n ≡ run is_name_byte s) × (is_name (take (run is_name_byte s) s) ≡ true)
-      named = go (is_name (take (run is_name_byte s) s)) refl
-        where
-          go : (b : Bool) → is_name (take (run is_name_byte s) s) ≡ b → (n ≡ run is_name_byte s) × (is_name (take (run is_name_byte s) s) ≡ true)
-          go true q = (e ∙ length_by true q, q)
-          go false q = absurd (h (e ∙ length_by false q))
+    goes_on_lem : (get_or s n 0 ≡ 0 → ⊥) → run is_name_byte s < letters s
+    goes_on_lem f = go (ltb (run is_name_byte s) (letters s)) refl
+      where
+        go : (b : Bool) → ltb (run is_name_byte s) (letters s) ≡ b → run is_name_byte s < letters s
+        go true q = ltb-true _ _ q
+        go false q =
+            let z : letters s ≡ n = omega (arith, name_within s, ltb-false (run is_name_byte s) (letters s) q, named.0) in
+            absurd (f (ap (λ (k : ℕ). get_or s k 0) (sym z) ∙ zero_after s))
 
-      goes_on_lem : (get_or s n 0 ≡ 0 → ⊥) → run is_name_byte s < letters s
-      goes_on_lem f = go (ltb (run is_name_byte s) (letters s)) refl
-        where
-          go : (b : Bool) → ltb (run is_name_byte s) (letters s) ≡ b → run is_name_byte s < letters s
-          go true q = ltb-true _ _ q
-          go false q =
-              let z : letters s ≡ n = omega (arith, name_within s, ltb-false (run is_name_byte s) (letters s) q, named.0) in
-              absurd (f (ap (λ (k : ℕ). get_or s k 0) (sym z) ∙ zero_after s))
+    pub name_ends : eqb (get_or s n 0) 0 ≡ is_name (front s)
+    name_ends = go (eqb (get_or s n 0) 0) refl
+      where
+        go : (b : Bool) → eqb (get_or s n 0) 0 ≡ b → eqb (get_or s n 0) 0 ≡ is_name (front s)
+        go true q = q ∙ sym (whole (omega (arith, name_within s, zero_ends s n (eqb-true _ _ q), named.0)) ∙ named.1)
+        go false q = q ∙ sym (longer (goes_on_lem (eqb-false _ _ q)))
 
-      pub name_ends : eqb (get_or s n 0) 0 ≡ is_name (front s)
-      name_ends = go (eqb (get_or s n 0) 0) refl
-        where
-          go : (b : Bool) → eqb (get_or s n 0) 0 ≡ b → eqb (get_or s n 0) 0 ≡ is_name (front s)
-          go true q = q ∙ sym (whole (omega (arith, name_within s, zero_ends s n (eqb-true _ _ q), named.0)) ∙ named.1)
-          go false q = q ∙ sym (longer (goes_on_lem (eqb-false _ _ q)))
+-- a zero stands behind the name
+abbrev pub ends_at : List ℕ → Option ℕ → Bool
+ends_at s None = false
+ends_at s (Some n) = eqb (get_or s n 0) 0
+
+pub told : (s : List ℕ) (r : Option ℕ) → r ≡ name_length s → ends_at s r ≡ is_name (front s)
+told s None e = no_name s e
+told s (Some n) e = name_ends s n e

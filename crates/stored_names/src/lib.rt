@@ -10,11 +10,7 @@ ghost use Rattle.layout.specs.Tables.{front};
 fn field_ok(s: &[u8]) -> bool
     ensures { result ≡ is_name (front s.now) }
 {
-    let n = name_bytes::name_length(s);
-    if n == 0 {
-        return false;
-    }
-    words::byte(s, n) == 0
+    name_bytes::name_length(s).is_some_and(|n| words::byte(s, n) == 0)
 }
 
 // The four words from place o on hold a name.
@@ -22,7 +18,5 @@ pub fn name_ok(img: &[u8], o: usize) -> bool
     requires { (o + 4) * 4 ≤ length img.now }
     ensures { result ≡ is_name (name_at (word_at img.now) o) }
 {
-    let k = o * 4;
-    let e = k + bounds::NAME;
-    field_ok(&img[k..e])
+    field_ok(&img[o * 4..o * 4 + bounds::NAME])
 }

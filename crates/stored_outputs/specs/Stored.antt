@@ -5,9 +5,8 @@ use Rattle.model.specs.Basic.{between, every, all, tab}
 use Rattle.model.specs.Bounds.{term_limit}
 use Rattle.model.specs.Tokens.{is_name}
 use Rattle.model.specs.WellFormed.{range_ok, default_ok, singleton_ok}
-use Rattle.model.specs.Image.{output_place, name_at, singleton_at}
+use Rattle.model.specs.Image.{output_place, name_at, singleton_at, output_at}
 use Rattle.stored_terms.specs.Stored.{terms_apart}
-use Rattle.stored_ranges.specs.Stored.{range_at, default_at}
 
 unfoldable pub output_stored : (ℕ → ℕ) → ℕ → Bool
 output_stored w i =
@@ -15,8 +14,8 @@ output_stored w i =
     every (
     is_name (name_at w o)
     ∷ between 1 term_limit (w (o + 5))
-    ∷ range_ok (range_at w o)
-    ∷ all (singleton_ok (range_at w o)) (tab (singleton_at w) (w (o + 5)) (w (o + 4)))
+    ∷ range_ok (output_at w i).range
+    ∷ all (singleton_ok (output_at w i).range) (tab (singleton_at w) (w (o + 5)) (w (o + 4)))
     ∷ terms_apart w (w (o + 4)) (w (o + 5))
-    ∷ default_ok (range_at w o) (default_at w o)
+    ∷ default_ok (output_at w i).range (output_at w i).default
     ∷ [])

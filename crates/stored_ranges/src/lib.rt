@@ -1,55 +1,65 @@
 // RANGE and DEFAULT of a stored output.
 #![tactic(auto)]
 
-ghost use Rattle.std.specs.Prelude.{◌≡◌, ◌+◌, ◌*◌, ◌≤◌, length};
+ghost use Rattle.std.specs.Prelude.{◌≡◌, ◌<◌};
+ghost use Rattle.model.specs.Ranges.{range_view, default_view};
 ghost use Rattle.model.specs.WellFormed.{range_ok, figure_ok, default_ok};
-ghost use Rattle.model.specs.Image.{word_at};
-ghost use Rattle.stored_ranges.specs.Stored.{range_at, default_at};
+ghost use Rattle.model.specs.Image.{word_at, output_at};
 
-use model::Crisp;
-use words::{whole_crisp, whole_word};
+use header::Stored;
+use model::{Crisp, Range};
 
-// RANGE of the output whose row starts at o.
-pub fn range_ok(img: &[u8], o: usize) -> bool
-    requires { (o + 11) * 4 ≤ length img.now }
-    ensures { result ≡ range_ok (range_at (word_at img.now) o) }
+// RANGE of output i, where it has one.
+#[tactic(auto, unfolding(model::specs::Image::output_at))]
+pub fn range_of(image: &Stored, i: usize) -> Option<Range>
+    requires { i < image.now.header.outputs.rows }
+    ensures { range_view result ≡ (output_at (word_at image.now.bytes.now) i).range }
 {
-    if whole_word(img, o + header::OUTPUT_RANGE) == 0 {
-        return true;
+    let row = image.header.outputs.row(i);
+    if image.word(row + header::OUTPUT_RANGE) == 0 {
+        return None;
     }
-    let least = whole_crisp(img, o + header::OUTPUT_LEAST);
-    let most = whole_crisp(img, o + header::OUTPUT_MOST);
-    if !crisp::in_bounds(least) {
-        return false;
-    }
-    if !crisp::in_bounds(most) {
-        return false;
-    }
-    crisp::less(least, most)
+    Some(Range {
+        least: image.crisp(row + header::OUTPUT_LEAST),
+        most: image.crisp(row + header::OUTPUT_MOST),
+    })
 }
 
-// x is a crisp value within that RANGE.
-pub fn figure_ok(img: &[u8], o: usize, x: Crisp) -> bool
-    requires { (o + 11) * 4 ≤ length img.now }
-    ensures { result ≡ figure_ok (range_at (word_at img.now) o) x.0 }
+// DEFAULT of output i, where it has one.
+#[tactic(auto, unfolding(model::specs::Image::output_at))]
+pub fn default_of(image: &Stored, i: usize) -> Option<Crisp>
+    requires { i < image.now.header.outputs.rows }
+    ensures { default_view result ≡ (output_at (word_at image.now.bytes.now) i).default }
 {
-    if !crisp::in_bounds(x) {
-        return false;
+    let row = image.header.outputs.row(i);
+    if image.word(row + header::OUTPUT_DEFAULT_KIND) == 0 {
+        return None;
     }
-    let ranged = whole_word(img, o + header::OUTPUT_RANGE) != 0;
-    let least = whole_crisp(img, o + header::OUTPUT_LEAST);
-    let most = whole_crisp(img, o + header::OUTPUT_MOST);
-    crisp::in_range(ranged, least, most, x)
+    Some(image.crisp(row + header::OUTPUT_DEFAULT))
 }
 
-// DEFAULT of that output.
-pub fn default_ok(img: &[u8], o: usize) -> bool
-    requires { (o + 11) * 4 ≤ length img.now }
-    ensures { result ≡ default_ok (range_at (word_at img.now) o)
-        (default_at (word_at img.now) o) }
+pub fn range_ok(range: Option<Range>) -> bool
+    ensures { result ≡ range_ok (range_view range) }
 {
-    if whole_word(img, o + header::OUTPUT_DEFAULT_KIND) == 0 {
-        return true;
+    match range {
+        None => true,
+        Some(r) => crisp::in_bounds(r.least) && crisp::in_bounds(r.most) && r.least < r.most,
     }
-    figure_ok(img, o, whole_crisp(img, o + header::OUTPUT_DEFAULT))
+}
+
+// x is a crisp value within this RANGE.
+pub fn figure_ok(range: Option<Range>, x: Crisp) -> bool
+    ensures { result ≡ figure_ok (range_view range) x.0 }
+{
+    crisp::in_bounds(x) && crisp::in_range(range, x)
+}
+
+// DEFAULT of an output with this RANGE.
+pub fn default_ok(range: Option<Range>, default: Option<Crisp>) -> bool
+    ensures { result ≡ default_ok (range_view range) (default_view default) }
+{
+    match default {
+        None => true,
+        Some(x) => figure_ok(range, x),
+    }
 }

@@ -1,96 +1,75 @@
-// One row of each table of inputs, outputs and terms of a stored image: whether it is laid out as an entry's. The row
-// starts at o, and p is its first term or point.
+// One row of each table of inputs, outputs and terms of a stored image: whether it is laid out as an entry's. Row i is
+// asked, and first is its first term or point.
 #![tactic(auto)]
 
-ghost use Rattle.std.specs.Prelude.{◌≡◌, ◌+◌, ◌*◌, ◌≤◌, length};
-ghost use Rattle.model.specs.Image.{word_at};
+ghost use Rattle.std.specs.Prelude.{◌≡◌, ◌+◌, ◌*◌, ◌≤◌, ◌<◌, length};
+ghost use Rattle.model.specs.Image.{word_at, input_place, output_place, term_place};
 ghost use Rattle.stored_rows.specs.Tests.{range_test, default_test, input_test, output_test, term_test, singleton_test};
 
+use header::Stored;
 use stored_header::name_exact;
-use words::whole_word;
 
 // RANGE of the output whose row starts at o is given, or its words are 0.
-fn range_ok(img: &[u8], o: usize) -> bool
-    requires { (o + 11) * 4 ≤ length img.now }
-    ensures { result ≡ range_test (word_at img.now) o }
+#[tactic(auto, unfolding(model::specs::Basic::every, crate::specs::Tests::range_test))]
+fn range_ok(image: &Stored, o: usize) -> bool
+    requires { (o + 11) * 4 ≤ length image.now.bytes.now }
+    ensures { result ≡ range_test (word_at image.now.bytes.now) o }
 {
-    let flag = whole_word(img, o + header::OUTPUT_RANGE);
-    if flag == 0 {
-        if whole_word(img, o + header::OUTPUT_LEAST) != 0 {
-            return false;
-        }
-        return whole_word(img, o + header::OUTPUT_MOST) == 0;
+    match image.word(o + header::OUTPUT_RANGE) {
+        0 => image.word(o + header::OUTPUT_LEAST) == 0 && image.word(o + header::OUTPUT_MOST) == 0,
+        flag => flag == header::GIVEN,
     }
-    flag == header::GIVEN
 }
 
 // DEFAULT of that output is a value, or its word is 0.
-fn default_ok(img: &[u8], o: usize) -> bool
-    requires { (o + 11) * 4 ≤ length img.now }
-    ensures { result ≡ default_test (word_at img.now) o }
+#[tactic(auto, unfolding(crate::specs::Tests::default_test))]
+fn default_ok(image: &Stored, o: usize) -> bool
+    requires { (o + 11) * 4 ≤ length image.now.bytes.now }
+    ensures { result ≡ default_test (word_at image.now.bytes.now) o }
 {
-    let kind = whole_word(img, o + header::OUTPUT_DEFAULT_KIND);
-    if kind == 0 {
-        return whole_word(img, o + header::OUTPUT_DEFAULT) == 0;
+    match image.word(o + header::OUTPUT_DEFAULT_KIND) {
+        0 => image.word(o + header::OUTPUT_DEFAULT) == 0,
+        kind => kind == header::GIVEN,
     }
-    kind == header::GIVEN
 }
 
-pub fn input_ok(img: &[u8], o: usize, p: usize) -> bool
-    requires { (o + 7) * 4 ≤ length img.now }
-    ensures { result ≡ input_test (word_at img.now) o p }
+#[tactic(auto, unfolding(model::specs::Basic::every, crate::specs::Tests::input_test))]
+pub fn input_ok(image: &Stored, i: usize, first: usize) -> bool
+    requires { i < image.now.header.inputs.rows }
+    ensures { result ≡ input_test (word_at image.now.bytes.now) (input_place (word_at image.now.bytes.now) i) first }
 {
-    if !name_exact(img, o) {
-        return false;
-    }
-    if header::LAST_TYPE < whole_word(img, o + header::INPUT_TYPE) {
-        return false;
-    }
-    if whole_word(img, o + header::INPUT_FIRST) != p {
-        return false;
-    }
-    true
+    let row = image.header.inputs.row(i);
+    name_exact(image.bytes, row)
+        && image.word(row + header::INPUT_TYPE) <= header::LAST_TYPE
+        && image.word(row + header::INPUT_FIRST) == first
 }
 
-pub fn output_ok(img: &[u8], o: usize, p: usize) -> bool
-    requires { (o + 11) * 4 ≤ length img.now }
-    ensures { result ≡ output_test (word_at img.now) o p }
+#[tactic(auto, unfolding(model::specs::Basic::every, crate::specs::Tests::output_test))]
+pub fn output_ok(image: &Stored, i: usize, first: usize) -> bool
+    requires { i < image.now.header.outputs.rows }
+    ensures { result ≡ output_test (word_at image.now.bytes.now) (output_place (word_at image.now.bytes.now) i) first }
 {
-    if !name_exact(img, o) {
-        return false;
-    }
-    if whole_word(img, o + header::OUTPUT_FIRST) != p {
-        return false;
-    }
-    if !range_ok(img, o) {
-        return false;
-    }
-    if !default_ok(img, o) {
-        return false;
-    }
-    true
+    let row = image.header.outputs.row(i);
+    name_exact(image.bytes, row)
+        && image.word(row + header::OUTPUT_FIRST) == first
+        && range_ok(image, row)
+        && default_ok(image, row)
 }
 
-pub fn term_ok(img: &[u8], o: usize, p: usize) -> bool
-    requires { (o + 6) * 4 ≤ length img.now }
-    ensures { result ≡ term_test (word_at img.now) o p }
+#[tactic(auto, unfolding(model::specs::Basic::every, crate::specs::Tests::term_test))]
+pub fn term_ok(image: &Stored, i: usize, first: usize) -> bool
+    requires { i < image.now.header.terms.rows }
+    ensures { result ≡ term_test (word_at image.now.bytes.now) (term_place (word_at image.now.bytes.now) i) first }
 {
-    if !name_exact(img, o) {
-        return false;
-    }
-    if whole_word(img, o + header::TERM_FIRST) != p {
-        return false;
-    }
-    true
+    let row = image.header.terms.row(i);
+    name_exact(image.bytes, row) && image.word(row + header::TERM_FIRST) == first
 }
 
 // A term of an output has one point.
-pub fn singleton_ok(img: &[u8], o: usize, p: usize) -> bool
-    requires { (o + 6) * 4 ≤ length img.now }
-    ensures { result ≡ singleton_test (word_at img.now) o p }
+#[tactic(auto, unfolding(crate::specs::Tests::singleton_test))]
+pub fn singleton_ok(image: &Stored, i: usize, first: usize) -> bool
+    requires { i < image.now.header.terms.rows }
+    ensures { result ≡ singleton_test (word_at image.now.bytes.now) (term_place (word_at image.now.bytes.now) i) first }
 {
-    if !term_ok(img, o, p) {
-        return false;
-    }
-    whole_word(img, o + header::TERM_POINTS) == 1
+    term_ok(image, i, first) && image.word(image.header.terms.row(i) + header::TERM_POINTS) == 1
 }

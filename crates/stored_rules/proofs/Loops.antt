@@ -11,8 +11,8 @@ use Rattle.stored_rules.specs.Walk.{rules_walk}
 use Rattle.model.specs.Image.{CONCLUSIONS, WORDS}
 
 module _ (w : ℕ → ℕ) (e i n k : ℕ) where
-  pub walk_more : (a b : ℕ) → a ≡ word_count w i → b ≡ conclusion_count w i → i < e → row_stored w i n k ≡ true
-      → rules_walk w (e - i) i n k ≡ rules_walk w (e - (i + 1)) (i + 1) (n + a) (k + b)
+  pub walk_more : (a b : ℕ) → a ≡ n + word_count w i → b ≡ k + conclusion_count w i → i < e → row_stored w i n k ≡ true
+      → rules_walk w (e - i) i n k ≡ rules_walk w (e - (i + 1)) (i + 1) a b
   unfolding rules_walk
   walk_more a b ea eb h q =
       let s : e - i ≡ suc (e - (i + 1)) = omega arith in
@@ -22,6 +22,6 @@ module _ (w : ℕ → ℕ) (e i n k : ℕ) where
   unfolding rules_walk
   walk_stop h q = let s : e - i ≡ suc (e - (i + 1)) = omega arith in rw s (simp q)
 
-  pub walk_end : (a b : ℕ) → a ≡ w WORDS → b ≡ w CONCLUSIONS → e ≤ i → rules_walk w (e - i) i n k ≡ eqb n a && eqb k b
+  pub walk_end : e ≤ i → rules_walk w (e - i) i n k ≡ eqb n (w WORDS) && eqb k (w CONCLUSIONS)
   unfolding rules_walk
-  walk_end a b ea eb h = let s : e - i ≡ 0 = omega arith in rw (s, ea, eb)
+  walk_end h = let s : e - i ≡ 0 = omega arith in rw s

@@ -1,13 +1,13 @@
 -- The walk over the rules passes exactly where their tables are right and the rules good.
 use mathlib.Core.Path.{◌≡◌, refl, sym, ap, ◌∙◌}
-use mathlib.Core.List.{List, [], ◌∷◌, map}
+use mathlib.Core.List.{map}
 use mathlib.Core.Bool.{Bool, true}
 use Prim.Native.Nat.{ℕ, zero, suc, ◌+◌, ◌*◌}
 use native.Mathlib.Omega.{arith}
 use borrow.Author.Tests.{eq-eqb, eqb-true, le-leb}
 use lib.Dec.{leb, eqb}
 use lib.ListN.{length}
-use Rattle.model.specs.Basic.{every, all, same, between, distinct, tab}
+use Rattle.model.specs.Basic.{all, same, between, distinct, tab}
 use Rattle.model.specs.Bounds.{rule_limit, word_limit, conclusion_limit}
 use Rattle.model.specs.Block.{Rule, size}
 use Rattle.model.specs.WellFormed.{rule_ok}
@@ -24,7 +24,7 @@ use Rattle.layout.proofs.Parts.{word_first, conclusion_first, rule_words_row, ru
 use Rattle.layout.proofs.Whole.{rules_count, words_count, conclusions_count}
 use Rattle.rule_numbers.specs.Numbers.{rule_number}
 use Rattle.rule_rows.specs.Rows.{rule_stored, row_stored}
-use Rattle.stored_rules.specs.Walk.{rules_walk}
+use Rattle.stored_rules.specs.Walk.{rules_walk, rules_stored}
 
 module _ (w : ℕ → ℕ) where
   -- A ROW
@@ -60,16 +60,6 @@ module _ (w : ℕ → ℕ) where
 
   abbrev rows : ℕ → ℕ → ℕ × ℕ → Bool
   rows r i σ = rows_ok rule_row rule_next (rule_at w) w (w RULE_TABLE) 6 r i σ
-
-  -- the tests of the code on r rules with n condition words and k conclusions
-  abbrev pub tests : ℕ → ℕ → ℕ → List Bool
-  tests r n k =
-      between 1 rule_limit r
-      ∷ leb n word_limit
-      ∷ leb k conclusion_limit
-      ∷ rules_walk w r 0 0 0
-      ∷ distinct eqb (tab (rule_number w) r 0)
-      ∷ []
 
   numbers_are : map (λ (r : Rule). r.number) (decode w).rules ≡ tab (rule_number w) (w RULES) 0
   unfolding decode rule_at
@@ -127,8 +117,8 @@ module _ (w : ℕ → ℕ) where
       }))
 
   -- THE WHOLE
-  to : rules_ok w ≡ true → every (tests (w RULES) (w WORDS) (w CONCLUSIONS)) ≡ true
-  unfolding rules_ok rule_rows condition_rows decode
+  to : rules_ok w ≡ true → rules_stored w ≡ true
+  unfolding rules_stored rules_ok rule_rows condition_rows decode
   to h =
       let s = passed _ h in
       let q = s.1.1.1.1 in
@@ -142,8 +132,8 @@ module _ (w : ℕ → ℕ) where
         (a, (b, (walk_out (w RULES) 0 0 0 z, (ap (distinct eqb) (sym numbers_are) ∙ q.1.1.0, tt)))),
       )
 
-  from : every (tests (w RULES) (w WORDS) (w CONCLUSIONS)) ≡ true → rules_ok w ≡ true
-  unfolding rules_ok rule_rows condition_rows decode
+  from : rules_stored w ≡ true → rules_ok w ≡ true
+  unfolding rules_stored rules_ok rule_rows condition_rows decode
   from h =
       let s = passed _ h in
       let z = walk_in (w RULES) 0 0 0 s.1.1.1.0 in
@@ -175,5 +165,5 @@ module _ (w : ℕ → ℕ) where
         ),
       )
 
-  pub rules_words : (r n k : ℕ) → r ≡ w RULES → n ≡ w WORDS → k ≡ w CONCLUSIONS → rules_ok w ≡ every (tests r n k)
-  rules_words r n k er en ek = rw (er, en, ek) (iff (rules_ok w) (every (tests (w RULES) (w WORDS) (w CONCLUSIONS))) to from)
+  pub rules_spelt : rules_stored w ≡ rules_ok w
+  rules_spelt = iff (rules_stored w) (rules_ok w) from to

@@ -1,57 +1,40 @@
 // The rules of a stored image: all rows, and their numbers.
 #![tactic(auto)]
 
-ghost use Rattle.std.specs.Prelude.{◌≡◌, true, ◌≤◌};
+ghost use Rattle.std.specs.Prelude.{◌≡◌};
 ghost use Rattle.model.specs.Image.{word_at};
-ghost use Rattle.header.specs.Header.{Heads, Covers};
-ghost use Rattle.layout.specs.Tables.{input_terms_in};
-ghost use Rattle.layout.specs.Groups.{tables_ok, rules_ok};
+ghost use Rattle.layout.specs.Groups.{rules_ok};
 ghost use Rattle.stored_rules.specs.Walk.{rules_walk};
 
-use header::Header;
+use layout::Laid;
+use rule_rows::Totals;
 
 // All rules, whose condition words and conclusions add up to the header's totals.
-fn rows_ok(img: &[u8], h: Header, m: usize) -> bool
-    requires { (tables_ok (word_at img.now) ≡ true) × Heads (word_at img.now) h
-        × (m ≡ input_terms_in (word_at img.now)) × (m ≤ 4294967295) × Covers img.now h }
-    ensures { result ≡ rules_walk (word_at img.now) h.rules 0 0 0 }
+fn rows_ok(image: &Laid) -> bool
+    ensures { result ≡ rules_walk (word_at image.now.stored.bytes.now) image.now.stored.header.rules.rows 0 0 0 }
 {
-    let e = h.rules;
-    let mut n: usize = 0;
-    let mut k: usize = 0;
-    let mut i: usize = 0;
-    while i < e {
-        let p = rule_rows::parts_of(img, h, i);
-        if !rule_rows::row_ok(img, h, m, i, p, n, k) {
+    let header = image.stored.header;
+    let mut totals = Totals {
+        words: 0,
+        conclusions: 0,
+    };
+    for i in 0..header.rules.rows {
+        let Some(after) = rule_rows::after_rule(image, i, totals) else {
             return false;
-        }
-        n += p.words;
-        k += p.conclusions;
-        i += 1;
+        };
+        totals = after;
     }
-    if n != h.words {
-        return false;
-    }
-    k == h.conclusions
+    totals.words == header.words.rows && totals.conclusions == header.conclusions.rows
 }
 
-// The tables of rules, condition words and conclusions, where there are m input terms.
-pub fn rules_ok(img: &[u8], h: Header, m: usize) -> bool
-    requires { (tables_ok (word_at img.now) ≡ true) × Heads (word_at img.now) h
-        × (m ≡ input_terms_in (word_at img.now)) × (m ≤ 4294967295) × Covers img.now h }
-    ensures { result ≡ rules_ok (word_at img.now) }
+// The tables of rules, condition words and conclusions.
+pub fn rules_ok(image: &Laid) -> bool
+    ensures { result ≡ rules_ok (word_at image.now.stored.bytes.now) }
 {
-    if !bounds::within(1, bounds::RULES, h.rules) {
-        return false;
-    }
-    if bounds::WORDS < h.words {
-        return false;
-    }
-    if bounds::CONCLUSIONS < h.conclusions {
-        return false;
-    }
-    if !rows_ok(img, h, m) {
-        return false;
-    }
-    rule_numbers::numbers_distinct(img, h)
+    let header = image.stored.header;
+    (1..=bounds::RULES).contains(&header.rules.rows)
+        && header.words.rows <= bounds::WORDS
+        && header.conclusions.rows <= bounds::CONCLUSIONS
+        && rows_ok(image)
+        && rule_numbers::numbers_distinct(&image.stored)
 }

@@ -1,8 +1,14 @@
--- A helper: what is tested of the tables behind the header. `tables_left` of proofs/Whole ties it to `tables_ok`.
-use Rattle.std.specs.Prelude.{Bool, List, [], ◌∷◌, ℕ, ◌+◌, eqb}
+-- A helper: what is tested of the tables behind the header, as `tables_ok` has it.
+use Rattle.std.specs.Prelude.{Bool, List, [], ◌∷◌, ℕ, zero, suc, ◌+◌, eqb, if◌then◌else◌, Option, None, Some}
 use Rattle.model.specs.Image.{point_words, term_at, output_at, OUTPUT_TABLE, OUTPUTS, POINT_TABLE, POINTS, TERM_TABLE}
 use Rattle.layout.specs.Rows.{rows_ok}
 use Rattle.layout.specs.Tables.{output_row, output_next, term_row, term_next, alone, onward, sums, term_count, output_term_at, output_point_at}
+
+-- the number that k rows from the i-th on go up to, n being the first of the i-th: t tells whether a row is laid out
+-- with such a first, and c how many numbers it takes
+unfoldable pub up_to : (ℕ → ℕ → Bool) → (ℕ → ℕ) → ℕ → ℕ → ℕ → Option ℕ
+up_to t c zero i n = Some n
+up_to t c (suc k) i n = if t i n then up_to t c k (suc i) (n + c i) else None
 
 -- rows of outputs, p being the first of the first one
 abbrev pub output_rows_from : (ℕ → ℕ) → ℕ → Bool

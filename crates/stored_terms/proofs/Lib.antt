@@ -1,2 +1,2 @@
-pub mod Named
 pub mod Spelt
+pub mod Named

@@ -1,56 +1,51 @@
 // The terms of inputs in a stored image, and terms whose names are distinct.
 #![tactic(auto)]
 
-ghost use Rattle.std.specs.Prelude.{◌≡◌, true, ◌+◌, ◌≤◌, ◌<◌};
+ghost use Rattle.std.specs.Prelude.{◌≡◌, ◌+◌, ◌≤◌, ◌<◌};
 ghost use Rattle.model.specs.Basic.{all, tab};
 ghost use Rattle.model.specs.WellFormed.{term_ok};
 ghost use Rattle.model.specs.Image.{word_at, term_at};
-ghost use Rattle.header.specs.Header.{Heads, Covers};
-ghost use Rattle.layout.specs.Tables.{input_terms_in};
-ghost use Rattle.layout.specs.Groups.{tables_ok};
-ghost use Rattle.stored_terms.specs.Stored.{terms_apart};
+ghost use Rattle.stored_terms.specs.Stored.{term_stored, terms_apart};
 
-use header::Header;
-use words::whole_word;
+use header::{Stored, TERM_WIDTH, Table};
+use layout::Laid;
 
-fn term_ok(img: &[u8], h: Header, t: usize) -> bool
-    requires { Heads (word_at img.now) h × Covers img.now h × (tables_ok (word_at img.now) ≡ true)
-        × (t < input_terms_in (word_at img.now)) }
-    ensures { result ≡ term_ok (term_at (word_at img.now) t) }
+// Term t, which is an input's.
+#[tactic(auto, using(crate::proofs::Named::points_named), unfolding(model::specs::Basic::every, crate::specs::Stored::term_stored))]
+fn term_ok(image: &Laid, t: usize) -> bool
+    requires { t < image.now.input_terms }
+    ensures { result ≡ term_stored (word_at image.now.stored.bytes.now) t }
 {
-    let o = header::term_row(h, t);
-    if !stored_names::name_ok(img, o) {
-        return false;
-    }
-    let k = whole_word(img, o + header::TERM_POINTS);
-    if !term_rules::point_count_ok(k) {
-        return false;
-    }
-    let s = whole_word(img, o + header::TERM_FIRST);
-    term_points::points_ok(img, h, s, k)
+    let stored = &image.stored;
+    let row = stored.header.terms.row(t);
+    let points = stored.word(row + header::TERM_POINTS);
+    stored_names::name_ok(stored.bytes, row)
+        && term_rules::point_count_ok(points)
+        && term_points::points_ok(stored, stored.word(row + header::TERM_FIRST), points)
 }
 
-// The k terms from s on.
-pub fn terms_ok(img: &[u8], h: Header, s: usize, k: usize) -> bool
-    requires { Heads (word_at img.now) h × Covers img.now h × (tables_ok (word_at img.now) ≡ true)
-        × (s + k ≤ input_terms_in (word_at img.now)) }
-    ensures { result ≡ all term_ok (tab (term_at (word_at img.now)) k s) }
+// The k terms from s on, which are inputs'.
+pub fn terms_ok(image: &Laid, s: usize, k: usize) -> bool
+    requires { s + k ≤ image.now.input_terms }
+    ensures { result ≡ all term_ok (tab (term_at (word_at image.now.stored.bytes.now)) k s) }
 {
-    let e = s + k;
-    let mut i = s;
-    while i < e {
-        if !term_ok(img, h, i) {
+    for t in s..s + k {
+        if !term_ok(image, t) {
             return false;
         }
-        i += 1;
     }
     true
 }
 
 // The names of the k terms from s on are distinct.
-pub fn terms_apart(img: &[u8], h: Header, s: usize, k: usize) -> bool
-    requires { Heads (word_at img.now) h × Covers img.now h × (s + k ≤ h.terms) }
-    ensures { result ≡ terms_apart (word_at img.now) s k }
+#[tactic(auto, unfolding(crate::specs::Stored::terms_apart))]
+pub fn terms_apart(image: &Stored, s: usize, k: usize) -> bool
+    requires { s + k ≤ image.now.header.terms.rows }
+    ensures { result ≡ terms_apart (word_at image.now.bytes.now) s k }
 {
-    distinct_names::distinct_ok(img, header::term_row(h, s), header::TERM_WIDTH, k)
+    let terms: Table<TERM_WIDTH> = Table {
+        rows: k,
+        start: image.header.terms.row(s),
+    };
+    distinct_names::distinct_ok(image.bytes, &terms)
 }

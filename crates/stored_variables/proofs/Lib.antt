@@ -1,4 +1,3 @@
 pub mod Named
 pub mod Exact
-pub mod Spelt
 pub mod Wellformed

@@ -1,6 +1,6 @@
 -- Where names are exact, the tests of the stored variables are those of the block's variables.
 use mathlib.Core.Path.{◌≡◌, refl, sym, ap, ◌∙◌, subst}
-use mathlib.Core.List.{List, [], ◌∷◌, ◌++◌, map}
+use mathlib.Core.List.{List, ◌++◌, map}
 use mathlib.Core.Bool.{Bool, true, false, ◌&&◌}
 use mathlib.Core.Option.{Option}
 use Prim.Native.Nat.{ℕ, zero, suc, ◌+◌, ◌-◌, ◌*◌}
@@ -19,22 +19,9 @@ use Rattle.layout.specs.Tables.{input_count, output_count, output_first_at}
 use Rattle.layout.specs.Groups.{tables_ok, variables_ok}
 use Rattle.layout.proofs.Parts.{input_first}
 use Rattle.stored_terms.specs.Stored.{terms_apart}
-use Rattle.stored_ranges.specs.Stored.{range_at, default_at}
 use Rattle.stored_outputs.specs.Stored.{output_stored}
-use Rattle.stored_variables.specs.Stored.{input_stored, variables_apart}
+use Rattle.stored_variables.specs.Stored.{input_stored, variables_apart, variables_stored}
 use Rattle.stored_variables.proofs.Exact.{Span, Laid, exact_names}
-
--- all tests, of n inputs and m outputs
-abbrev pub variable_tests : (ℕ → ℕ) → ℕ → ℕ → List Bool
-variable_tests w n m =
-    is_name (name_at w BLOCK_NAME)
-    ∷ is_name (name_at w RULE_BLOCK_NAME)
-    ∷ between 1 input_limit n
-    ∷ between 1 output_limit m
-    ∷ all (input_stored w) (tab (λ i. i) n 0)
-    ∷ all (output_stored w) (tab (λ i. i) m 0)
-    ∷ variables_apart w
-    ∷ []
 
 all_same : {A : Type 0} (g : ℕ → Bool) (h : A → Bool) (f : ℕ → A) (n i : ℕ) → Span (λ k. g k ≡ h (f k)) n i → all g (tab (λ k. k) n i) ≡ all h (tab f n i)
 unfolding all tab
@@ -88,12 +75,12 @@ module _ (w : ℕ → ℕ) where
   singleton_named g k h = (both (is_name (name_at w (w TERM_TABLE + k * 6))) _ h).0
 
   output_same : (i : ℕ) → Laid w (w TERM_TABLE) 6 (output_count w i) (output_first_at w i) → output_stored w i ≡ output_ok (output_at w i)
-  unfolding output_stored output_ok output_at every range_at default_at
+  unfolding output_stored output_ok output_at every
   output_same i x =
       let o = w OUTPUT_TABLE + i * 11 in
       let k = w (o + 5) in
       let s = w (o + 4) in
-      let g = range_at w o in
+      let g = (output_at w i).range in
       let terms = all (singleton_ok g) (tab (singleton_at w) k s) in
       let d : terms ≡ true → terms_apart w s k ≡ distinct same_name (map (λ t. t.name) (tab (singleton_at w) k s)) =
       λ h. apart_same s k (names_in (singleton_ok g) (singleton_at w) (w TERM_TABLE) 6 (singleton_named g) k s x h)
@@ -101,7 +88,7 @@ module _ (w : ℕ → ℕ) where
       λ j.
       is_name (name_at w o)
       && (between 1 term_limit (sym (length_tab (singleton_at w) k s) j)
-      && (range_ok g && given terms _ _ (λ h. ap (λ (b : Bool). b && (default_ok g (default_at w o) && true)) (d h)) j))
+      && (range_ok g && given terms _ _ (λ h. ap (λ (b : Bool). b && (default_ok g (output_at w i).default && true)) (d h)) j))
 
   abbrev input_names : List (List ℕ)
   input_names = map (λ v. v.name) (tab (input_at w) (w INPUTS) 0)
@@ -123,8 +110,8 @@ module _ (w : ℕ → ℕ) where
   unfolding output_ok output_at every
   output_named k h = (both (is_name (name_at w (w OUTPUT_TABLE + k * 11))) _ h).0
 
-  variables_same : tables_ok w ≡ true → every (variable_tests w (w INPUTS) (w OUTPUTS)) ≡ variables_ok w
-  unfolding variables_ok decode every
+  pub variables_same : tables_ok w ≡ true → variables_stored w ≡ variables_ok w
+  unfolding variables_stored variables_ok decode every
   variables_same h =
       let f = exact_names w h in
       let inputs = all input_ok (tab (input_at w) (w INPUTS) 0) in
@@ -140,6 +127,3 @@ module _ (w : ℕ → ℕ) where
       is_name (name_at w BLOCK_NAME)
       && (is_name (name_at w RULE_BLOCK_NAME)
       && (between 1 input_limit (sym (length_tab (input_at w) (w INPUTS) 0) j) && (between 1 output_limit (sym (length_tab (output_at w) (w OUTPUTS) 0) j) && rest j)))
-
-  pub variables_spelt : tables_ok w ≡ true → (n m : ℕ) → n ≡ w INPUTS → m ≡ w OUTPUTS → every (variable_tests w n m) ≡ variables_ok w
-  variables_spelt h n m en em = rw (en, em) (variables_same h)

@@ -1,6 +1,6 @@
 -- The names of a term of an accepted image: input by input, from the first on.
 use mathlib.Core.Path.{◌≡◌, refl, sym, ap, ◌∙◌}
-use mathlib.Core.List.{List, [], ◌++◌, map, append-nil}
+use mathlib.Core.List.{List, [], ◌++◌, map}
 use Prim.Native.Nat.{ℕ, suc, ◌+◌, ◌-◌, ◌≤◌, ◌<◌}
 use native.Mathlib.Omega.{arith}
 use lib.ListN.{length, get_or, length-map, get_or-append}
@@ -16,8 +16,6 @@ use Rattle.layout.specs.Tables.{input_count}
 use Rattle.layout.specs.Groups.{tables_ok, Sound}
 use Rattle.layout.proofs.TableLaws.{Runs}
 use Rattle.layout.proofs.Parts.{input_first, input_firsts_run}
-use Rattle.listing_writer.specs.Prepends.{Prepends}
-use Rattle.listing_writer.proofs.Prepends.{joined}
 
 abbrev pub nameless : TermNames
 nameless = record { variable = []; term = [] }
@@ -92,12 +90,3 @@ module _ (w : ℕ → ℕ) (t : ℕ) where
   pub among_none : (i : ℕ) → w INPUTS ≤ i → Among i → input_term_name (decode w) t ≡ nameless
   unfolding Among gather tab
   among_none i h (p, q, r, e) = let s : w INPUTS - i ≡ 0 = omega arith in rw s at e
-
--- THE TEXT of a term, by its names
-module _ {k : ℕ} {s old new : List ℕ} (v : TermNames) where
-  pub nameless_written : {r : ℕ} → v ≡ nameless → Prepends k r s old new → Prepends k r (v.variable ++ (s ++ v.term)) old new
-  nameless_written {r} e p = rw e (rw (append-nil s) p)
-
-  pub named_written : {a b r : ℕ} (x y : List ℕ) {mid mid' : List ℕ} → v ≡ record { variable = x; term = y } → Prepends k a y old mid
-      → Prepends a b s mid mid' → Prepends b r x mid' new → Prepends k r (v.variable ++ (s ++ v.term)) old new
-  named_written x y e p q u = rw e (joined (joined p q) u)

@@ -1,53 +1,52 @@
 // An input and its term as a condition prints them.
-#![tactic(auto)]
+#![tactic(auto, using(listing_writer::proofs::Prepends::parts))]
 
-ghost use Rattle.std.specs.Prelude.{◌≡◌, [], ◌++◌, ◌≤◌, ◌<◌};
+ghost use Rattle.std.specs.Prelude.{◌≡◌, [], ◌++◌, ◌≤◌, ◌<◌, MatchOption};
 ghost use Rattle.model.specs.Image.{word_at, name_at, decode, input_place, term_place};
 ghost use Rattle.model.specs.Listing.{input_term_name};
-ghost use Rattle.layout.specs.Checked.{Checked};
-ghost use Rattle.listing_writer.specs.Prepends.{Prepends};
+ghost use Rattle.listing_writer.specs.Prepends.{Writes};
 
-use header::Header;
-use listing_writer::puts;
+use bounds::LISTING;
+use header::{INPUT_FIRST, INPUT_TERMS};
+use layout::CheckedImage;
+use listing_writer::Listing;
 use name_listing::name;
-use words::whole_word;
 
-// The input that has term t; the number of inputs where none has.
-fn owner(img: &[u8], h: Header, t: usize) -> usize
-    requires { Checked img.now h }
-    ensures t_value { result < h.inputs → input_term_name (decode (word_at img.now)) t ≡ record {
-      variable = name_at (word_at img.now) (input_place (word_at img.now) result);
-      term = name_at (word_at img.now) (term_place (word_at img.now) t);
-    } }
-    ensures none { h.inputs ≤ result → input_term_name (decode (word_at img.now)) t
-        ≡ record { variable = []; term = [] } }
+// The input that has term t.
+fn owner(image: &CheckedImage, t: usize) -> Option<usize>
+    ensures { MatchOption result
+        (input_term_name (decode (word_at image.now.stored.bytes.now)) t ≡ record { variable = []; term = [] })
+        (λ i. (i < image.now.stored.header.inputs.rows)
+        × (input_term_name (decode (word_at image.now.stored.bytes.now)) t ≡ record {
+          variable = name_at (word_at image.now.stored.bytes.now) (input_place (word_at image.now.stored.bytes.now) i);
+          term = name_at (word_at image.now.stored.bytes.now) (term_place (word_at image.now.stored.bytes.now) t);
+        })) }
 {
-    let n = h.inputs;
-    let mut i = 0;
-    while i < n {
-        let row = header::input_row(h, i);
-        let first = whole_word(img, row + header::INPUT_FIRST);
-        if t < first + whole_word(img, row + header::INPUT_TERMS) {
-            return i;
+    let stored = &image.stored;
+    let inputs = stored.header.inputs;
+    for i in 0..inputs.rows {
+        let row = inputs.row(i);
+        if t < stored.word(row + INPUT_FIRST) + stored.word(row + INPUT_TERMS) {
+            return Some(i);
         }
-        i += 1;
     }
-    i
+    None
 }
 
 // The input that has term t, what stands between, and the term.
-pub fn term(out: &mut [u8], k: usize, img: &[u8], h: Header, t: usize, between: &[u8]) -> usize
-    requires { Checked img.now h × (t ≤ 4294967295) }
-    ensures { Prepends k result
-        ((input_term_name (decode (word_at img.now)) t).variable
-        ++ (between.now ++ (input_term_name (decode (word_at img.now)) t).term))
+pub fn term(out: &mut Listing<LISTING>, image: &CheckedImage, t: usize, between: &[u8])
+    requires { t ≤ 4294967295 }
+    ensures { Writes
+        ((input_term_name (decode (word_at image.now.stored.bytes.now)) t).variable
+        ++ (between.now ++ (input_term_name (decode (word_at image.now.stored.bytes.now)) t).term))
         out.old out.new }
 {
-    let i = owner(img, h, t);
-    if h.inputs <= i {
-        return puts(out, k, between);
+    let stored = &image.stored;
+    if let Some(i) = owner(image, t) {
+        name(out, stored.bytes, stored.header.terms.row(t));
+        out.puts(between);
+        name(out, stored.bytes, stored.header.inputs.row(i));
+    } else {
+        out.puts(between);
     }
-    let a = name(out, k, img, header::term_row(h, t));
-    let b = puts(out, a, between);
-    name(out, b, img, header::input_row(h, i))
 }

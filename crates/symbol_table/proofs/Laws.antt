@@ -12,13 +12,14 @@ use lib.Seq.{get_or-set_same, get_or-set_other}
 use Rattle.model.specs.Basic.{total, gather, tab}
 use Rattle.model.specs.Block as block
 use Rattle.model.specs.Block.{Block, input_first, output_first}
-use Rattle.model.specs.Bounds.{input_limit, output_limit, term_limit, variable_limit, input_term_limit}
+use Rattle.model.specs.Bounds.{input_limit, output_limit, term_limit, variable_limit}
 use Rattle.laws.proofs.Places.{take_tab, length_tab, tab_last, tab_ext, tab_nth}
 use Rattle.laws.proofs.Lists.{length_gather}
+use Rattle.lookup.specs.Names.{among}
 use Rattle.block_tables.specs.declared.Tables.{Tables}
 use Rattle.block_tables.specs.View.{input_row, output_row, input_view, output_view, term_view, singleton_view, inputs_view, outputs_view, Holds}
 use Rattle.block_tables.proofs.Lookups as lookups
-use Rattle.symbol_table.specs.Symbols.{Symbols, Describes, first, input_count, output_count, among}
+use Rattle.symbol_table.specs.Symbols.{Symbols, Describes, first, input_count, output_count}
 use Rattle.symbol_table.specs.Firsts.{sums, Firsts, terms_at, symbols_in}
 use Rattle.symbol_table.proofs.Sums as sum
 
@@ -26,34 +27,23 @@ use Rattle.symbol_table.proofs.Sums as sum
 abbrev pub symbol_count : ℕ
 symbol_count = variable_limit + 3
 
--- THE LOOPS
+-- THE LOOP
+pub most : (t : Tables) → ((i : ℕ) → (input_row t i).terms ≤ term_limit) → ((o : ℕ) → (output_row t o).terms ≤ term_limit)
+    → (v : ℕ) → terms_at t v ≤ term_limit
+most t g h v = by (ltb v input_limit) (ltb v t.input_count) (ltb (v - input_limit) t.output_count)
+  where
+    by : (x y z : Bool) → (if x then (if y then (input_row t v).terms else 0) else (if z then (output_row t (v - input_limit)).terms else 0)) ≤ term_limit
+    by true true z = g v
+    by true false z = omega arith
+    by false y true = h (v - input_limit)
+    by false y false = omega arith
+
 pub firsts_none : (c : ℕ → ℕ) (r : List ℕ) → get_or r 0 0 ≡ 0 → Firsts c 0 r
 unfolding sums
 firsts_none c r e = record { first = λ v h. let z : v ≡ 0 = omega arith in ap (λ (k : ℕ). get_or r k 0) z ∙ e ∙ ap (sums c) (sym z) }
 
 pub bounded : (r : List ℕ) (i k : ℕ) → length r ≡ symbol_count → i < variable_limit + 2 → get_or r i 0 ≤ i * term_limit → k ≤ term_limit → get_or (set r (i + 1) (get_or r i 0 + k)) (i + 1) 0 ≤ (i + 1) * term_limit
 bounded r i k l h a b = let e = sum.last_is r i k l h in omega arith
-
-pub firsts_at : {r : List ℕ} {i : ℕ} (c : ℕ → ℕ) → i ≡ input_limit → Firsts c i r → Firsts c input_limit r
-firsts_at {r} {i} c z f = record { first = λ v h. f.first v (omega arith) }
-
-pub at_end : (r : List ℕ) (i : ℕ) → i ≡ input_limit → get_or r i 0 ≤ i * term_limit → get_or r input_limit 0 ≤ input_term_limit
-at_end r i z h = let e = ap (λ (k : ℕ). get_or r k 0) z in omega arith
-
-pub bounded_on : (r : List ℕ) (i k : ℕ) → length r ≡ symbol_count → i < output_limit → get_or r (input_limit + i) 0 ≤ input_term_limit + i * term_limit → k ≤ term_limit
-    → get_or (set r (input_limit + i + 1) (get_or r (input_limit + i) 0 + k)) (input_limit + (i + 1)) 0 ≤ input_term_limit + (i + 1) * term_limit
-bounded_on r i k l h a b =
-    let e = sum.last_is r (input_limit + i) k l (omega arith) in
-    let z : input_limit + i + 1 ≡ input_limit + (i + 1) = omega arith in
-    let y = ap (λ (v : ℕ). get_or (set r (input_limit + i + 1) (get_or r (input_limit + i) 0 + k)) v 0) z in
-    omega arith
-
-pub firsts_on : (r : List ℕ) (i k : ℕ) → length r ≡ symbol_count → i < output_limit → (c : ℕ → ℕ) → Firsts c (input_limit + i) r → k ≡ c (input_limit + i)
-    → Firsts c (input_limit + (i + 1)) (set r (input_limit + i + 1) (get_or r (input_limit + i) 0 + k))
-firsts_on r i k l h c f e = let q = sum.firsts_more r (input_limit + i) k l (omega arith) c f e in record { first = λ v b. q.first v (omega arith) }
-
-pub firsts_on_at : {r : List ℕ} {i : ℕ} (c : ℕ → ℕ) → i ≡ output_limit → Firsts c (input_limit + i) r → Firsts c variable_limit r
-firsts_on_at {r} {i} c z f = record { first = λ v h. f.first v (omega arith) }
 
 -- ALL OF THEM
 abbrev pub closed : List ℕ → ℕ → ℕ → List ℕ
@@ -143,22 +133,13 @@ module _ (t : Tables) (w : List ℕ) (e : w ≡ symbols_in t) where
       simp (y, z, lt-ltb _ _ b) refl
 
   module _ (s : List ℕ) (g : Holds s t) where
-    most : (v : ℕ) → terms_at t v ≤ term_limit
-    most v = by (ltb v input_limit) (ltb v t.input_count) (ltb (v - input_limit) t.output_count)
-      where
-        by : (x y z : Bool) → (if x then (if y then (input_row t v).terms else 0) else (if z then (output_row t (v - input_limit)).terms else 0)) ≤ term_limit
-        by true true z = g.input_terms v
-        by true false z = omega arith
-        by false y true = g.output_terms (v - input_limit)
-        by false y false = omega arith
-
     pub is_symbols : Symbols s t.names w
     is_symbols = record {
       placed = g.placed;
       inputs = let q = g.input_count in omega (arith, inputs_are);
       outputs = let q = g.output_count in omega (arith, outputs_are);
-      rises = λ v h. let e = next_is v h in let m = most v in (omega arith, omega arith);
-      small = λ v h. let e = first_is v h in let m = sum.sums_most (terms_at t) term_limit v most in omega arith;
+      rises = λ v h. let e = next_is v h in let m = most t g.input_terms g.output_terms v in (omega arith, omega arith);
+      small = λ v h. let e = first_is v h in let m = sum.sums_most (terms_at t) term_limit v (most t g.input_terms g.output_terms) in omega arith;
     }
 
     module _ (b : Block) (bi : b.inputs ≡ inputs_view s t) (bo : b.outputs ≡ outputs_view s t) where

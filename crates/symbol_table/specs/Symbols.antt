@@ -1,12 +1,10 @@
 -- A helper: the declared names as the rules look them up. The symbols say where the terms of each variable start,
 -- counted over all, and behind them how many inputs and outputs there are. `Describes` ties them to a model's block.
 use Rattle.std.specs.Prelude.{◌≡◌, List, ℕ, ◌+◌, ◌-◌, ◌*◌, ◌≤◌, ◌<◌, length, get_or}
-use Rattle.model.specs.Basic.{index_of, tab}
 use Rattle.model.specs.Bounds.{input_limit, output_limit, term_limit, variable_limit, all_term_limit}
-use Rattle.model.specs.Tokens.{same_name}
 use Rattle.model.specs.Block.{Block, terms_of, singletons_of, input_first, output_first}
 use Rattle.model.specs.Declarations.{input_of, output_of, term_of, singleton_of}
-use Rattle.lookup.specs.Names.{Placed, name_of}
+use Rattle.lookup.specs.Names.{Placed, among}
 
 abbrev pub first : List ℕ → ℕ → ℕ
 first symbols v = get_or symbols v 0
@@ -20,10 +18,6 @@ input_count symbols = get_or symbols (variable_limit + 1) 0
 
 abbrev pub output_count : List ℕ → ℕ
 output_count symbols = get_or symbols (variable_limit + 2) 0
-
--- the index of the name w among n names from k on; n where it is none of them
-abbrev pub among : List ℕ → List ℕ → List ℕ → ℕ → ℕ → ℕ
-among s names w n k = index_of (same_name w) (tab (name_of s names) n k)
 
 -- what holds of names and symbols, whatever they say
 pub record Symbols (s names symbols : List ℕ) : Type 0 where

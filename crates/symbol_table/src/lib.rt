@@ -3,12 +3,13 @@
 
 ghost use Rattle.std.specs.Prelude.{◌≡◌, ℕ, ◌+◌, ◌*◌, ◌≤◌, ◌<◌, ltb, get_or, if◌then◌else◌};
 ghost use Rattle.model.specs.Bounds.{input_limit, output_limit, term_limit, variable_limit, input_term_limit};
+ghost use Rattle.lookup.specs.Names.{Found};
 ghost use Rattle.cursor.specs.View.{Fits, text_of};
-ghost use Rattle.block_tables.specs.View.{no_input, no_output, input_row, output_row};
-ghost use Rattle.symbol_table.specs.Symbols.{Symbols, term_count, input_count, output_count, among};
-ghost use Rattle.symbol_table.specs.Firsts.{Firsts, symbols_in};
+ghost use Rattle.block_tables.specs.View.{input_row, output_row};
+ghost use Rattle.symbol_table.specs.Symbols.{Symbols, term_count, input_count, output_count};
+ghost use Rattle.symbol_table.specs.Firsts.{terms_at, symbols_in};
 
-use block_tables::{Input, Output, Tables};
+use block_tables::Tables;
 use cursor::Cursor;
 use lookup::Names;
 
@@ -20,22 +21,27 @@ pub const INPUT_COUNT: usize = bounds::VARIABLES + 1;
 
 pub const OUTPUT_COUNT: usize = INPUT_COUNT + 1;
 
-// Which input; their number where it is none.
-pub fn input_of(s: &[u8], names: &Names, symbols: &SymbolTable, c: Cursor) -> usize
+// A text, where the names that it declares stand in it, and their symbols.
+#[derive(Clone, Copy)]
+pub struct Declarations<'a> {
+    pub text: &'a [u8],
+    pub names: &'a Names,
+    pub symbols: &'a SymbolTable,
+    pub ghost sound: { Symbols text.now names.now symbols.now },
+}
+
+// Which input.
+pub fn input_of(s: &[u8], names: &Names, symbols: &SymbolTable, c: Cursor) -> Option<usize>
     requires { Fits s.now c × Symbols s.now names.now symbols.now }
-    ensures value { result ≡ among s.now names.now (text_of s.now c)
-        (input_count symbols.now) 0 }
-    ensures within { result ≤ input_limit }
+    ensures { Found s.now names.now (text_of s.now c) (input_count symbols.now) 0 result }
 {
     lookup::find(s, names, 0, symbols[INPUT_COUNT], c.start, c.end)
 }
 
-// Which output; their number where it is none.
-pub fn output_of(s: &[u8], names: &Names, symbols: &SymbolTable, c: Cursor) -> usize
+// Which output.
+pub fn output_of(s: &[u8], names: &Names, symbols: &SymbolTable, c: Cursor) -> Option<usize>
     requires { Fits s.now c × Symbols s.now names.now symbols.now }
-    ensures value { result ≡ among s.now names.now (text_of s.now c)
-        (output_count symbols.now) input_limit }
-    ensures within { result ≤ output_limit }
+    ensures { Found s.now names.now (text_of s.now c) (output_count symbols.now) input_limit result }
 {
     lookup::find(
         s,
@@ -47,12 +53,11 @@ pub fn output_of(s: &[u8], names: &Names, symbols: &SymbolTable, c: Cursor) -> u
     )
 }
 
-// Which term of variable v; their number where it is none.
-pub fn term_of(s: &[u8], names: &Names, symbols: &SymbolTable, v: usize, c: Cursor) -> usize
+// Which term of variable v.
+pub fn term_of(s: &[u8], names: &Names, symbols: &SymbolTable, v: usize, c: Cursor) -> Option<usize>
     requires { Fits s.now c × Symbols s.now names.now symbols.now × (v < variable_limit) }
-    ensures value { result ≡ among s.now names.now (text_of s.now c)
-        (term_count symbols.now v) (variable_limit + v * term_limit) }
-    ensures within { result ≤ term_limit }
+    ensures { Found s.now names.now (text_of s.now c)
+        (term_count symbols.now v) (variable_limit + v * term_limit) result }
 {
     lookup::find(
         s,
@@ -64,64 +69,37 @@ pub fn term_of(s: &[u8], names: &Names, symbols: &SymbolTable, v: usize, c: Curs
     )
 }
 
-// The terms of a row, if it is one of the first n.
-fn terms_among(i: usize, n: usize, terms: usize) -> usize
-    ensures value { result ≡ (if ltb i n then terms else 0) }
-    ensures within { result ≤ terms }
+// How many terms variable v has; none where it is not declared.
+fn terms_at(t: &Tables, v: usize) -> usize
+    requires { v < variable_limit }
+    ensures { result ≡ terms_at t.now v }
 {
-    if i < n {
-        return terms;
+    if v < bounds::INPUTS {
+        if v < t.input_count {
+            t.inputs[v].terms
+        } else {
+            0
+        }
+    } else {
+        let o = v - bounds::INPUTS;
+        if o < t.output_count {
+            t.outputs[o].terms
+        } else {
+            0
+        }
     }
-    0
-}
-
-fn with_inputs(symbols: SymbolTable, rows: [Input; bounds::INPUTS], n: usize) -> SymbolTable
-    requires { (get_or symbols 0 0 ≡ 0) × ((i : ℕ) → (get_or rows i no_input).terms ≤ term_limit) }
-    ensures by_index { (c : ℕ → ℕ) → ((i : ℕ) → i < input_limit
-        → c i ≡ (if ltb i n then (get_or rows i no_input).terms else 0))
-        → Firsts c input_limit result }
-    ensures small { get_or result input_limit 0 ≤ input_term_limit }
-{
-    let mut r = symbols;
-    let mut i = 0;
-    while i < bounds::INPUTS {
-        let v = rows[i];
-        let k = terms_among(i, n, v.terms);
-        r[i + 1] = r[i] + k;
-        i += 1;
-    }
-    r
-}
-
-fn with_outputs(symbols: SymbolTable, rows: [Output; bounds::OUTPUTS], n: usize) -> SymbolTable
-    requires { (get_or symbols input_limit 0 ≤ input_term_limit) × ((i : ℕ) → (get_or rows i no_output).terms ≤ term_limit) }
-    ensures { (c : ℕ → ℕ) → Firsts c input_limit symbols
-        → ((i : ℕ) → i < output_limit → c (input_limit + i) ≡ (if ltb i n then (get_or rows i no_output).terms else 0))
-        → Firsts c variable_limit result }
-{
-    let mut r = symbols;
-    let mut i = 0;
-    while i < bounds::OUTPUTS {
-        let v = rows[i];
-        let k = terms_among(i, n, v.terms);
-        r[bounds::INPUTS + i + 1] = r[bounds::INPUTS + i] + k;
-        i += 1;
-    }
-    r
 }
 
 // The symbols of a text's tables.
-pub fn symbols_of(t: Tables) -> SymbolTable
-    requires { ((i : ℕ) → (input_row t i).terms ≤ term_limit) × ((o : ℕ) → (output_row t o).terms ≤ term_limit) }
-    ensures { result ≡ symbols_in t }
+pub fn symbols_of(t: &Tables) -> SymbolTable
+    requires { ((i : ℕ) → (input_row t.now i).terms ≤ term_limit) × ((o : ℕ) → (output_row t.now o).terms ≤ term_limit) }
+    ensures { result ≡ symbols_in t.now }
 {
-    let m = t.input_count;
-    let n = t.output_count;
-    let inputs = t.inputs;
-    let a = with_inputs([0; OUTPUT_COUNT + 1], inputs, m);
-    let outputs = t.outputs;
-    let mut r = with_outputs(a, outputs, n);
-    r[INPUT_COUNT] = m;
-    r[OUTPUT_COUNT] = n;
+    let mut r = [0; OUTPUT_COUNT + 1];
+    for v in 0..bounds::VARIABLES {
+        r[v + 1] = r[v] + terms_at(t, v);
+    }
+    r[INPUT_COUNT] = t.input_count;
+    r[OUTPUT_COUNT] = t.output_count;
     r
 }

@@ -4,39 +4,31 @@
 ghost use Rattle.std.specs.Prelude.{◌≡◌, [], ◌+◌, ◌≤◌};
 ghost use Rattle.model.specs.Basic.{tab};
 ghost use Rattle.model.specs.Image.{word_at, point_at};
-ghost use Rattle.header.specs.Header.{Heads, Covers};
 ghost use Rattle.term_points.specs.Points.{points_after};
 
-use header::Header;
+use header::Stored;
 use model::Crisp;
-use stored_points::{degree_at, place_at};
 use term_rules::LastTwo;
 
 // The k points from s on, and the order of their positions.
-pub fn points_ok(img: &[u8], h: Header, s: usize, k: usize) -> bool
-    requires { Heads (word_at img.now) h × Covers img.now h × (s + k ≤ h.points) }
-    ensures { result ≡ points_after [] (tab (point_at (word_at img.now)) k s) }
+pub fn points_ok(image: &Stored, s: usize, k: usize) -> bool
+    requires { s + k ≤ image.now.header.points.rows }
+    ensures { result ≡ points_after [] (tab (point_at (word_at image.now.bytes.now)) k s) }
 {
     let none = Crisp(0);
     let mut last = LastTwo {
         earlier: none,
         later: none,
     };
-    let mut i: usize = 0;
-    while i < k {
-        let x = place_at(img, h, s + i);
-        if !term_rules::point_ok(x, degree_at(img, h, s + i)) {
+    for i in 0..k {
+        let p = stored_points::point_at(image, s + i);
+        if !term_rules::point_ok(p.at, p.degree) || !term_rules::may_stand(i, last, p.at) {
             return false;
         }
-        if !term_rules::may_stand(i, last, x) {
-            return false;
-        }
-        let earlier = last.later;
         last = LastTwo {
-            earlier: earlier,
-            later: x,
+            earlier: last.later,
+            later: p.at,
         };
-        i += 1;
     }
     true
 }

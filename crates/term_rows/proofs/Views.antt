@@ -4,9 +4,9 @@ use mathlib.Core.List.{List, [], ◌∷◌, ◌++◌, map, map-append}
 use Prim.Native.Nat.{ℕ, zero, suc, ◌+◌, ◌*◌, ◌≤◌}
 use native.Mathlib.Omega.{arith}
 use lib.ListN.{length, get_or, take, drop, length-append}
-use lib.Seq.{slice, drop-cons}
+use lib.Seq.{slice, drop-cons, take-length}
 use Rattle.model.specs.Basic.{gather, tab}
-use Rattle.model.specs.Bounds.{M, term_limit, variable_limit, input_term_limit, output_term_limit}
+use Rattle.model.specs.Bounds.{M, term_limit, variable_limit, input_term_limit}
 use Rattle.model.specs.Block as block
 use Rattle.model.specs.Image.{crisp_word, singleton_term, name_words, term_table, point_words}
 use Rattle.laws.proofs.Lists.{map_tab, gather_append}
@@ -22,7 +22,7 @@ use Rattle.block_tables.specs.declared.Singleton.{Singleton}
 use Rattle.block_tables.specs.declared.Tables.{Tables}
 use Rattle.block_tables.specs.View.{point_at, a_term, a_singleton, term_row as theTerm, singleton_row, term_view, input_view, singleton_view, output_view, inputs_view, outputs_view, Holds}
 use Rattle.block_tables.proofs.Index.{in_text}
-use Rattle.variable_rows.specs.Rows.{rows, onward, input_size, output_size, Slots, slot_row, slots_of, list_of, Listed}
+use Rattle.variable_rows.specs.Rows.{rows, onward, input_size, output_size, slot_row, slots_of}
 use Rattle.variable_rows.proofs.Views.{rows_laid}
 use Rattle.term_rows.specs.Rows.{TermsNamed, SingletonsNamed, held_in, term_words, term_rows, singleton_words, singleton_rows, point_row, points_of, point_rows, singleton_points}
 
@@ -41,19 +41,19 @@ map_take g l zero i h = refl
 map_take {A} g l (suc n) i h =
     rw (drop-cons l i 0 (omega arith)) (ap (λ (x : List A). g (get_or l i 0) ∷ x) (map_take g l n (suc i) (omega arith)))
 
+-- and at all of them
+map_places : {A : Type 0} (g : ℕ → A) (l : List ℕ) → map g l ≡ tab (λ k. g (get_or l k 0)) (length l) 0
+map_places {A} g l = rw take-length at (map_take g l (length l) 0 (omega arith))
+
 gather_gather : {A B C : Type 0} (f : B → List C) (g : A → List B) (xs : List A) → gather f (gather g xs) ≡ gather (λ x. gather f (g x)) xs
 unfolding gather
 gather_gather f g [] = refl
 gather_gather {C = C} f g (x ∷ xs) = gather_append f (g x) (gather g xs) ∙ ap (λ (l : List C). gather f (g x) ++ l) (gather_gather f g xs)
 
--- own and others are the lists of the places of the terms of inputs and of outputs
-pub record Ordered (t : Tables) (own others : Slots) : Type 0 where
-  pub own_few : own.count ≤ input_term_limit
-  pub others_few : others.count ≤ output_term_limit
-  pub own_listed : Listed input_term_limit own.at
-  pub others_listed : Listed output_term_limit others.at
-  pub inputs : list_of own ≡ slots_of (input_size t.inputs) t.input_count
-  pub outputs : list_of others ≡ slots_of (output_size t.outputs) t.output_count
+-- own and others are the places of the terms of inputs and of outputs
+pub record Ordered (t : Tables) (own others : List ℕ) : Type 0 where
+  pub inputs : own ≡ slots_of (input_size t.inputs) t.input_count
+  pub outputs : others ≡ slots_of (output_size t.outputs) t.output_count
 
 module _ (s : List ℕ) (t : Tables) where
   -- TERMS: the ones in place k
@@ -83,12 +83,12 @@ module _ (s : List ℕ) (t : Tables) where
   abbrev pub all_terms : List block.Term
   all_terms = gather (λ v. v.terms) (inputs_view s t) ++ map singleton_term (gather (λ v. v.terms) (outputs_view s t))
 
-  module _ (own others : Slots) (order : Ordered t own others) where
+  module _ (own others : List ℕ) (order : Ordered t own others) where
     abbrev own_term : ℕ → Term
-    own_term k = theTerm t (get_or own.at k 0)
+    own_term k = theTerm t (get_or own k 0)
 
     abbrev other_term : ℕ → Singleton
-    other_term k = singleton_row t (get_or others.at k 0)
+    other_term k = singleton_row t (get_or others k 0)
 
     term_at : ℕ → block.Term
     term_at k = a_term s (own_term k)
@@ -96,29 +96,29 @@ module _ (s : List ℕ) (t : Tables) where
     single_at : ℕ → block.Term
     single_at k = singleton_term (a_singleton s (other_term k))
 
-    input_terms_are : gather (λ v. v.terms) (inputs_view s t) ≡ tab term_at own.count 0
+    input_terms_are : gather (λ v. v.terms) (inputs_view s t) ≡ tab term_at (length own) 0
     unfolding slots_of term_at term_in
     input_terms_are =
         input_terms_lem t.input_count 0 ∙ ap (map term_in) (sym order.inputs)
-        ∙ map_take term_in own.at own.count 0 (omega (arith, order.own_listed.size, order.own_few))
+        ∙ map_places term_in own
 
-    output_terms_are : map singleton_term (gather (λ v. v.terms) (outputs_view s t)) ≡ tab single_at others.count 0
+    output_terms_are : map singleton_term (gather (λ v. v.terms) (outputs_view s t)) ≡ tab single_at (length others) 0
     unfolding slots_of single_at singleton_in
     output_terms_are =
         ap (map singleton_term) (output_terms_lem t.output_count 0 ∙ ap (map singleton_in) (sym order.outputs)
-        ∙ map_take singleton_in others.at others.count 0 (omega (arith, order.others_listed.size, order.others_few)))
-        ∙ map_tab singleton_term (λ k. singleton_in (get_or others.at k 0)) others.count 0
+        ∙ map_places singleton_in others)
+        ∙ map_tab singleton_term (λ k. singleton_in (get_or others k 0)) (length others) 0
 
-    pub first_output : length (gather (λ v. v.terms) (inputs_view s t)) ≡ own.count
-    first_output = ap length input_terms_are ∙ length_tab term_at own.count 0
+    pub first_output : length (gather (λ v. v.terms) (inputs_view s t)) ≡ length own
+    first_output = ap length input_terms_are ∙ length_tab term_at (length own) 0
 
-    terms_are : all_terms ≡ tab term_at own.count 0 ++ tab single_at others.count 0
+    terms_are : all_terms ≡ tab term_at (length own) 0 ++ tab single_at (length others) 0
     terms_are = λ j. input_terms_are j ++ output_terms_are j
 
-    pub terms_count : length all_terms ≡ own.count + others.count
+    pub terms_count : length all_terms ≡ length own + length others
     terms_count =
-        ap length terms_are ∙ length-append (tab term_at own.count 0) (tab single_at others.count 0)
-        ∙ (λ j. length_tab term_at own.count 0 j + length_tab single_at others.count 0 j)
+        ap length terms_are ∙ length-append (tab term_at (length own) 0) (tab single_at (length others) 0)
+        ∙ (λ j. length_tab term_at (length own) 0 j + length_tab single_at (length others) 0 j)
 
     -- how many points
     size_at : (k : ℕ) → length (term_at k).points ≡ (own_term k).count
@@ -140,13 +140,13 @@ module _ (s : List ℕ) (t : Tables) where
     single_points zero i = refl
     single_points (suc n) i = ap suc (single_points n (suc i))
 
-    pub points_count : length (gather (λ v. v.points) all_terms) ≡ held_in t.input_terms own.at own.count + others.count
+    pub points_count : length (gather (λ v. v.points) all_terms) ≡ held_in t.input_terms own (length own) + (length others)
     unfolding held_in
     points_count =
         ap (λ (l : List block.Term). length (gather (λ v. v.points) l)) terms_are
-        ∙ ap length (gather_append (λ v. v.points) (tab term_at own.count 0) (tab single_at others.count 0))
-        ∙ length-append (gather (λ v. v.points) (tab term_at own.count 0)) _
-        ∙ (λ j. points_in own.count 0 j + single_points others.count 0 j)
+        ∙ ap length (gather_append (λ v. v.points) (tab term_at (length own) 0) (tab single_at (length others) 0))
+        ∙ length-append (gather (λ v. v.points) (tab term_at (length own) 0)) _
+        ∙ (λ j. points_in (length own) 0 j + single_points (length others) 0 j)
 
     -- their rows
     term_row_lem : (n i : ℕ) → term_row n (term_at i) ≡ term_words s (own_term i) n
@@ -161,18 +161,18 @@ module _ (s : List ℕ) (t : Tables) where
     unfolding single_at
     single_next n i = refl
 
-    pub terms_laid : term_table 0 all_terms ≡ term_rows s t.input_terms own.at own.count
-        ++ singleton_rows s t.output_terms others.at others.count (held_in t.input_terms own.at own.count)
+    pub terms_laid : term_table 0 all_terms ≡ term_rows s t.input_terms own (length own)
+        ++ singleton_rows s t.output_terms others (length others) (held_in t.input_terms own (length own))
     unfolding term_rows singleton_rows held_in
     terms_laid =
-        ap (term_table 0) terms_are ∙ term_table_lem 0 _ ∙ laid_append term_row term_next term_at own.count 0 0 (tab single_at others.count 0)
-        ∙ (λ j. rows_laid term_row term_next term_at _ _ term_row_lem (λ n i. ap (λ (x : ℕ). n + x) (size_at i)) own.count 0 0 j
-        ++ laid term_row term_next (points_before own.count 0 0 j) (tab single_at others.count 0))
-        ∙ (let z : 0 + sums (λ k. (own_term k).count) own.count 0 ≡ sums (λ k. (own_term k).count) own.count 0 = omega arith in
-        λ j. rows (λ n i. term_words s (own_term i) n) (λ n i. n + (own_term i).count) own.count 0 0
-        ++ laid term_row term_next (z j) (tab single_at others.count 0))
-        ∙ ap (λ (l : List ℕ). rows (λ n i. term_words s (own_term i) n) (λ n i. n + (own_term i).count) own.count 0 0 ++ l)
-        (rows_laid term_row term_next single_at _ _ single_row single_next others.count 0 _)
+        ap (term_table 0) terms_are ∙ term_table_lem 0 _ ∙ laid_append term_row term_next term_at (length own) 0 0 (tab single_at (length others) 0)
+        ∙ (λ j. rows_laid term_row term_next term_at _ _ term_row_lem (λ n i. ap (λ (x : ℕ). n + x) (size_at i)) (length own) 0 0 j
+        ++ laid term_row term_next (points_before (length own) 0 0 j) (tab single_at (length others) 0))
+        ∙ (let z : 0 + sums (λ k. (own_term k).count) (length own) 0 ≡ sums (λ k. (own_term k).count) (length own) 0 = omega arith in
+        λ j. rows (λ n i. term_words s (own_term i) n) (λ n i. n + (own_term i).count) (length own) 0 0
+        ++ laid term_row term_next (z j) (tab single_at (length others) 0))
+        ∙ ap (λ (l : List ℕ). rows (λ n i. term_words s (own_term i) n) (λ n i. n + (own_term i).count) (length own) 0 0 ++ l)
+        (rows_laid term_row term_next single_at _ _ single_row single_next (length others) 0 _)
 
     -- and those of their points
     points_of_lem : (ps : List Point) (n i : ℕ) → gather point_words (tab (point_at ps) n i) ≡ rows (point_row ps) onward n i tt
@@ -194,11 +194,11 @@ module _ (s : List ℕ) (t : Tables) where
         gather_gather point_words (λ v. v.points) (tab f n 0) ∙ gather_laid (λ v. gather point_words v.points) (tab f n 0)
         ∙ rows_laid (alone (λ (v : block.Term). gather point_words v.points)) layout.onward f _ onward (λ σ i. e i) (λ σ i. refl) n 0 tt
 
-    pub points_laid : gather point_words (gather (λ v. v.points) all_terms) ≡ point_rows t.input_terms own.at own.count
-        ++ singleton_points t.output_terms others.at others.count
+    pub points_laid : gather point_words (gather (λ v. v.points) all_terms) ≡ point_rows t.input_terms own (length own)
+        ++ singleton_points t.output_terms others (length others)
     unfolding point_rows singleton_points
     points_laid =
         ap (λ (l : List block.Term). gather point_words (gather (λ v. v.points) l)) terms_are
-        ∙ ap (gather point_words) (gather_append (λ v. v.points) (tab term_at own.count 0) (tab single_at others.count 0))
-        ∙ gather_append point_words (gather (λ v. v.points) (tab term_at own.count 0)) _
-        ∙ (λ j. pointing term_at _ own.count words_at j ++ pointing single_at _ others.count single_words j)
+        ∙ ap (gather point_words) (gather_append (λ v. v.points) (tab term_at (length own) 0) (tab single_at (length others) 0))
+        ∙ gather_append point_words (gather (λ v. v.points) (tab term_at (length own) 0)) _
+        ∙ (λ j. pointing term_at _ (length own) words_at j ++ pointing single_at _ (length others) single_words j)

@@ -21,30 +21,18 @@ pub struct LastTwo {
 pub fn point_ok(x: Crisp, d: Degree) -> bool
     ensures { result ≡ point_ok (record { at = x.0; degree = d.0 }) }
 {
-    if !crisp::in_bounds(x) {
-        return false;
-    }
-    degrees::is_unit(d)
+    crisp::in_bounds(x) && degrees::is_unit(d)
 }
 
 // Whether x may stand after n positions, the last two of them given.
 pub fn may_stand(n: usize, last: LastTwo, x: Crisp) -> bool
     ensures { result ≡ may_stand n last x.0 }
 {
-    if n == 0 {
-        return true;
-    }
-    if !crisp::not_above(last.later, x) {
-        return false;
-    }
-    if n == 1 {
-        return true;
-    }
-    crisp::less(last.earlier, x)
+    n == 0 || (last.later <= x && (n == 1 || last.earlier < x))
 }
 
 pub fn point_count_ok(n: usize) -> bool
     ensures { result ≡ between point_least point_limit n }
 {
-    bounds::within(bounds::LEAST_POINTS, bounds::POINTS, n)
+    (bounds::LEAST_POINTS..=bounds::POINTS).contains(&n)
 }

@@ -36,11 +36,7 @@ fn point_at(s: &[u8], i: usize) -> bool
         ≡ if result then suc (run is_digit (drop (i + 1) s.now)) else 0 }
     ensures within { result ≡ true → i < length s.now }
 {
-    if i < s.len() {
-        let digit = characters::digit_at(s, i + 1);
-        return s[i] == 46 && digit;
-    }
-    false
+    i < s.len() && s[i] == b'.' && characters::digit_at(s, i + 1)
 }
 
 // The bytes of a number from behind its sign or its first digit on.
@@ -64,7 +60,7 @@ fn goes_on(s: &[u8], i: usize) -> bool
     if characters::is_plain(s[i]) {
         return true;
     }
-    if s[i] != 95 {
+    if s[i] != b'_' {
         return false;
     }
     i + 1 < s.len() && characters::is_plain(s[i + 1])
@@ -84,7 +80,7 @@ fn stopped(s: &[u8], i: usize) -> Word
         × (result.tidy ≡ tidy_word (drop i s.now)) }
     ensures within { (i ≤ result.end) × (result.end ≤ length s.now) }
 {
-    if s[i] == 95 {
+    if s[i] == b'_' {
         return Word {
             end: characters::name_end(s, i),
             tidy: false,
@@ -97,14 +93,15 @@ fn word_of(s: &[u8]) -> Word
     ensures end_value { (result.end ≡ run is_name_byte s.now) × (result.tidy ≡ tidy_word s.now) }
     ensures within { result.end ≤ length s.now }
 {
-    let mut i = 0;
-    while i < s.len() {
+    for i in 0..s.len() {
         if !goes_on(s, i) {
             return stopped(s, i);
         }
-        i += 1;
     }
-    Word { end: i, tidy: true }
+    Word {
+        end: s.len(),
+        tidy: true,
+    }
 }
 
 // The kind of a tidy word.
@@ -113,11 +110,10 @@ fn word_kind(w: &[u8]) -> u8
     ensures value { result ≡ word_kind w.now }
     ensures within { 0 < result }
 {
-    let k = keywords::keyword_at(w);
-    if k < keywords::COUNT {
-        return token_kinds::ACCU + k as u8;
+    match keywords::keyword_at(w) {
+        Some(k) => token_kinds::ACCU + k as u8,
+        None => token_kinds::NAME,
     }
-    token_kinds::NAME
 }
 
 fn word_piece(rest: &[u8]) -> Piece
@@ -154,15 +150,13 @@ fn comment_piece(rest: &[u8]) -> Piece
         ≡ comment_piece (drop 2 rest.now) (comment_part (drop 2 rest.now)) }
     ensures within { (0 < result.kind) × (result.more < length rest.now) }
 {
-    let mut i = 2;
-    while i < rest.len() {
-        if is_pair(rest, i, 42, 41) {
+    for i in 2..rest.len() {
+        if is_pair(rest, i, b'*', b')') {
             return Piece {
                 kind: token_kinds::BLANK,
                 more: i + 1,
             };
         }
-        i += 1;
     }
     Piece {
         kind: token_kinds::WRONG,
@@ -185,16 +179,16 @@ fn mark_piece(rest: &[u8]) -> Piece
             more: number_part(rest, 1),
         };
     }
-    if is_pair(rest, 0, 40, 42) {
+    if is_pair(rest, 0, b'(', b'*') {
         return comment_piece(rest);
     }
-    if is_pair(rest, 0, 58, 61) {
+    if is_pair(rest, 0, b':', b'=') {
         return Piece {
             kind: token_kinds::ASSIGN,
             more: 1,
         };
     }
-    if is_pair(rest, 0, 46, 46) {
+    if is_pair(rest, 0, b'.', b'.') {
         return Piece {
             kind: token_kinds::DOTS,
             more: 1,

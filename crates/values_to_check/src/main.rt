@@ -7,7 +7,7 @@
 ghost use Rattle.std.specs.Prelude.{◌≡◌, ◌≤◌, ◌<◌, length};
 ghost use Rattle.std.specs.Counts.{IsPrefixLen};
 
-use model::{Answer, Evaluation, Mark, Reading, Refusal, Taken, Written};
+use model::{Answer, Crisp, Evaluation, Held, Mark, Reading, Refusal};
 use std::fs::File;
 use std::io;
 use std::io::Write;
@@ -38,21 +38,19 @@ fn image_of(text: &[u8], out: &mut [u8]) -> usize
     ensures { IsPrefixLen result out.new }
 {
     match reader::read(text, out) {
-        Written::Bytes(n) => {
+        Ok(n) => {
             if out.len() < n {
                 return 0;
             }
             n
         }
-        Written::Refused(_) => 0,
+        Err(_) => 0,
     }
 }
 
 // One call on the fresh record.
 fn call(img: &[u8], readings: [Reading; bounds::INPUTS], n: usize) -> Evaluation {
-    let fresh = evaluation::fresh_of(img);
-    let held = fresh.held;
-    evaluation::evaluate(img, readings, n, held)
+    evaluation::evaluate(img, readings, n, evaluation::fresh_of(img).held)
 }
 
 fn call_on_text(text: &[u8], readings: [Reading; bounds::INPUTS], n: usize) -> Evaluation {
@@ -221,8 +219,8 @@ fn figure_line<R: Files, W: Write>(
 fn real_line<W: Write>(to: &mut W, name: &[u8], x: f32) -> io::Result<()> {
     to.write_all(name)?;
     match readings::real(x) {
-        Taken::Value(c) => write_signed(to, c)?,
-        _ => to.write_all(b"no value")?,
+        Ok(c) => write_signed(to, c)?,
+        Err(_) => to.write_all(b"no value")?,
     }
     to.write_all(b"\n")
 }
@@ -242,8 +240,8 @@ fn write_refusal<W: Write>(to: &mut W, r: Refusal) -> io::Result<()> {
 fn write_reading<W: Write>(to: &mut W, text: &[u8]) -> io::Result<()> {
     let mut out = buffer();
     match reader::read(text, &mut out) {
-        Written::Bytes(_) => to.write_all(b"accepted"),
-        Written::Refused(r) => write_refusal(to, r),
+        Ok(_) => to.write_all(b"accepted"),
+        Err(r) => write_refusal(to, r),
     }
 }
 

@@ -1,4 +1,4 @@
+pub mod Fronts
 pub mod Turns
-pub mod Signed
 pub mod Lists
 pub mod Views

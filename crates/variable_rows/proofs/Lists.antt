@@ -4,7 +4,7 @@ use mathlib.Core.List.{List, [], ◌∷◌, ◌++◌, append_assoc, append-nil}
 use Prim.Native.Nat.{ℕ, suc, ◌+◌, ◌*◌, ◌-◌, ◌≤◌, ◌<◌}
 use native.Mathlib.Omega.{arith}
 use lib.Dec.{eqb}
-use lib.ListN.{length, get_or, set, length-set, replicate}
+use lib.ListN.{length, get_or, take, set, length-set, replicate}
 use lib.Seq.{take-suc-set, get_or-set_same, get_or-set_other}
 use borrow.Author.Tests.{eqb-true, eqb-false}
 use mathlib.Core.Bool.{Bool, true, false}
@@ -12,7 +12,7 @@ use Rattle.model.specs.Basic.{tab}
 use Rattle.model.specs.Bounds.{term_limit, input_term_limit}
 use Rattle.laws.proofs.Places.{tab_last}
 use Rattle.laws.proofs.Arrays.{replicate_at}
-use Rattle.variable_rows.specs.Rows.{Slots, Listed, list_of, rows, onward, slot_row}
+use Rattle.variable_rows.specs.Rows.{Listed, rows, onward, slot_row}
 use Rattle.variable_rows.proofs.Turns.{rows_more, rows_end}
 
 -- no places
@@ -20,24 +20,21 @@ pub listed_none : (m : ℕ) → 0 < m → Listed m (replicate input_term_limit 0
 listed_none m h = record { size = refl; below = λ k. omega (arith, replicate_at {A = ℕ} input_term_limit k 0) }
 
 -- one place more
-abbrev pub longer : Slots → ℕ → Slots
-longer l x = record { at = set l.at l.count x; count = l.count + 1 }
-
-module _ (l : Slots) (x : ℕ) where
-  pub listed_more : (m : ℕ) → Listed m l.at → l.count < input_term_limit → x < m → Listed m (longer l x).at
-  listed_more m h k b = record { size = length-set l.at l.count x ∙ h.size; below = λ i. go i (eqb i l.count) refl }
+module _ (l : List ℕ) (n x : ℕ) where
+  pub listed_more : (m : ℕ) → Listed m l → n < input_term_limit → x < m → Listed m (set l n x)
+  listed_more m h k b = record { size = length-set l n x ∙ h.size; below = λ i. go i (eqb i n) refl }
     where
-      go : (i : ℕ) (t : Bool) → eqb i l.count ≡ t → get_or (set l.at l.count x) i 0 < m
-      go i false e = rw (get_or-set_other l.at l.count i x 0 (eqb-false i l.count e)) (h.below i)
-      go i true e = rw (eqb-true i l.count e, get_or-set_same l.at l.count x 0 (omega (arith, h.size))) b
+      go : (i : ℕ) (t : Bool) → eqb i n ≡ t → get_or (set l n x) i 0 < m
+      go i false e = rw (get_or-set_other l n i x 0 (eqb-false i n e)) (h.below i)
+      go i true e = rw (eqb-true i n e, get_or-set_same l n x 0 (omega (arith, h.size))) b
 
-  pub slot_more : (xs : List ℕ) (f : ℕ → ℕ) (j : ℕ) → l.count < length l.at → x ≡ f j → list_of l ≡ xs ++ tab f j 0
-      → list_of (longer l x) ≡ xs ++ tab f (j + 1) 0
+  pub slot_more : (xs : List ℕ) (f : ℕ → ℕ) (j : ℕ) → n < length l → x ≡ f j → take n l ≡ xs ++ tab f j 0
+      → take (n + 1) (set l n x) ≡ xs ++ tab f (j + 1) 0
   slot_more xs f j h e p =
-      let one : l.count + 1 ≡ suc l.count = omega arith in
+      let one : n + 1 ≡ suc n = omega arith in
       let two : j + 1 ≡ suc j = omega arith in
       let z : 0 + j ≡ j = omega arith in
-      rw (one, two) (take-suc-set l.at l.count x h ∙ (λ i. p i ++ (e i ∷ [])) ∙ append_assoc xs (tab f j 0) (f j ∷ [])
+      rw (one, two) (take-suc-set l n x h ∙ (λ i. p i ++ (e i ∷ [])) ∙ append_assoc xs (tab f j 0) (f j ∷ [])
       ∙ ap (λ (y : List ℕ). xs ++ y) (rw z at (sym (tab_last f j 0))))
 
 -- the places of one variable more

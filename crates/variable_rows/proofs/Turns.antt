@@ -1,10 +1,11 @@
 -- The rows of a table, one a turn.
-use mathlib.Core.Path.{◌≡◌, sym, ◌∙◌}
+use mathlib.Core.Path.{◌≡◌, refl, sym, ap, ◌∙◌}
 use mathlib.Core.List.{List, [], ◌++◌, append_assoc, append-nil}
-use Prim.Native.Nat.{ℕ, ◌+◌, ◌*◌, ◌-◌, ◌≤◌, ◌<◌}
+use Prim.Native.Nat.{ℕ, zero, suc, ◌+◌, ◌*◌, ◌-◌, ◌≤◌, ◌<◌}
 use native.Mathlib.Omega.{arith}
 use native.Mathlib.Numerals.{add-one}
-use lib.ListN.{length}
+use lib.ListN.{length, get_or, take}
+use lib.Seq.{get_or-take, length-take-le}
 use Rattle.laws.proofs.Places.{step, gone}
 use Rattle.word_writer.specs.Over.{Wrote}
 use Rattle.word_writer.proofs.Over.{joined, no_words, retold}
@@ -19,6 +20,29 @@ module _ {S : Type 0} (row : S → ℕ → List ℕ) (next : S → ℕ → S) (n
   pub rows_end : n ≤ i → rows row next (n - i) i σ ≡ []
   unfolding rows
   rows_end h = rw (gone n i h)
+
+-- rows that are the same as far as they go
+module _ {S : Type 0} (row row' : S → ℕ → List ℕ) (next next' : S → ℕ → S) where
+  pub rows_same : (n i : ℕ) (σ : S) → ((k : ℕ) (τ : S) → k < i + n → (row τ k ≡ row' τ k) × (next τ k ≡ next' τ k))
+      → rows row next n i σ ≡ rows row' next' n i σ
+  unfolding rows
+  rows_same zero i σ h = refl
+  rows_same (suc n) i σ h =
+      let q = h i σ (omega arith) in
+      (λ j. q.0 j ++ rows row next n (suc i) (q.1 j))
+      ∙ ap (λ (l : List ℕ). row' σ i ++ l) (rows_same n (suc i) (next' σ i) (λ k τ l. h k τ (omega arith)))
+
+-- rows of the first n of a list
+pub rows_front : {S X : Type 0} (row : S → ℕ → X → List ℕ) (next : S → ℕ → X → S) (l : List X) (d : X) (n : ℕ) (σ : S) → n ≤ length l
+    → rows (λ τ k. row τ k (get_or (take n l) k d)) (λ τ k. next τ k (get_or (take n l) k d)) (length (take n l)) 0 σ
+    ≡ rows (λ τ k. row τ k (get_or l k d)) (λ τ k. next τ k (get_or l k d)) n 0 σ
+rows_front {S} row next l d n σ h =
+    rw (length-take-le n l h) (rows_same (λ τ k. row τ k (get_or (take n l) k d)) (λ τ k. row τ k (get_or l k d))
+    (λ τ k. next τ k (get_or (take n l) k d)) (λ τ k. next τ k (get_or l k d)) n 0 σ (λ k τ g. both k τ (get_or-take n l k d (omega arith))))
+  where
+    both : (k : ℕ) (τ : S) → get_or (take n l) k d ≡ get_or l k d
+        → (row τ k (get_or (take n l) k d) ≡ row τ k (get_or l k d)) × (next τ k (get_or (take n l) k d) ≡ next τ k (get_or l k d))
+    both k τ e = (λ j. row τ k (e j), λ j. next τ k (e j))
 
 -- TABLES: the rows before the i-th are written, and with the others they are the table T
 abbrev pub Going : {S : Type 0} (row : S → ℕ → List ℕ) (next : S → ℕ → S) (T : List ℕ) (n : ℕ) (old : List ℕ) (at i : ℕ) (σ : S) (p : ℕ) (new : List ℕ) → Type 0

@@ -7,6 +7,7 @@ use mathlib.Core.Option.{some}
 use Prim.Native.Nat.{ℕ, zero, suc, ◌+◌}
 use native.Mathlib.Omega.{arith}
 use lib.ListN.{get_or}
+use mir.Val.{bool_byte}
 use lib.Seq.{slice}
 use Rattle.model.specs.Basic.{tab}
 use Rattle.model.specs.Bounds.{input_limit}
@@ -41,6 +42,10 @@ module _ {R S : Type 0} (enc : S → R → List ℕ) (step : S → R → S) (f :
       ∙ (λ j. same_row σ i j ++ rows_laid n (suc i) (next σ i) j)
 
 -- VARIABLES
+pub bit_byte : (b : Bool) → bool_byte b ≡ bit b
+bit_byte true = refl
+bit_byte false = refl
+
 bit_type : (b : Bool) → type_word (if b then int else real) ≡ bit b
 bit_type true = refl
 bit_type false = refl

@@ -1,6 +1,6 @@
 -- A helper: the words of the tables of variables from the tables that a text is read into, row by row, and the places of
 -- their terms. `inputs_laid` and `outputs_laid` of proofs/Views tie them to the model's tables.
-use Rattle.std.specs.Prelude.{◌≡◌, Bool, List, [], ◌∷◌, ◌++◌, ℕ, zero, suc, ◌+◌, ◌*◌, ◌≤◌, ◌<◌, ℤ, length, get_or, take, if◌then◌else◌}
+use Rattle.std.specs.Prelude.{◌≡◌, Bool, List, [], ◌∷◌, ◌++◌, ℕ, zero, suc, ◌+◌, ◌*◌, ◌≤◌, ◌<◌, ℤ, length, get_or, if◌then◌else◌}
 use Rattle.std.proofs.Math.Seq.{slice}
 use Rattle.model.specs.Basic.{tab}
 use Rattle.model.specs.Bounds.{input_limit, output_limit, term_limit, input_term_limit}
@@ -65,18 +65,12 @@ slot_row c σ i = tab (λ j. i * term_limit + j) (c i) 0
 unfoldable pub slots_of : (ℕ → ℕ) → ℕ → List ℕ
 slots_of c k = rows (slot_row c) onward k 0 tt
 
--- a list of places, the first count of which are meant
-pub record Slots : Type 0 where
-  pub at : List ℕ
-  pub count : ℕ
-
-abbrev pub slots : List ℕ → ℕ → Slots
-slots l n = record { at = l; count = n }
-
-abbrev pub list_of : Slots → List ℕ
-list_of l = take l.count l.at
-
--- all of them below m
+-- room for places, all of those in it below m
 pub record Listed (m : ℕ) (l : List ℕ) : Type 0 where
   pub size : length l ≡ input_term_limit
+  pub below : (k : ℕ) → get_or l k 0 < m
+
+-- places of at most m terms, all of them below m
+pub record Places (m : ℕ) (l : List ℕ) : Type 0 where
+  pub few : length l ≤ m
   pub below : (k : ℕ) → get_or l k 0 < m

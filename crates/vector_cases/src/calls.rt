@@ -5,7 +5,7 @@ ghost use Rattle.std.specs.Prelude.{◌≤◌};
 use model::{Crisp, Held, Reading};
 use std::io;
 use std::io::{Read, Write};
-use vectors::{Case, case_buffer, next_case, write_evaluation, write_fresh};
+use vectors::{case_buffer, next_case, write_evaluation, write_fresh};
 use words::{crisp_at, word};
 
 // The float of a pattern; a NaN's pattern gives a NaN.
@@ -82,8 +82,8 @@ fn run_words<W: Write>(to: &mut W, img: &[u8], call: &[u8]) -> io::Result<()> {
 fn run_call<R: Read, W: Write>(file: &mut R, to: &mut W, img: &[u8]) -> io::Result<bool> {
     let mut call = [0u8; 92];
     match next_case(file, &mut call) {
-        Case::End => Ok(false),
-        Case::Bytes(n) => {
+        None => Ok(false),
+        Some(n) => {
             if n != 92 {
                 return Ok(false);
             }
@@ -110,8 +110,8 @@ fn run_image<R: Read, W: Write>(file: &mut R, to: &mut W, img: &[u8]) -> io::Res
 pub fn run_case<R: Read, W: Write>(file: &mut R, to: &mut W) -> io::Result<bool> {
     let mut img = case_buffer();
     match next_case(file, &mut img) {
-        Case::End => Ok(false),
-        Case::Bytes(n) => {
+        None => Ok(false),
+        Some(n) => {
             run_image(file, to, &img[..n])?;
             Ok(true)
         }

@@ -4,7 +4,7 @@ ghost use Rattle.std.specs.Prelude.{◌≡◌, length};
 
 use std::io;
 use std::io::{Read, Write};
-use vectors::{Case, FILL, case_buffer, image_buffer, next_case, write_image, write_verdict};
+use vectors::{FILL, case_buffer, image_buffer, next_case, write_image, write_verdict};
 use words::word;
 
 // More bytes than any text here has.
@@ -88,8 +88,8 @@ fn run_calls<W: Write>(to: &mut W, text: &[u8], calls: &[u8]) -> io::Result<()> 
 fn run_on<R: Read, W: Write>(file: &mut R, to: &mut W, text: &[u8]) -> io::Result<bool> {
     let mut calls = case_buffer();
     match next_case(file, &mut calls) {
-        Case::End => Ok(false),
-        Case::Bytes(m) => {
+        None => Ok(false),
+        Some(m) => {
             run_calls(to, text, &calls[..m])?;
             Ok(true)
         }
@@ -100,7 +100,7 @@ fn run_on<R: Read, W: Write>(file: &mut R, to: &mut W, text: &[u8]) -> io::Resul
 pub fn run_case<R: Read, W: Write>(file: &mut R, to: &mut W) -> io::Result<bool> {
     let mut text = text_buffer();
     match next_case(file, &mut text) {
-        Case::End => Ok(false),
-        Case::Bytes(n) => run_on(file, to, &text[..n]),
+        None => Ok(false),
+        Some(n) => run_on(file, to, &text[..n]),
     }
 }

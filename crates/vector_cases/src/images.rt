@@ -1,10 +1,10 @@
 // Runs the load check on each image of data/images and writes a line for each: the number of the refusal, or 0. Of an
 // image that is refused, lines for its fresh record, for a call on it and for its listing follow.
-use model::{Crisp, Held, Reading, Verdict};
+use model::{Crisp, Held, Reading};
 use std::io;
 use std::io::{Read, Write};
 use vectors::{
-    Case, case_buffer, listing_buffer, next_case, write_evaluation, write_fresh, write_refused,
+    case_buffer, listing_buffer, next_case, write_evaluation, write_fresh, write_refused,
     write_verdict,
 };
 
@@ -38,8 +38,8 @@ fn run_image<W: Write>(to: &mut W, img: &[u8]) -> io::Result<()> {
     write_verdict(to, v)?;
     to.write_all(b"\n")?;
     match v {
-        Verdict::Accepted => Ok(()),
-        Verdict::Refused(_) => run_refused(to, img),
+        Ok(()) => Ok(()),
+        Err(_) => run_refused(to, img),
     }
 }
 
@@ -47,8 +47,8 @@ fn run_image<W: Write>(to: &mut W, img: &[u8]) -> io::Result<()> {
 pub fn run_case<R: Read, W: Write>(file: &mut R, to: &mut W) -> io::Result<bool> {
     let mut img = case_buffer();
     match next_case(file, &mut img) {
-        Case::End => Ok(false),
-        Case::Bytes(n) => {
+        None => Ok(false),
+        Some(n) => {
             run_image(to, &img[..n])?;
             Ok(true)
         }

@@ -1,20 +1,18 @@
 // Reads each text of data/listings to its image and writes the listing of that, then two lines: whether the listing
 // read again gives the image byte for byte, and what one byte less room gives, which is a refusal. A byte of the buffer
 // that changed and should not have adds "changed".
-use model::Written;
 use std::io;
 use std::io::{Read, Write};
 use vectors::{
-    Case, case_buffer, end_line, image_buffer, listing_buffer, next_case, write_refusal,
-    write_refused,
+    case_buffer, end_line, image_buffer, listing_buffer, next_case, write_refusal, write_refused,
 };
 
 // Whether the text reads to the image.
 fn reads_to(text: &[u8], img: &[u8]) -> bool {
     let mut again = image_buffer();
     match reader::read(text, &mut again) {
-        Written::Bytes(n) => n <= 16384 && &again[..n] == img,
-        Written::Refused(_) => false,
+        Ok(n) => n <= 16384 && &again[..n] == img,
+        Err(_) => false,
     }
 }
 
@@ -46,7 +44,7 @@ fn run_room<W: Write>(to: &mut W, img: &[u8], n: usize) -> io::Result<()> {
 fn run_image<W: Write>(to: &mut W, img: &[u8]) -> io::Result<()> {
     let mut out = listing_buffer();
     match lister::list(img, &mut out) {
-        Written::Bytes(n) => {
+        Ok(n) => {
             if n <= 40000 {
                 write_listing(to, img, &out[..n])?;
                 end_line(to, &out, n)?;
@@ -56,7 +54,7 @@ fn run_image<W: Write>(to: &mut W, img: &[u8]) -> io::Result<()> {
             }
             Ok(())
         }
-        Written::Refused(r) => {
+        Err(r) => {
             write_refusal(to, r)?;
             end_line(to, &out, 0)
         }
@@ -66,13 +64,13 @@ fn run_image<W: Write>(to: &mut W, img: &[u8]) -> io::Result<()> {
 fn run_text<W: Write>(to: &mut W, text: &[u8]) -> io::Result<()> {
     let mut img = image_buffer();
     match reader::read(text, &mut img) {
-        Written::Bytes(n) => {
+        Ok(n) => {
             if n <= 16384 {
                 run_image(to, &img[..n])?;
             }
             Ok(())
         }
-        Written::Refused(r) => {
+        Err(r) => {
             write_refusal(to, r)?;
             to.write_all(b"\n")
         }
@@ -83,8 +81,8 @@ fn run_text<W: Write>(to: &mut W, text: &[u8]) -> io::Result<()> {
 pub fn run_case<R: Read, W: Write>(file: &mut R, to: &mut W) -> io::Result<bool> {
     let mut text = case_buffer();
     match next_case(file, &mut text) {
-        Case::End => Ok(false),
-        Case::Bytes(n) => {
+        None => Ok(false),
+        Some(n) => {
             run_text(to, &text[..n])?;
             Ok(true)
         }

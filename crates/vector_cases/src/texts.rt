@@ -3,18 +3,17 @@
 // too short. A byte of the buffer that changed and should not have adds "changed".
 ghost use Rattle.std.specs.Prelude.{◌≡◌, length};
 
-use model::Written;
 use std::io;
 use std::io::{Read, Write};
-use vectors::{Case, image_buffer, next_case, write_image};
+use vectors::{image_buffer, next_case, write_image};
 
 // The line of one reading, and how long the image is; 0 where there is none.
 fn run_reading<W: Write>(to: &mut W, text: &[u8], out: &mut [u8]) -> io::Result<usize> {
     let w = reader::read(text, out);
     write_image(to, w, out)?;
     match w {
-        Written::Bytes(n) => Ok(n),
-        Written::Refused(_) => Ok(0),
+        Ok(n) => Ok(n),
+        Err(_) => Ok(0),
     }
 }
 
@@ -48,8 +47,8 @@ fn run_text<W: Write>(to: &mut W, text: &[u8]) -> io::Result<()> {
 pub fn run_case<R: Read, W: Write>(file: &mut R, to: &mut W) -> io::Result<bool> {
     let mut text = long_buffer();
     match next_case(file, &mut text) {
-        Case::End => Ok(false),
-        Case::Bytes(n) => {
+        None => Ok(false),
+        Some(n) => {
             run_text(to, &text[..n])?;
             Ok(true)
         }

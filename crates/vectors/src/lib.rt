@@ -3,24 +3,17 @@
 // from vectors worked out elsewhere.
 #![tactic(auto)]
 
-ghost use Rattle.std.specs.Prelude.{◌≡◌, not, eqb, length, drop, replicate};
+ghost use Rattle.std.specs.Prelude.{◌≡◌, ◌≤◌, IfSome, not, eqb, length, drop, replicate};
 ghost use Rattle.std.specs.Counts.{IsPrefixLen};
 ghost use Rattle.model.specs.Basic.{all};
-ghost use Rattle.vectors.specs.Case.{Came};
 
-use model::{Answer, Crisp, Evaluation, Fresh, Held, Mark, Refusal, Verdict, Written};
+use evaluation::Fresh;
+use model::{Answer, Crisp, Evaluation, Held, Mark, Refusal};
 use std::io;
 use std::io::{Read, Write};
 
 // What a buffer is filled with before it is lent.
 pub const FILL: u8 = 165;
-
-// The bytes of a case at the start of a buffer, or that no case is left for it.
-#[derive(Clone, Copy)]
-pub enum Case {
-    End,
-    Bytes(usize),
-}
 
 // Reads until buf is full, the file ends or a read fails, and says how many bytes it put at the start of buf.
 pub fn read_full<R: Read>(file: &mut R, buf: &mut [u8]) -> usize
@@ -41,23 +34,23 @@ pub fn read_full<R: Read>(file: &mut R, buf: &mut [u8]) -> usize
     done
 }
 
-// The next case of a file, read to the start of buf: a word says how many bytes it has, then they follow. No case is
-// left at the end of the file, and where buf has no room for it.
-pub fn next_case<R: Read>(file: &mut R, buf: &mut [u8]) -> Case
-    ensures { Came buf.new result }
+// How many bytes the next case of a file has, which is read to the start of buf: a word says it, then they follow. No
+// case is left at the end of the file, and where buf has no room for it.
+pub fn next_case<R: Read>(file: &mut R, buf: &mut [u8]) -> Option<usize>
+    ensures { IfSome result (λ n. n ≤ length buf.new) }
 {
     let mut head = [0u8; 4];
     if read_full(file, &mut head) != 4 {
-        return Case::End;
+        return None;
     }
     let n = words::word(&head, 0);
     if n > buf.len() {
-        return Case::End;
+        return None;
     }
     if read_full(file, &mut buf[..n]) != n {
-        return Case::End;
+        return None;
     }
-    Case::Bytes(n)
+    Some(n)
 }
 
 // Whether a byte from k on is another than the buffer was filled with.
@@ -87,19 +80,17 @@ pub fn write_refusal<W: Write>(to: &mut W, r: Refusal) -> io::Result<()> {
     let t = refusals::number_and_place(r);
     let number = t.number;
     write!(to, "{number}")?;
-    if t.placed {
-        let place = t.place;
-        write!(to, " {place}")
-    } else {
-        to.write_all(b" -")
+    match t.place {
+        Some(place) => write!(to, " {place}"),
+        None => to.write_all(b" -"),
     }
 }
 
 // 0 for accepted.
-pub fn write_verdict<W: Write>(to: &mut W, v: Verdict) -> io::Result<()> {
+pub fn write_verdict<W: Write>(to: &mut W, v: Result<(), Refusal>) -> io::Result<()> {
     match v {
-        Verdict::Accepted => to.write_all(b"0 -"),
-        Verdict::Refused(r) => write_refusal(to, r),
+        Ok(()) => to.write_all(b"0 -"),
+        Err(r) => write_refusal(to, r),
     }
 }
 
@@ -141,13 +132,13 @@ fn write_bytes<W: Write>(to: &mut W, out: &[u8], n: usize) -> io::Result<()> {
 }
 
 // The line of an image that was to be written to the front of a buffer: in hex, or the refusal.
-pub fn write_image<W: Write>(to: &mut W, w: Written, out: &[u8]) -> io::Result<()> {
+pub fn write_image<W: Write>(to: &mut W, w: Result<usize, Refusal>, out: &[u8]) -> io::Result<()> {
     match w {
-        Written::Bytes(n) => {
+        Ok(n) => {
             write_bytes(to, out, n)?;
             end_line(to, out, n)
         }
-        Written::Refused(r) => {
+        Err(r) => {
             write_refusal(to, r)?;
             end_line(to, out, 0)
         }
@@ -155,10 +146,14 @@ pub fn write_image<W: Write>(to: &mut W, w: Written, out: &[u8]) -> io::Result<(
 }
 
 // The line of what is to be refused and to leave the buffer as it came.
-pub fn write_refused<W: Write>(to: &mut W, w: Written, buf: &[u8]) -> io::Result<()> {
+pub fn write_refused<W: Write>(
+    to: &mut W,
+    w: Result<usize, Refusal>,
+    buf: &[u8],
+) -> io::Result<()> {
     match w {
-        Written::Bytes(_) => to.write_all(b"0 -")?,
-        Written::Refused(r) => write_refusal(to, r)?,
+        Ok(_) => to.write_all(b"0 -")?,
+        Err(r) => write_refusal(to, r)?,
     }
     end_line(to, buf, 0)
 }
@@ -217,11 +212,9 @@ fn write_answer<W: Write>(to: &mut W, a: Answer) -> io::Result<()> {
 
 // The line of a fresh record.
 pub fn write_fresh<W: Write>(to: &mut W, fresh: Fresh) -> io::Result<()> {
-    let v = fresh.verdict;
-    write_verdict(to, v)?;
+    write_verdict(to, fresh.verdict)?;
     to.write_all(b",")?;
-    let h = fresh.held;
-    write_held(to, h)
+    write_held(to, fresh.held)
 }
 
 // The line of a call.

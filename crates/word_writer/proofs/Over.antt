@@ -1,13 +1,14 @@
 -- Words laid over a buffer, one after the other.
 use mathlib.Core.Path.{◌≡◌, refl, sym, ap, ◌∙◌}
 use mathlib.Core.List.{List, [], ◌∷◌, ◌++◌, append_assoc}
-use Prim.Native.Nat.{ℕ, suc, ◌+◌, ◌*◌, ◌≤◌, ◌<◌}
+use Prim.Native.Nat.{ℕ, ◌+◌, ◌*◌, ◌-◌, ◌≤◌, ◌<◌}
 use native.Mathlib.Numerals.{add-one}
 use native.Mathlib.Omega.{arith}
+use borrow.Rule.Slice.PartMut.{put_mid, Post-is}
 use lib.ListN.{length, get_or, take, drop, set, length-append}
-use lib.Seq.{sets-eq, take_at, drop-append-add, drop-drop, take-suc, length-take-le}
+use lib.Seq.{take_at, drop-append-add, drop-drop, take-suc, length-take-le}
 use Rattle.model.specs.Basic.{gather}
-use Rattle.model.specs.Image.{bytes_of}
+use Rattle.model.specs.Image.{word_bytes, bytes_of}
 use Rattle.words.proofs.Bytes.{length_bytes}
 use Rattle.word_writer.specs.Over.{over, Wrote}
 
@@ -16,15 +17,12 @@ unfolding bytes_of gather
 bytes_append [] b = refl
 bytes_append (w ∷ a) b = simp (bytes_append a b, append_assoc)
 
--- four stores are one word
-pub one_word : (l : List ℕ) (at a b c d : ℕ) → at * 4 + 4 ≤ length l
-    → set (set (set (set l (at * 4) a) (at * 4 + 1) b) (at * 4 + 2) c) (at * 4 + 3) d ≡ take (at * 4) l ++ (a ∷ b ∷ c ∷ d ∷ drop ((at + 1) * 4) l)
-one_word l at a b c d h =
-    let e1 : at * 4 + 1 ≡ suc (at * 4) = omega arith in
-    let e2 : at * 4 + 2 ≡ suc (suc (at * 4)) = omega arith in
-    let e3 : at * 4 + 3 ≡ suc (suc (suc (at * 4))) = omega arith in
-    let e4 : (at + 1) * 4 ≡ at * 4 + 4 = omega arith in
-    rw (e1, e2, e3, e4) (sets-eq (a ∷ b ∷ c ∷ d ∷ []) l (at * 4) h ∙ append_assoc (take (at * 4) l) (a ∷ b ∷ c ∷ d ∷ []) (drop (at * 4 + 4) l))
+-- four bytes put in place of four others are one word
+pub one_word : (l ys : List ℕ) (at w : ℕ) → at * 4 + 4 ≤ length l → ys ≡ word_bytes w → put_mid (at * 4) (at * 4 + 4 - at * 4) l ys ≡ over at (w ∷ []) l
+unfolding over bytes_of gather
+one_word l ys at w h e =
+    let n : (at + 1) * 4 ≡ at * 4 + 4 = omega arith in
+    rw (e, n) (ap (λ (r : List ℕ). take (at * 4) l ++ (word_bytes w ++ r)) (Post-is (at * 4) (at * 4 + 4) l (omega arith)))
 
 pub nothing_over : (at : ℕ) (old : List ℕ) → old ≡ over at [] old
 unfolding over bytes_of gather

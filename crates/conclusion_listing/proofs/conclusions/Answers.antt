@@ -1,95 +1,40 @@
-use mathlib.Core.Path.{◌≡◌, refl}
-use mathlib.Core.Bool.{true}
-use Prim.Native.Nat.{ℕ, ◌+◌, ◌*◌, ◌≤◌, ◌<◌}
+use mathlib.Core.Path.{◌≡◌, ◌∙◌}
+use Prim.Native.Nat.{◌+◌, ◌-◌, ◌*◌, ◌<◌}
 use native.Mathlib.Omega.{arith}
-use borrow.Author.Rules.{rules}
-use lib.ListN.{length}
-use Rattle.model.specs.Image.{word_at, decode, conclusion_at}
+use Rattle.model.specs.Image.{word_at, decode, conclusion_at, RULES, RULE_TABLE}
 use Rattle.model.specs.Listing.{conclusion_text}
-use Rattle.model.specs.WellFormed.{conclusion_ok}
 use Rattle.laws.proofs.Places.{field}
 use Rattle.layout.proofs.Within.{conclusions_within}
-use Rattle.layout.proofs.Rules.{rules_few, rule_conclusions, conclusion_here}
-use Rattle.listing_writer.proofs.Lists.{commaed_empty, commaed_last, commaed_more, commaed_all}
+use Rattle.layout.proofs.Rules.{rule_conclusions, conclusion_here}
+use Rattle.listing_writer.proofs.Lists.{commaed_from}
 use Rattle.conclusion_listing.proofs.conclusions.Goals as goal
-use Rattle.conclusion_listing.proofs.conclusions.Goals.{After-rule_row-o, After-whole_word-n}
+use Rattle.conclusion_listing.proofs.conclusions.Goals.{After-row-row}
 
--- conclusion j of the rule is one of the block's
-here : (c : After-whole_word-n) (j : ℕ) →
-    let w = word_at c.args.img.now in
-    j < c.whole_word-n.result → conclusion_ok (decode w) (conclusion_at w (c.whole_word-first.result + j)) ≡ true
-here c j l =
-    let w = word_at c.args.img.now in
-    let o = c.rule_row-o.ensures.by_index w c.requires.0.heads in
-    conclusion_here w c.requires.0.sound c.args.i (omega (arith, c.requires.1, c.requires.0.heads.rules)) _ _ _ o c.whole_word-first.ensures.0 c.whole_word-n.ensures.0 j l
+-- where the rule's row starts, and that it is there
+row : (c : After-row-row) →
+    let w = word_at c.args.image.now.stored.bytes.now in
+    (c.row-row.result ≡ w RULE_TABLE + c.args.i * 6) × (c.args.i < w RULES)
+row c =
+    let heads = c.args.image.now.stored.heads in
+    (c.row-row.ensures ∙ (λ i. heads.rules.start i + c.args.i * 6), omega (arith, heads.rules.rows, c.requires))
 
--- the row lies in the image
-within : (c : After-rule_row-o) → (c.rule_row-o.result + 6) * 4 ≤ length c.args.img.now
-within c =
-    let hd = c.requires.0.heads in
-    omega (arith, c.rule_row-o.ensures.by_index (word_at c.args.img.now) hd, hd.rule_table_lem, c.requires.0.holds.rules, c.requires.1)
-
--- its conclusions are among the block's
-among : (c : After-whole_word-n) →
-    c.whole_word-first.result + c.whole_word-n.result ≤ c.args.h.conclusions
-among c =
-    let w = word_at c.args.img.now in
-    let o = c.rule_row-o.ensures.by_index w c.requires.0.heads in
-    let first = field w _ _ 3 _ c.whole_word-first.ensures.0 o in
-    let count = field w _ _ 4 _ c.whole_word-n.ensures.0 o in
-    omega (arith, first, count, conclusions_within w c.requires.0.sound.rules c.args.i (omega (arith, c.requires.1, c.requires.0.heads.rules)), c.requires.0.heads.conclusions)
-
-pub rule_row-o-requires : goal.rule_row-o-requires
-rule_row-o-requires c =
-    let hd = c.requires.0.heads in
-    omega (arith, hd.rule_table_lem, hd.fits 13, hd.rules, c.requires.1, rules_few _ c.requires.0.sound)
-
-pub whole_word-first-requires : goal.whole_word-first-requires
-whole_word-first-requires c = omega (arith, within (goal.at.whole_word-first-requires c).After-rule_row-o)
-
-pub whole_word-n-requires : goal.whole_word-n-requires
-whole_word-n-requires c = omega (arith, within (goal.at.whole_word-n-requires c).After-rule_row-o)
-
-pub returns-then-n-eq0 : goal.returns-then-n-eq0
-returns-then-n-eq0 c =
-    let w = word_at c.args.img.now in
-    let row = c.rule_row-o.ensures.by_index w c.requires.0.heads in
-    let e = rule_conclusions w c.requires.0.sound c.args.i (omega (arith, c.requires.1, c.requires.0.heads.rules)) _ _ _ row c.whole_word-first.ensures.0 c.whole_word-n.ensures.0 in
-    rw (← e) (commaed_empty (conclusion_text (decode w)) (conclusion_at w) _ _ c.if-n-eq0.true)
-
-pub conclusion-p-requires : goal.conclusion-p-requires
-conclusion-p-requires c =
-    (c.requires.0, omega (arith, among (goal.at.conclusion-p-requires c).After-whole_word-n, c.if-n-eq0.false), here (goal.at.conclusion-p-requires c).After-whole_word-n _ (omega (arith, c.if-n-eq0.false)))
-
-pub loop-j-init : goal.loop-j-init
-loop-j-init c = (omega (arith, c.if-n-eq0.false), λ q old w. w, refl)
-
-pub conclusion-p-requires-in-loop-j : goal.conclusion-p-requires-in-loop-j
-conclusion-p-requires-in-loop-j c =
-    (c.requires.0, omega (arith, among (goal.at.conclusion-p-requires-in-loop-j c).After-whole_word-n, c.loop-j.invariant.0), here (goal.at.conclusion-p-requires-in-loop-j c).After-whole_word-n _ (omega (arith, c.loop-j.invariant.0)))
-
-pub loop-j-preserved : goal.loop-j-preserved
-loop-j-preserved c =
-    let w = word_at c.args.img.now in (
-      omega (arith, c.loop-j.invariant.0),
-      λ q old z.
-          commaed_more (conclusion_text (decode w)) (conclusion_at w) c.whole_word-first.result c.whole_word-n.result _ _ _ c.loop-j.j _ _ _
-          (search rules) c.loop-j.invariant.0 (c.loop-j.invariant.1 q old z) c.puts-p.ensures c.conclusion-p-in-loop-j.ensures,
-      omega (arith, c.conclusion-p-in-loop-j.auto.out, c.puts-p.auto.out, c.loop-j.invariant.2),
-    )
-
-pub shape_of-out : goal.shape_of-out
-shape_of-out c =
-    omega (arith, c.loop-j.invariant.2, c.conclusion-p.auto.out)
+pub conclusion-requires : goal.conclusion-requires
+conclusion-requires c =
+    let image = c.args.image.now in
+    let w = word_at image.stored.bytes.now in
+    let (place, rule) = row (goal.at.conclusion-requires c).After-row-row in
+    let first = field w _ _ 3 _ c.word-first.ensures.0 place in
+    let count = field w _ _ 4 _ c.word.ensures.0 place in
+    let within = conclusions_within w image.sound.rules c.args.i rule in
+    let j : c.word-first.result + (c.loop-j.j - 1 - c.word-first.result) ≡ c.loop-j.j - 1 = omega arith in
+    let here = conclusion_here w image.sound c.args.i rule _ _ _ place c.word-first.ensures.0 c.word.ensures.0 (c.loop-j.j - 1 - c.word-first.result) (omega arith) in
+    (omega (arith, first, count, within, image.stored.heads.conclusions.rows), rw j at here)
 
 pub returns : goal.returns
 returns c =
-    let w = word_at c.args.img.now in
-    let f = conclusion_text (decode w) in
-    let g = conclusion_at w in
-    let row = c.rule_row-o.ensures.by_index w c.requires.0.heads in
-    let e = rule_conclusions w c.requires.0.sound c.args.i (omega (arith, c.requires.1, c.requires.0.heads.rules)) _ _ _ row c.whole_word-first.ensures.0 c.whole_word-n.ensures.0 in
-    let from = c.whole_word-first.result in
-    let n = c.whole_word-n.result in
-    let last = commaed_last f g from n _ n _ (omega (arith, c.if-n-eq0.false)) refl c.conclusion-p.ensures in
-    rw (← e) (commaed_all f g from n _ c.loop-j.j _ (omega arith) (c.loop-j.invariant.1 _ _ last))
+    let image = c.args.image.now in
+    let w = word_at image.stored.bytes.now in
+    let (place, rule) = row (goal.at.returns c).After-row-row in
+    let items = rule_conclusions w image.sound c.args.i rule _ _ _ place c.word-first.ensures.0 c.word.ensures.0 in
+    let all = commaed_from (conclusion_text (decode w)) (conclusion_at w) c.word-first.result c.word.result c.loop-j.j (omega arith) in
+    rw (all, items) at c.loop-j.invariant.1

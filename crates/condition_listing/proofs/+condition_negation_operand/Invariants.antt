@@ -1,4 +1,4 @@
-use Rattle.std.proofs.Common.{◌*◌, ◌≤◌, length, ◌≡◌, ◌+◌}
+use Rattle.std.proofs.Common.{◌*◌, ◌≤◌, ◌+◌}
 use Rattle.model.specs.Image.{word_at, decode}
 use Rattle.model.specs.Listing.{input_term_name}
 use Rattle.condition_listing.proofs.Texts as texts
@@ -15,7 +15,8 @@ decreases-operand l = 3 * l.e + 1
 
 abbrev pub invariant-condition-loop-d : goal.invariant-condition-loop-d
 invariant-condition-loop-d l =
-    (l.d ≤ l.e) × texts.Left (word_at l.img) (input_term_name (decode (word_at l.img))) l.e l.k l.initial.out l.d l.q l.out × (length l.out ≡ length l.initial.out)
+    let w = word_at l.image.stored.bytes.now in
+    (l.d ≤ l.e) × texts.Left w (input_term_name (decode w)) l.e l.fn.out l.d l.out
 
 abbrev pub decreases-condition-loop-d : goal.decreases-condition-loop-d
 decreases-condition-loop-d l = l.d

@@ -57,44 +57,44 @@ conjunction-returns t c =
       within = laws.within_then m.within l.invariant.0;
     }
 
-pub operand-returns-then-c-clause-reads_condition : goal.operand-returns-then-c-clause-reads_condition
+pub operand-returns-then-p-ne-NOT-clause-reads_condition : goal.operand-returns-then-p-ne-NOT-clause-reads_condition
 unfolding operandOf
-operand-returns-then-c-clause-reads_condition t c = λ b d. simp (kind_seen, ne_eqb _ _ c.if-c.true) (c.plain.ensures.reads_condition b d)
+operand-returns-then-p-ne-NOT-clause-reads_condition t c = λ b d. simp (kind_seen, ne_eqb _ _ c.if-p-ne-NOT.true) (c.plain.ensures.reads_condition b d)
 
 pub operand-returns : goal.operand-returns
 unfolding operandOf
 operand-returns t c =
     let n = c.count-q.ensures in
     let w = c.plain-r.ensures in
-    let z = c.requires.0.fits.halted (λ k. omega (arith, c.if-c.false)) in
+    let z = c.requires.0.fits.halted (λ k. omega (arith, c.if-p-ne-NOT.false)) in
     record {
-      reads_condition = λ b d. simp (kind_seen, eq-eqb _ _ c.if-c.false, sym (n.words_value b))
+      reads_condition = λ b d. simp (kind_seen, eq-eqb _ _ c.if-p-ne-NOT.false, sym (n.words_value b))
           (laws.from n.counts.put (laws.negates (w.reads_condition b d) c.put.ensures));
       within = laws.turned z n.counts w.within c.put.ensures;
     }
 
-pub plain-returns-then-c-ne-OPEN-clause-reads_condition : goal.plain-returns-then-c-ne-OPEN-clause-reads_condition
+pub plain-returns-then-p-ne-OPEN-clause-reads_condition : goal.plain-returns-then-p-ne-OPEN-clause-reads_condition
 unfolding plain_of
-plain-returns-then-c-ne-OPEN-clause-reads_condition t c = λ b d. simp (kind_seen, ne_eqb _ _ c.if-c-ne-OPEN.true) (c.subcondition.ensures.reads_condition b d)
+plain-returns-then-p-ne-OPEN-clause-reads_condition t c = λ b d. simp (kind_seen, ne_eqb _ _ c.if-p-ne-OPEN.true) (c.subcondition.ensures.reads_condition b d)
 
 pub plain-returns-then-depth-eq0-clause-reads_condition : goal.plain-returns-then-depth-eq0-clause-reads_condition
 unfolding plain_of
 plain-returns-then-depth-eq0-clause-reads_condition t c =
     let g = c.requires.0 in
-    let a = c.refused.ensures.by_index c.args.s.now g.fits in
+    let a = c.refused.ensures.by_index c.args.d.now.text.now g.fits in
     let z = c.refused.ensures.stops in
-    λ b d. simp (kind_seen, eq-eqb _ _ c.if-c-ne-OPEN.false, laws.paren_none _ c.if-depth-eq0.true) (laws.refuses 6 z a refl)
+    λ b d. simp (kind_seen, eq-eqb _ _ c.if-p-ne-OPEN.false, laws.paren_none _ c.if-depth-eq0.true) (laws.refuses 6 z a refl)
 
 pub plain-returns-clause-reads_condition : goal.plain-returns-clause-reads_condition
 unfolding plain_of
 plain-returns-clause-reads_condition t c =
     let p = c.args.p in
-    let a = c.advance-d.ensures.step in
+    let a = c.advance-q.ensures.step in
     let m = c.condition-q.ensures in
     λ b d. simp (
       kind_seen,
-      eq-eqb _ _ c.if-c-ne-OPEN.false,
+      eq-eqb _ _ c.if-p-ne-OPEN.false,
       laws.paren_more _ c.if-depth-eq0.false,
       sym (a.reads b p.words),
     )
-    (laws.closes (laws.from refl (m.reads_condition b d)) c.expect-f.ensures.step)
+    (laws.closes (laws.from refl (m.reads_condition b d)) c.expect-q.ensures.step)

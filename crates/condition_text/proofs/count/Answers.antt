@@ -8,7 +8,7 @@ use Rattle.condition_text.proofs.count.Goals as goal
 
 pub returns-then-p-lt-WORDS : goal.returns-then-p-lt-WORDS
 returns-then-p-lt-WORDS c =
-    let a = c.advance-d.ensures in
+    let a = c.advance.ensures in
     record {
       words_value = (λ b. laws.word_more _ _ _ _ _ c.if-p-lt-WORDS.true a.step);
       counts = record { fewer = a.moves.0; room = record { fits = a.step.fits; put = search rules; words = search rules }; words = λ h. refl; put = refl };

@@ -1,5 +1,5 @@
 use mathlib.Core.Path.{refl}
-use native.Mathlib.Omega.{arith}
+use borrow.Author.Rules.{rules}
 use borrow.Author.Tests.{eq-eqb, ne_eqb, le-leb, lt-leb}
 use Rattle.cursor.specs.View.{fault, name_fault}
 use Rattle.cursor.proofs.Laws as laws
@@ -10,7 +10,7 @@ unfolding fault name_fault
 returns-then-c-ne-NAME c =
     record {
       by_index = (λ s g b n. simp (laws.kind_seen, ne_eqb _ _ c.if-c-ne-NAME.true) refl);
-      kind = (λ h. absurd (omega arith));
+      kind = search rules;
       exact = simp (ne_eqb _ _ c.if-c-ne-NAME.true);
     }
 
@@ -20,7 +20,7 @@ returns-then-c-gt-NAME c =
     record {
       by_index = (λ s g b n. simp (laws.kind_seen, laws.text_seen, laws.text_length s _ g, eq-eqb _ _ c.if-c-ne-NAME.false, lt-leb _ _ c.if-c-gt-NAME.true)
           refl);
-      kind = (λ h. absurd (omega arith));
+      kind = search rules;
       exact = simp (eq-eqb _ _ c.if-c-ne-NAME.false, lt-leb _ _ c.if-c-gt-NAME.true);
     }
 
@@ -30,6 +30,6 @@ returns c =
     record {
       by_index = (λ s g b n. simp (laws.kind_seen, laws.text_seen, laws.text_length s _ g, eq-eqb _ _ c.if-c-ne-NAME.false, le-leb _ _ c.if-c-gt-NAME.false)
           refl);
-      kind = (λ h. c.if-c-ne-NAME.false);
+      kind = search rules;
       exact = simp (eq-eqb _ _ c.if-c-ne-NAME.false, le-leb _ _ c.if-c-gt-NAME.false);
     }

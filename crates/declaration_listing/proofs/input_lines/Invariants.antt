@@ -1,16 +1,9 @@
-use mathlib.Core.Path.{◌≡◌}
-use Prim.Native.Nat.{◌≤◌}
-use lib.ListN.{length}
 use Rattle.model.specs.Basic.{gather}
-use Rattle.model.specs.Image.{word_at, input_at}
+use Rattle.model.specs.Image.{word_at, input_at, INPUTS}
 use Rattle.model.specs.Listing.{input_line}
-use Rattle.listing_writer.specs.Prepends.{Prepends}
+use Rattle.listing_writer.specs.Prepends.{Writes}
 use Rattle.listing_writer.proofs.Lists.{from}
 use Rattle.declaration_listing.proofs.input_lines.Given as goal
 
 abbrev pub invariant-loop-i : goal.invariant-loop-i
-invariant-loop-i l =
-    (l.i ≤ l.h.inputs) × Prepends l.k l.p (gather input_line (from (input_at (word_at l.img)) 0 l.h.inputs l.i)) l.initial.out l.out × (length l.out ≡ length l.initial.out)
-
-abbrev pub decreases-loop-i : goal.decreases-loop-i
-decreases-loop-i l = l.i
+invariant-loop-i l = Writes (gather input_line (from (input_at (word_at l.image.stored.bytes.now)) (word_at l.image.stored.bytes.now INPUTS) l.i)) l.fn.out l.out

@@ -2,19 +2,9 @@ use native.Mathlib.Omega.{arith}
 use Rattle.parse_state.proofs.Beside as beside
 use Rattle.declaration_text.proofs.all_inputs.Goals as goal
 
-pub input_declaration-q-requires : goal.input_declaration-q-requires
-input_declaration-q-requires c = c.requires
-
 pub loop-q-init : goal.loop-q-init
 loop-q-init c =
     beside.begins (beside.ready_after c.requires c.input_declaration-q.ensures.collects)
-
-pub input_declaration-q-requires-in-loop-q : goal.input_declaration-q-requires-in-loop-q
-input_declaration-q-requires-in-loop-q c =
-    beside.gathered c.loop-q.invariant
-
-pub loop-q-smaller : goal.loop-q-smaller
-loop-q-smaller c = c.input_declaration-q-in-loop-q.ensures.moves (λ z. omega (arith, c.loop-q-test.true))
 
 pub loop-q-preserved : goal.loop-q-preserved
 loop-q-preserved c =

@@ -1,51 +1,40 @@
 use mathlib.Core.Path.{sym, ◌∙◌}
-use native.Mathlib.Omega.{arith}
-use Rattle.declaration_text.proofs.Laws as laws
+use Rattle.cursor.proofs.Laws.{never_zero}
+use Rattle.std.proofs.lemmas.Result.{err_from_is_err_and}
+use borrow.Author.Rules.{rules}
 use mathlib.Core.Bool.{true, false}
+use Rattle.lookup.proofs.Names.{taken, free}
+use Rattle.declaration_text.proofs.Laws as laws
 use Rattle.declaration_text.proofs.new_fault.Goals as goal
+use Rattle.declaration_text.proofs.new_fault.Goals.{then-is_some-via-then-is_some, then-is_some-via-else-is_some+then-is_some-2}
 
-pub returns-then-w-ne0 : goal.returns-then-w-ne0
-returns-then-w-ne0 c =
-    record {
-      value = (λ b n d. laws.no_name _ _ _ _ _ b n d _ _ (c.name_fault-w.ensures.by_index _ c.requires.0 b n) c.if-w-ne0.true);
-      passed = λ h. absurd (c.if-w-ne0.true h);
+pub returns-in_err-name_fault : goal.returns-in_err-name_fault
+returns-in_err-name_fault c =
+    let p = err_from_is_err_and c.from_residual.result c.from_residual.ensures.1 in
+    rw (p.1, p.2) record {
+      value = (λ b n d. laws.no_name _ _ _ _ _ b n d _ _ (c.in_err-name_fault.ensures.by_index _ c.requires.0 b n) (never_zero _));
+      passed = search rules;
     }
 
-pub returns-then-find-inputs : goal.returns-then-find-inputs
-returns-then-find-inputs c =
-    let g = c.requires in
-    record {
-      value = (λ b n d. laws.an_input _ _ _ _ _ b n d _ (sym c.if-w-ne0.false ∙ c.name_fault-w.ensures.by_index _ g.0 b n) _
-          (c.find.ensures.value ∙ sym (d.input _)) c.if-find-inputs.true);
-      passed = λ h. absurd (omega arith);
-    }
+pub returns-then-is_some-clause-value : goal.returns-then-is_some-clause-value
+returns-then-is_some-clause-value c = λ b n d.
+    let e = c.in_ok-name_fault.ensures.by_index _ c.requires.0 b n in
+    elim c.then-is_some.branch [
+      | then-is_some-via-then-is_some w ↦
+          laws.an_input _ _ _ _ _ b n d _ e _ (sym (d.input _)) (taken _ _ _ _ _ _ c.find.ensures (sym c.is_some.ensures ∙ w.if-is_some.true))
+      | then-is_some-via-else-is_some+then-is_some-2 w ↦
+          laws.an_output _ _ _ _ _ b n d _ e _ (sym (d.input _)) (free _ _ _ _ _ _ c.find.ensures (sym c.is_some.ensures ∙ w.if-is_some.false))
+          _ (sym (d.output _)) (taken _ _ _ _ _ _ w.find-else-is_some.ensures (sym w.is_some-else-is_some.ensures ∙ w.if-is_some-2.true))
+    ]
 
-pub returns-then-find-outputs : goal.returns-then-find-outputs
-returns-then-find-outputs c =
-    let g = c.requires in
-    record {
-      value = (λ b n d. laws.an_output _ _ _ _ _ b n d _ (sym c.if-w-ne0.false ∙ c.name_fault-w.ensures.by_index _ g.0 b n) _
-          (c.find.ensures.value ∙ sym (d.input _)) c.if-find-inputs.false
-          _ (c.find-2.ensures.value ∙ sym (d.output _)) c.if-find-outputs.true);
-      passed = λ h. absurd (omega arith);
-    }
+pub returns-then-not-room-clause-value : goal.returns-then-not-room-clause-value
+returns-then-not-room-clause-value c = λ b n d.
+    rw c.if-not-room.true (sym (laws.a_new _ _ _ _ _ b n d false (c.in_ok-name_fault.ensures.by_index _ c.requires.0 b n) _
+    (sym (d.input _)) (free _ _ _ _ _ _ c.find.ensures (sym c.is_some.ensures ∙ c.if-is_some.false)) _ (sym (d.output _))
+    (free _ _ _ _ _ _ c.find-else-is_some.ensures (sym c.is_some-else-is_some.ensures ∙ c.if-is_some-2.false))))
 
-pub returns-then-room : goal.returns-then-room
-returns-then-room c =
-    let g = c.requires in
-    record {
-      value = (λ b n d. rw c.if-room.true (sym (laws.a_new _ _ _ _ _ b n d true (sym c.if-w-ne0.false ∙ c.name_fault-w.ensures.by_index _ g.0 b n) _
-          (c.find.ensures.value ∙ sym (d.input _)) c.if-find-inputs.false
-          _ (c.find-2.ensures.value ∙ sym (d.output _)) c.if-find-outputs.false)));
-      passed = λ h. (c.name_fault-w.ensures.kind c.if-w-ne0.false, c.if-room.true);
-    }
-
-pub returns : goal.returns
-returns c =
-    let g = c.requires in
-    record {
-      value = (λ b n d. rw c.if-room.false (sym (laws.a_new _ _ _ _ _ b n d false (sym c.if-w-ne0.false ∙ c.name_fault-w.ensures.by_index _ g.0 b n) _
-          (c.find.ensures.value ∙ sym (d.input _)) c.if-find-inputs.false
-          _ (c.find-2.ensures.value ∙ sym (d.output _)) c.if-find-outputs.false)));
-      passed = λ h. absurd (omega arith);
-    }
+pub returns-clause-value : goal.returns-clause-value
+returns-clause-value c = λ b n d.
+    rw c.if-not-room.false (sym (laws.a_new _ _ _ _ _ b n d true (c.in_ok-name_fault.ensures.by_index _ c.requires.0 b n) _
+    (sym (d.input _)) (free _ _ _ _ _ _ c.find.ensures (sym c.is_some.ensures ∙ c.if-is_some.false)) _ (sym (d.output _))
+    (free _ _ _ _ _ _ c.find-else-is_some.ensures (sym c.is_some-else-is_some.ensures ∙ c.if-is_some-2.false))))

@@ -2,32 +2,14 @@ use native.Mathlib.Omega.{arith}
 use Rattle.parse_state.proofs.Beside as beside
 use Rattle.declaration_text.proofs.outputs.Goals as goal
 
-pub output-q-requires : goal.output-q-requires
-output-q-requires c = c.requires
-
 pub loop-q-init : goal.loop-q-init
 loop-q-init c =
     beside.begins (beside.ready_after c.requires c.output-q.ensures.collects)
 
-pub advance-d-requires : goal.advance-d-requires
-advance-d-requires c =
-    ((beside.gathered c.loop-q.invariant).good.fits, λ z. omega (arith, c.loop-q-test.true))
-
-pub output-q-requires-in-loop-q : goal.output-q-requires-in-loop-q
-output-q-requires-in-loop-q c =
-    let r = beside.gathered c.loop-q.invariant in
-    record { tables = r.tables; good = record { fits = c.advance-d.ensures.step.fits; holds = r.good.holds } }
-
-pub loop-q-smaller : goal.loop-q-smaller
-loop-q-smaller c =
-    let r = beside.gathered c.loop-q.invariant in
-    let d = c.advance-d.ensures in
-    omega (arith, (c.output-q-in-loop-q.ensures.collects r.tables (record { fits = d.step.fits; holds = r.good.holds })).fewer, d.moves.0)
-
 pub loop-q-preserved : goal.loop-q-preserved
 loop-q-preserved c =
-    let d = c.advance-d.ensures in
-    beside.list_goes c.loop-q.invariant c.advance-d.result (λ t. c.loop-q-test.true) (λ t. d.step) (λ t. d.moves.0) c.output-q-in-loop-q.ensures.collects
+    let d = c.advance-q.ensures in
+    beside.list_goes c.loop-q.invariant c.advance-q.result (λ t. c.loop-q-test.true) (λ t. d.step) (λ t. d.moves.0) c.output-q-in-loop-q.ensures.collects
 
 pub returns : goal.returns
 returns c =

@@ -1,67 +1,36 @@
+use mathlib.Core.Path.{◌≡◌, ◌∙◌}
+use Prim.Native.Nat.{◌+◌, ◌*◌}
 use native.Mathlib.Omega.{arith}
-use mathlib.Core.Path.{◌≡◌, ap, ◌∙◌}
-use Prim.Native.Nat.{ℕ, ◌+◌, ◌*◌, ◌≤◌}
-use lib.ListN.{length}
 use Rattle.model.specs.Image.{word_at, output_place, output_at}
 use Rattle.model.specs.Listing.{defuzzify_text}
+use Rattle.laws.proofs.Places.{field}
 use Rattle.layout.specs.Tables.{output_count}
 use Rattle.layout.proofs.Within.{output_terms_within}
 use Rattle.listing_writer.proofs.Prepends.{joined}
 use Rattle.defuzzify_listing.proofs.defuzzify_part.Goals as goal
-use Rattle.defuzzify_listing.proofs.defuzzify_part.Goals.{After-output_row-row, After-whole_word-n}
+use Rattle.defuzzify_listing.proofs.defuzzify_part.Goals.{After-word-n}
 
 -- the words of the output's row that were read
-reads_are : (c : After-whole_word-n) →
-    let w = word_at c.args.img.now in
-    (c.whole_word-first.result ≡ w (output_place w c.args.i + 4)) × (c.whole_word-n.result ≡ output_count w c.args.i)
+reads_are : (c : After-word-n) →
+    let w = word_at c.args.image.now.stored.bytes.now in
+    (c.row-row.result ≡ output_place w c.args.i) × (c.word-first.result ≡ w (output_place w c.args.i + 4)) × (c.word-n.result ≡ output_count w c.args.i)
 reads_are c =
-    let w = word_at c.args.img.now in
-    let e = c.output_row-row.ensures.by_index w c.requires.0.heads in
-    (c.whole_word-first.ensures.0 ∙ ap (λ (o : ℕ). w (o + 4)) e, c.whole_word-n.ensures.0 ∙ ap (λ (o : ℕ). w (o + 5)) e)
+    let w = word_at c.args.image.now.stored.bytes.now in
+    let place = c.row-row.ensures ∙ (λ j. c.args.image.now.stored.heads.outputs.start j + c.args.i * 11) in
+    (place, field w _ _ 4 _ c.word-first.ensures.0 place, field w _ _ 5 _ c.word-n.ensures.0 place)
 
--- the row lies in the image
-within : (c : After-output_row-row) → (c.output_row-row.result + 11) * 4 ≤ length c.args.img.now
-within c =
-    let h = c.requires.0.heads in
-    omega (arith, c.output_row-row.ensures.by_index (word_at c.args.img.now) h, h.output_table_lem, c.requires.0.holds.outputs, c.requires.1)
-
-pub output_row-row-requires : goal.output_row-row-requires
-output_row-row-requires c =
-    let h = c.requires.0.heads in
-    omega (arith, h.output_table_lem, h.fits 10, h.outputs, h.fits 3, c.requires.1)
-
-pub whole_word-first-requires : goal.whole_word-first-requires
-whole_word-first-requires c = omega (arith, within (goal.at.whole_word-first-requires c).After-output_row-row)
-
-pub whole_word-n-requires : goal.whole_word-n-requires
-whole_word-n-requires c = omega (arith, within (goal.at.whole_word-n-requires c).After-output_row-row)
-
-pub singletons-d-requires : goal.singletons-d-requires
-singletons-d-requires c =
-    let h = c.requires.0.heads in
-    let q = reads_are (goal.at.singletons-d-requires c).After-whole_word-n in
-    let r = output_terms_within (word_at c.args.img.now) c.requires.0.sound.frame c.args.i (omega (arith, h.outputs, c.requires.1)) in
-    (c.requires.0, omega (arith, q.0, r.0), omega (arith, q.0, q.1, h.terms, r.1))
-
-pub name-g-requires : goal.name-g-requires
-name-g-requires c =
-    omega (arith, c.output_row-row.ensures.small)
-
-pub shape_of-out : goal.shape_of-out
-shape_of-out c =
-    let a = c.puts.auto.out in
-    let b = c.name-g.auto.out in
-    let e = c.puts-f.auto.out in
-    let f = c.range_line-e.auto.out in
-    omega (arith, a, b, e, f, c.singletons-d.auto.out, c.puts-c.auto.out, c.default_value-b.auto.out, c.puts-a.auto.out)
+pub singletons-requires : goal.singletons-requires
+singletons-requires c =
+    let image = c.args.image.now in
+    let heads = image.stored.heads in
+    let (place, first, count) = reads_are (goal.at.singletons-requires c).After-word-n in
+    let terms = output_terms_within (word_at image.stored.bytes.now) image.sound.frame c.args.i (omega (arith, heads.outputs.rows, c.requires)) in
+    (omega (arith, first, terms.0), omega (arith, first, count, heads.terms.rows, terms.1))
 
 pub returns : goal.returns
 unfolding defuzzify_text output_at
 returns c =
-    let w = word_at c.args.img.now in
-    let e = c.output_row-row.ensures.by_index w c.requires.0.heads in
-    let r = reads_are (goal.at.returns c).After-whole_word-n in
-    let below = joined (joined c.puts-a.ensures c.default_value-b.ensures) c.puts-c.ensures in
-    let terms = rw (r.0, r.1) at c.singletons-d.ensures in
-    let body = joined (joined below terms) c.range_line-e.ensures in
-    joined (joined (joined body c.puts-f.ensures) (rw e at c.name-g.ensures)) c.puts.ensures
+    let (place, first, count) = reads_are (goal.at.returns c).After-word-n in
+    let below = joined (joined c.puts.ensures (rw c.default_of.ensures at c.default_value.ensures)) c.puts-2.ensures in
+    let body = joined (joined below (rw (first, count) at c.singletons.ensures)) (rw c.range_of.ensures at c.range_line.ensures) in
+    joined (joined (joined body c.puts-3.ensures) (rw place at c.name.ensures)) c.puts-4.ensures

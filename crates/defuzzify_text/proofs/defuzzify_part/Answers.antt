@@ -3,19 +3,11 @@ use Rattle.parse_state.proofs.Laws as reading
 use Rattle.model.specs.Declarations.{defuzzify}
 use Rattle.defuzzify_text.proofs.defuzzify_part.Goals as goal
 
-pub expect-d-requires : goal.expect-d-requires
-expect-d-requires c = (c.requires.good.fits, omega arith)
-
-pub defuzzify_named-requires : goal.defuzzify_named-requires
-defuzzify_named-requires c =
-    let r = c.requires in
-    record { tables = r.tables; good = record { fits = c.expect-d.ensures.step.fits; holds = r.good.holds } }
-
 pub returns : goal.returns
 unfolding defuzzify
 returns c =
     let r = c.requires in
-    let d = c.expect-d.ensures in
+    let d = c.expect-q.ensures in
     let x = c.defuzzify_named.ensures in
     record {
       collects = λ t g. reading.next (reading.step _ g.holds d.step) (x.collects t (record { fits = d.step.fits; holds = g.holds }));

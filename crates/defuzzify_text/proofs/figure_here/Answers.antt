@@ -1,36 +1,23 @@
-use mathlib.Core.Path.{sym, ◌∙◌}
-use native.Mathlib.Omega.{arith}
-use Rattle.number_tokens.proofs.Laws.{value_here}
-use Rattle.defuzzify_text.proofs.Laws as laws
+use Rattle.std.specs.Prelude.{Err}
+use mathlib.Core.Path.{◌≡◌, sym, ◌∙◌}
 use mathlib.Core.Bool.{true, false}
+use borrow.Author.Rules.{rules}
+use Rattle.cursor.proofs.Laws.{never_zero}
+use Rattle.defuzzify_text.proofs.Laws as laws
 use Rattle.defuzzify_text.proofs.figure_here.Goals as goal
 
-pub crisp_here-w-requires : goal.crisp_here-w-requires
-crisp_here-w-requires c = c.requires
+pub returns-in_err-x-clause-checked : goal.returns-in_err-x-clause-checked
+returns-in_err-x-clause-checked c = λ b n.
+    let why = c.in_err-x.ensures in
+    let e : c.from_residual.result ≡ Err c.in_err-x.field-0.0 = search rules in
+    rw e (sym (laws.crisp_bad _ _ _ (why.checked b n) (never_zero _)))
 
-pub returns-then-w-ne0 : goal.returns-then-w-ne0
-returns-then-w-ne0 c = let e = c.crisp_here-w.ensures in
-    record {
-      fault_value = (λ b n. sym (laws.crisp_bad _ _ _ (e.fault_value b n) c.if-w-ne0.true));
-      value = λ h. absurd (c.if-w-ne0.true h);
-    }
+pub returns-then-inside-clause-checked : goal.returns-then-inside-clause-checked
+returns-then-inside-clause-checked c = λ b n.
+    let x = c.in_ok-x.ensures in
+    sym (laws.figure_judged c.args.s.now c.args.c b n c.args.v _ true (x.checked b n) x.value.1 (sym c.inside.ensures ∙ c.if-inside.true))
 
-pub returns-then-inside : goal.returns-then-inside
-returns-then-inside c =
-    let e = c.crisp_here-w.ensures in
-    let z = c.if-w-ne0.false in
-    record {
-      fault_value = (λ b n. z ∙ sym (laws.figure_judged c.args.s.now c.args.c b n c.args.v _ true (sym z ∙ e.fault_value b n) (value_here _ _ _ _ e.value z)
-          (sym c.inside.ensures ∙ c.if-inside.true)));
-      value = λ h. (e.kind z, value_here _ _ _ _ e.value z);
-    }
-
-pub returns : goal.returns
-returns c =
-    let e = c.crisp_here-w.ensures in
-    let z = c.if-w-ne0.false in
-    record {
-      fault_value = (λ b n. sym (laws.figure_judged c.args.s.now c.args.c b n c.args.v _ false (sym z ∙ e.fault_value b n) (value_here _ _ _ _ e.value z)
-          (sym c.inside.ensures ∙ c.if-inside.false)));
-      value = λ h. absurd (omega arith);
-    }
+pub returns-else-inside-clause-checked : goal.returns-else-inside-clause-checked
+returns-else-inside-clause-checked c = λ b n.
+    let x = c.in_ok-x.ensures in
+    sym (laws.figure_judged c.args.s.now c.args.c b n c.args.v _ false (x.checked b n) x.value.1 (sym c.inside.ensures ∙ c.if-inside.false))

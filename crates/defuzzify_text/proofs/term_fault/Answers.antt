@@ -1,34 +1,27 @@
-use mathlib.Core.Path.{sym, ◌∙◌}
-use native.Mathlib.Omega.{arith}
-use Rattle.defuzzify_text.proofs.Laws as laws
+use mathlib.Core.Path.{refl, sym, ◌∙◌}
 use mathlib.Core.Bool.{true, false}
 use borrow.Author.Tests.{lt-ltb, le-ltb}
+use Rattle.lookup.proofs.Names.{taken, free}
+use Rattle.std.proofs.lemmas.Result.{err_from_is_err_and}
+use borrow.Author.Rules.{rules}
+use Rattle.cursor.proofs.Laws.{never_zero}
+use Rattle.defuzzify_text.proofs.Laws as laws
 use Rattle.defuzzify_text.proofs.term_fault.Goals as goal
 
-pub name_fault-w-requires : goal.name_fault-w-requires
-name_fault-w-requires c = c.requires.0.order
-
-pub returns-then-w-ne0 : goal.returns-then-w-ne0
-returns-then-w-ne0 c =
-    record {
-      value = (λ b n h. laws.term_none _ _ _ _ _ b n h _ (c.name_fault-w.ensures.by_index _ c.requires.0 b n) c.if-w-ne0.true);
-      kind = λ h. absurd (c.if-w-ne0.true h);
+pub returns-in_err-name_fault : goal.returns-in_err-name_fault
+returns-in_err-name_fault c =
+    let p = err_from_is_err_and c.from_residual.result c.from_residual.ensures.1 in
+    rw (p.1, p.2) record {
+      value = λ b n h. laws.term_none _ _ _ _ _ b n h _ (c.in_err-name_fault.ensures.by_index _ c.requires.0 b n) (never_zero _);
+      kind = search rules;
     }
 
-pub returns-then-find-terms : goal.returns-then-find-terms
-returns-then-find-terms c =
-    record {
-      value = (λ b n h. sym (laws.term_judged c.args.s.now _ c.args.c _ _ b n h _ true
-          (sym c.if-w-ne0.false ∙ c.name_fault-w.ensures.by_index _ c.requires.0 b n) (laws.found_at _ _ _ _ _ _ b h c.find.ensures.value)
-          (lt-ltb _ _ c.if-find-terms.true)));
-      kind = λ h. absurd (omega arith);
-    }
+pub returns-then-is_some-clause-value : goal.returns-then-is_some-clause-value
+returns-then-is_some-clause-value c = λ b n h.
+    sym (laws.term_judged c.args.s.now _ c.args.c _ _ b n h _ true (c.in_ok-name_fault.ensures.by_index _ c.requires.0 b n)
+    (laws.found_at _ _ _ _ _ _ b h refl) (lt-ltb _ _ (taken _ _ _ _ _ _ c.find.ensures (sym c.is_some.ensures ∙ c.if-is_some.true))))
 
-pub returns : goal.returns
-returns c =
-    record {
-      value = (λ b n h. sym (laws.term_judged c.args.s.now _ c.args.c _ _ b n h _ false
-          (sym c.if-w-ne0.false ∙ c.name_fault-w.ensures.by_index _ c.requires.0 b n) (laws.found_at _ _ _ _ _ _ b h c.find.ensures.value)
-          (le-ltb _ _ c.if-find-terms.false)));
-      kind = λ h. c.name_fault-w.ensures.kind c.if-w-ne0.false;
-    }
+pub returns-clause-value : goal.returns-clause-value
+returns-clause-value c = λ b n h.
+    sym (laws.term_judged c.args.s.now _ c.args.c _ _ b n h _ false (c.in_ok-name_fault.ensures.by_index _ c.requires.0 b n)
+    (laws.found_at _ _ _ _ _ _ b h refl) (le-ltb _ _ (free _ _ _ _ _ _ c.find.ensures (sym c.is_some.ensures ∙ c.if-is_some.false))))

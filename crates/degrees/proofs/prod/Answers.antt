@@ -19,14 +19,18 @@ returns-then-b-eq-ONE c = (rw c.if-b-eq-ONE.true (by_one c.args.a.0), c.requires
 pub returns-then-a-eq-ONE : goal.returns-then-a-eq-ONE
 returns-then-a-eq-ONE c = (rw c.if-a-eq-ONE.true (one_by c.args.b.0), c.requires.1)
 
-pub overflow_mul-x : goal.overflow_mul-x
-overflow_mul-x c = omega (arith, prod_fits c.args.a.0 c.args.b.0 c.requires.0 c.requires.1)
+pub overflow_mul-product : goal.overflow_mul-product
+overflow_mul-product c = rw (c.from.ensures, c.from-2.ensures) (omega (arith, prod_fits c.args.a.0 c.args.b.0 c.requires.0 c.requires.1))
 
-pub nearest_quotient-r-requires : goal.nearest_quotient-r-requires
-nearest_quotient-r-requires c = omega (arith, prod_fits c.args.a.0 c.args.b.0 c.requires.0 c.requires.1)
+pub nearest_quotient-requires : goal.nearest_quotient-requires
+nearest_quotient-requires c = rw (c.from.ensures, c.from-2.ensures) (omega (arith, prod_fits c.args.a.0 c.args.b.0 c.requires.0 c.requires.1))
 
-pub overflow_cast-r : goal.overflow_cast-r
-overflow_cast-r c = omega (arith, prod_fits c.args.a.0 c.args.b.0 c.requires.0 c.requires.1)
+pub overflow_cast-result : goal.overflow_cast-result
+overflow_cast-result c =
+    let e = rw (c.from.ensures, c.from-2.ensures) at c.nearest_quotient.ensures in
+    omega (arith, e, prod_fits c.args.a.0 c.args.b.0 c.requires.0 c.requires.1)
 
 pub returns : goal.returns
-returns c = omega (arith, prod_fits c.args.a.0 c.args.b.0 c.requires.0 c.requires.1)
+returns c =
+    let e = rw (c.from.ensures, c.from-2.ensures) at c.nearest_quotient.ensures in
+    omega (arith, e, prod_fits c.args.a.0 c.args.b.0 c.requires.0 c.requires.1)

@@ -1,4 +1,3 @@
-use borrow.Author.Rules.{rules}
 use mathlib.Core.Path.{◌≡◌, refl, sym, ap, ◌∙◌}
 use mathlib.Core.List.{List, [], ◌∷◌, ◌++◌, map, map-append}
 use Prim.Native.Nat.{ℕ, ◌+◌, ◌<◌}
@@ -18,28 +17,17 @@ one_more ps k p h = rw add-one (ap (map point_view) (take-suc-set ps k p h) ∙ 
 
 pub loop-k-init : goal.loop-k-init
 unfolding tab
-loop-k-init c = (search rules, refl, refl)
-
-pub point_at-requires : goal.point_at-requires
-point_at-requires c = (c.requires.0.heads, c.requires.0.holds, omega (arith, c.requires.1))
+loop-k-init c = (refl, refl)
 
 pub loop-k-preserved : goal.loop-k-preserved
 unfolding tab
 loop-k-preserved c =
     let l = c.loop-k in
     let a = c.args in
-    let f = point_at (word_at a.img.now) in
+    let f = point_at (word_at a.image.now.bytes.now) in
     let p = c.point_at in (
-      search rules,
-      length-set l.ps l.k p.result ∙ l.invariant.1,
-      one_more l.ps l.k p.result (omega (arith, l.invariant.1))
-          ∙ (λ j. l.invariant.2 j ++ (p.ensures j ∷ []))
+      length-set l.ps l.k p.result ∙ l.invariant.0,
+      one_more l.ps l.k p.result (omega (arith, l.invariant.0))
+          ∙ (λ j. l.invariant.1 j ++ (p.ensures j ∷ []))
           ∙ sym (tab_append f l.k 1 a.first),
     )
-
-pub returns : goal.returns
-returns c =
-    let l = c.loop-k in
-    let a = c.args in
-    let e : l.k ≡ a.n = omega arith in
-    rw e at l.invariant.2

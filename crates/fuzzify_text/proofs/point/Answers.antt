@@ -1,5 +1,4 @@
-use mathlib.Core.Path.{sym}
-use mathlib.Core.Bool.{true≢false}
+use borrow.Author.Rules.{rules}
 use Rattle.fuzzify_text.proofs.Laws as laws
 use Rattle.fuzzify_text.proofs.point.Goals as goal
 
@@ -8,9 +7,9 @@ returns-then-c-ne-OPEN c =
     let a = c.args in
     let g = c.requires in
     record {
-      reads_point = laws.point_none a.s.now a.c c.refuse-d.result a.n a.last _ c.if-c-ne-OPEN.true (c.refuse-d.ensures.by_index _ g)
-          c.refuse-d.ensures.halted;
-      few = λ z. absurd (true≢false (sym z));
+      reads_point = laws.point_none a.s.now a.c c.refuse.result a.n a.last c.if-c-ne-OPEN.true (c.refuse.ensures.by_index _ g)
+          c.refuse.ensures.halted;
+      few = search rules;
     }
 
 pub returns-then-n-ge-POINTS : goal.returns-then-n-ge-POINTS
@@ -18,9 +17,9 @@ returns-then-n-ge-POINTS c =
     let a = c.args in
     let g = c.requires in
     record {
-      reads_point = laws.point_full a.s.now a.c c.refuse-d-then-n-ge-POINTS.result a.n a.last c.if-c-ne-OPEN.false _ c.if-n-ge-POINTS.true
-          (c.refuse-d-then-n-ge-POINTS.ensures.by_index _ g) c.refuse-d-then-n-ge-POINTS.ensures.halted;
-      few = λ z. absurd (true≢false (sym z));
+      reads_point = laws.point_full a.s.now a.c c.refuse-then-n-ge-POINTS.result a.n a.last c.if-c-ne-OPEN.false c.if-n-ge-POINTS.true
+          (c.refuse-then-n-ge-POINTS.ensures.by_index _ g) c.refuse-then-n-ge-POINTS.ensures.halted;
+      few = search rules;
     }
 
 pub returns : goal.returns
@@ -31,5 +30,5 @@ returns c =
     record {
       reads_point = laws.point_good a.s.now a.c d.result a.n a.last c.if-c-ne-OPEN.false c.point_from.result l d.ensures.step
           c.point_from.ensures;
-      few = λ z. l;
+      few = search rules;
     }

@@ -10,8 +10,8 @@ use Rattle.fuzzify_text.proofs.points.Given as goal
 abbrev pub shape : Cursor → ℕ → List Point → Shape
 shape c n ps = record { cursor = c; count = n; points = ps }
 
-abbrev pub invariant-loop-last : goal.invariant-loop-last
-invariant-loop-last l = laws.Going l.s (shape l.initial.d l.initial.n l.initial.ps) (shape l.d l.n l.ps) l.last
+abbrev pub invariant-loop-q : goal.invariant-loop-q
+invariant-loop-q l = laws.Going l.s (shape l.initial.d l.initial.n l.initial.points) (shape l.d l.n l.points) l.last
 
-abbrev pub decreases-loop-last : goal.decreases-loop-last
-decreases-loop-last l = left l.s l.d
+abbrev pub decreases-loop-q : goal.decreases-loop-q
+decreases-loop-q l = left l.s l.d

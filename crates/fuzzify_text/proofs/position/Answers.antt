@@ -1,51 +1,25 @@
-use mathlib.Core.Path.{sym, ap, ◌∙◌}
-use native.Mathlib.Omega.{arith}
-use lib.IntN.{ℤ, pos}
-use Rattle.model.specs.Tokens.{value_of}
-use Rattle.cursor.specs.View.{text_of}
+use mathlib.Core.Path.{◌≡◌, sym, ap, ◌∙◌}
+use lib.IntN.{ℤ}
 use Rattle.term_rules.specs.Positions.{may_stand}
-use Rattle.number_tokens.proofs.Laws.{value_here}
+use Rattle.cursor.proofs.Laws.{never_zero}
 use Rattle.fuzzify_text.proofs.Laws as laws
 use Rattle.fuzzify_text.proofs.position.Goals as goal
 
-pub returns-then-w-ne0 : goal.returns-then-w-ne0
-returns-then-w-ne0 c =
+pub returns-in-Err-clause-step : goal.returns-in-Err-clause-step
+returns-in-Err-clause-step c =
     let a = c.args in
-    let g = c.requires in
-    record {
-      step = laws.position_none a.s.now a.c c.refuse-d.result a.n a.last _ c.crisp_here-w.ensures.fault_value c.if-w-ne0.true
-          (c.refuse-d.ensures.by_index _ g);
-      value = λ z. absurd (c.refuse-d.ensures.halted z);
-    }
+    laws.position_none a.s.now a.c c.refuse.result a.n a.last _ c.in-Err.ensures.checked (never_zero c.in-Err.fault) (c.refuse.ensures.by_index _ c.requires)
 
-pub advance-d-requires : goal.advance-d-requires
-advance-d-requires c =
-    (c.requires, λ z. omega (arith, c.crisp_here-w.ensures.kind c.if-w-ne0.false))
-
-pub returns-then-may_stand : goal.returns-then-may_stand
-returns-then-may_stand c =
+pub returns-in-Ok-clause-step : goal.returns-in-Ok-clause-step
+returns-in-Ok-clause-step c =
     let a = c.args in
-    let g = c.requires in
-    let z = c.if-w-ne0.false in
-    let v = value_here c.crisp_here-w.result.fault c.crisp_here-w.result.value.0 (value_of (text_of a.s.now a.c)) (pos 0)
-    c.crisp_here-w.ensures.value z in
-    record {
-      step = laws.position_good a.s.now a.c c.advance-d.result a.n a.last (λ b m. sym z ∙ c.crisp_here-w.ensures.fault_value b m)
-          (ap (λ (x : ℤ). may_stand a.n a.last x) (sym v) ∙ sym c.may_stand.ensures ∙ c.if-may_stand.true)
-          c.advance-d.ensures.step;
-      value = λ q. v;
-    }
+    laws.position_good a.s.now a.c c.advance.result a.n a.last c.in-Ok.ensures.checked
+    (ap (λ (x : ℤ). may_stand a.n a.last x) (sym c.in-Ok.ensures.value.1) ∙ sym c.may_stand.ensures ∙ c.if-may_stand.true) c.advance.ensures.step
 
-pub returns : goal.returns
-returns c =
+pub returns-in-Ok-2-clause-step : goal.returns-in-Ok-2-clause-step
+returns-in-Ok-2-clause-step c =
     let a = c.args in
-    let g = c.requires in
-    let z = c.if-w-ne0.false in
-    let v = value_here c.crisp_here-w.result.fault c.crisp_here-w.result.value.0 (value_of (text_of a.s.now a.c)) (pos 0)
-    c.crisp_here-w.ensures.value z in
-    record {
-      step = laws.position_low a.s.now a.c c.refuse-d-2.result a.n a.last (λ b m. sym z ∙ c.crisp_here-w.ensures.fault_value b m)
-          (ap (λ (x : ℤ). may_stand a.n a.last x) (sym v) ∙ sym c.may_stand.ensures ∙ c.if-may_stand.false)
-          (c.refuse-d-2.ensures.by_index _ g);
-      value = λ q. v;
-    }
+    let e : c.in-Ok.value ≡ c.in-Ok-2.field-0 = cc in
+    laws.position_low a.s.now a.c c.refuse-in-Ok-2.result a.n a.last c.in-Ok-2.ensures.checked
+    (ap (λ (x : ℤ). may_stand a.n a.last x) (sym c.in-Ok-2.ensures.value.1) ∙ (rw e at (sym c.may_stand.ensures)) ∙ c.if-may_stand.false)
+    (c.refuse-in-Ok-2.ensures.by_index _ c.requires)

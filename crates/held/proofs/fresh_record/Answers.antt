@@ -1,4 +1,3 @@
-use borrow.Author.Rules.{rules}
 use mathlib.Core.Path.{◌≡◌, refl, sym, ap, ◌∙◌}
 use mathlib.Core.List.{List, ◌++◌}
 use Prim.Native.Nat.{ℕ, ◌-◌, ◌<◌}
@@ -15,33 +14,34 @@ use Rattle.laws.proofs.Places.{fill_front}
 use Rattle.layout.proofs.Sound.{outputs_few}
 use Rattle.held.proofs.Laws.{held_tab}
 use Rattle.held.proofs.fresh_record.Goals as goal
+use Rattle.held.proofs.fresh_record.Goals.{After-start_of}
+
+few : (c : After-start_of) → c.loop-i.i < output_limit
+few c =
+    let image = c.args.image.now in
+    omega (arith, outputs_few (word_at image.stored.bytes.now) image.sound, image.stored.heads.outputs.rows)
 
 pub loop-i-init : goal.loop-i-init
 unfolding tab
-loop-i-init c =
-    (search rules, omega (arith, outputs_few (word_at c.args.img.now) c.requires.sound, c.requires.heads.outputs), refl)
+loop-i-init c = refl
 
-pub start_of-x-requires : goal.start_of-x-requires
-start_of-x-requires c = (c.requires, search rules)
+pub bounds-figures-i : goal.bounds-figures-i
+bounds-figures-i c = few c
 
 pub loop-i-preserved : goal.loop-i-preserved
 loop-i-preserved c =
-    let f : ℕ → ℤ = λ j. start_of (output_at (word_at c.args.img.now) j).range in
-    let x = c.start_of-x.result in
+    let f : ℕ → ℤ = λ j. start_of (output_at (word_at c.args.image.now.stored.bytes.now) j).range in
+    let x = c.start_of.result in
     let i = c.loop-i.i in
-    let h : i < output_limit = omega (arith, c.loop-i.invariant.1) in (
-      search rules,
-      c.loop-i.invariant.1,
-      ap (λ (cs : List Crisp). set cs i x) c.loop-i.invariant.2
-          ∙ fill_front (λ j. record { 0 = f j }) (record { 0 = pos 0 }) x output_limit i h (ap (λ (z : ℤ). record { 0 = z }) c.start_of-x.ensures),
-    )
+    ap (λ (cs : List Crisp). set cs i x) c.loop-i.invariant
+    ∙ fill_front (λ j. record { 0 = f j }) (record { 0 = pos 0 }) x output_limit i (few c) (ap (λ (z : ℤ). record { 0 = z }) (c.start_of.ensures ∙ ap start_of c.range_of.ensures))
 
 pub returns : goal.returns
 unfolding fresh_of decode
 returns c =
-    let w = word_at c.args.img.now in
+    let w = word_at c.args.image.now.stored.bytes.now in
     let f : ℕ → ℤ = λ j. start_of (output_at w j).range in
-    let e : c.loop-i.i ≡ w OUTPUTS = omega (arith, c.requires.heads.outputs) in
+    let e : c.loop-i.i ≡ w OUTPUTS = omega (arith, c.args.image.now.stored.heads.outputs.rows) in
     ap (λ (x : List Crisp). record { figures = x })
-    (c.loop-i.invariant.2 ∙ ap (λ (n : ℕ). tab (λ j. record { 0 = f j }) n 0 ++ replicate (output_limit - n) (record { 0 = pos 0 })) e ∙ held_tab f (w OUTPUTS))
+    (c.loop-i.invariant ∙ ap (λ (n : ℕ). tab (λ j. record { 0 = f j }) n 0 ++ replicate (output_limit - n) (record { 0 = pos 0 })) e ∙ held_tab f (w OUTPUTS))
     ∙ ap held_of (sym (map_tab (λ v. start_of v.range) (output_at w) (w OUTPUTS) 0))

@@ -1,6 +1,6 @@
 use mathlib.Core.Path.{◌≡◌}
 use mathlib.Core.List.{◌++◌}
-use Prim.Native.Nat.{◌-◌, ◌≤◌}
+use Prim.Native.Nat.{◌-◌}
 use lib.IntN.{pos}
 use lib.ListN.{replicate}
 use Rattle.model.specs.Basic.{tab}
@@ -11,8 +11,4 @@ use Rattle.held.proofs.fresh_record.Given as goal
 
 abbrev pub invariant-loop-i : goal.invariant-loop-i
 invariant-loop-i l =
-    (l.i ≤ l.n) × (l.n ≤ output_limit)
-    × (l.figures ≡ tab (λ j. record { 0 = start_of (output_at (word_at l.img) j).range }) l.i 0 ++ replicate (output_limit - l.i) (record { 0 = pos 0 }))
-
-abbrev pub decreases-loop-i : goal.decreases-loop-i
-decreases-loop-i l = l.n - l.i
+    l.figures ≡ tab (λ j. record { 0 = start_of (output_at (word_at l.image.stored.bytes.now) j).range }) l.i 0 ++ replicate (output_limit - l.i) (record { 0 = pos 0 })

@@ -10,4 +10,4 @@ pub returns : goal.returns
 unfolding head_words end_of offsets
 returns c =
     let one = c.layout_word-layout.ensures in
-    simp (one, mul-one)
+    simp (one, mul-one, c.pair_word.ensures, c.accu_word.ensures, c.act_word.ensures)

@@ -1,5 +1,4 @@
 use mathlib.Core.Path.{sym}
-use borrow.Author.Rules.{rules}
 use Rattle.keywords.proofs.Laws.{no_slot}
 use Rattle.keywords.proofs.no_row.Goals as goal
 

@@ -1,6 +1,6 @@
-use borrow.Author.Rules.{rules}
+use native.Mathlib.Omega.{arith}
 use Rattle.keywords.proofs.Laws.{text_of_3}
 use Rattle.keywords.proofs.of_three.Goals as goal
 
 pub in_slot-requires : goal.in_slot-requires
-in_slot-requires c = let p = c.requires in (p.0, text_of_3 _ p.1)
+in_slot-requires c = let p = c.requires in (p.0, omega arith, text_of_3 _ p.1)

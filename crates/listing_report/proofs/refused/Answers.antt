@@ -1,43 +1,52 @@
-use Rattle.std.proofs.Common.{rules, sym, ap, ◌∙◌, arith, drop, ◌++◌}
+use Rattle.std.proofs.Common.{◌≡◌, sym, ap, ◌∙◌, arith, List, ℕ, length, drop, ◌++◌, ◌≤◌, ◌-◌}
 use lib.Seq.{length-take-le}
+use Rattle.model.specs.Printed.{refused_line}
 use Rattle.refusals.specs.Told.{place_of}
-use Rattle.listing_writer.proofs.Prepends.{counted, copied}
-use Rattle.listing_report.proofs.Sizes.{end_length, whole_end}
+use Rattle.listing_writer.specs.Prepends.{Prepends}
+use Rattle.listing_writer.proofs.Prepends.{counted, at_end}
 use Rattle.listing_report.proofs.refused.Goals as goal
+use Rattle.listing_report.proofs.refused.Goals.{After-count-n}
 
-pub overflow_sub-first : goal.overflow_sub-first
-overflow_sub-first c =
-    let l = c.refused_line-n.ensures in
-    (counted 64 _ _ _ _ (search rules) (omega arith) l.short l.prepends).1
+wrote : (c : After-count-n) →
+    let t = c.number_and_place-t.result in
+    Prepends 0 c.count-n.result (refused_line t.number (place_of t.place)) c.new-line.result.bytes c.refused_line.new.out.bytes
+wrote c = rw (c.new-line.ensures, ← c.count-n.ensures) at c.refused_line.ensures.writes
+
+-- how long it is
+long : (c : After-count-n) →
+    let t = c.number_and_place-t.result in
+    (c.count-n.result ≡ length (refused_line t.number (place_of t.place))) × (c.count-n.result ≤ 64)
+long c = counted 64 _ _ _ _ (omega arith) (omega arith) c.refused_line.ensures.short (wrote c)
+
+-- it is the text that is read
+text_is : (c : After-count-n) →
+    let t = c.number_and_place-t.result in
+    drop (64 - c.refused_line.new.out.count) c.refused_line.new.out.bytes ≡ refused_line t.number (place_of t.place)
+text_is c = rw c.count-n.ensures at (at_end 64 _ _ _ _ (omega arith) (omega arith) c.refused_line.ensures.short (wrote c))
 
 pub slice_bounds-copy_from_slice-end : goal.slice_bounds-copy_from_slice-end
-slice_bounds-copy_from_slice-end c =
-    let l = c.refused_line-n.ensures in
-    omega (arith, c.requires, (counted 64 _ _ _ _ (search rules) (omega arith) l.short l.prepends).1)
+slice_bounds-copy_from_slice-end c = omega (arith, c.requires, (long (goal.at.slice_bounds-copy_from_slice-end c).After-count-n).1)
 
 pub slice_bounds-copy_from_slice-end-2 : goal.slice_bounds-copy_from_slice-end-2
 slice_bounds-copy_from_slice-end-2 c =
-    let l = c.refused_line-n.ensures in
-    let b = (counted 64 _ _ _ _ (search rules) (omega arith) l.short l.prepends).1 in
-    sym (length-take-le _ _ (omega (arith, c.requires, b)))
+    sym (length-take-le c.count-n.result c.args.out.now (omega (arith, c.requires, (long (goal.at.slice_bounds-copy_from_slice-end-2 c).After-count-n).1)))
+
+pub text-requires : goal.text-requires
+text-requires c = (omega arith, omega (arith, (long (goal.at.text-requires c).After-count-n).1, c.count-n.ensures))
 
 pub copy_from_slice-requires : goal.copy_from_slice-requires
 copy_from_slice-requires c =
-    let l = c.refused_line-n.ensures in
-    let b = (counted 64 _ _ _ _ (search rules) (omega arith) l.short l.prepends).1 in
-    length-take-le _ _ (omega (arith, c.requires, b)) ∙ sym (end_length 64 _ c.refused_line-n.new.out (search rules) b)
+    length-take-le c.count-n.result c.args.out.now (omega (arith, c.requires, (long (goal.at.copy_from_slice-requires c).After-count-n).1))
+    ∙ (long (goal.at.copy_from_slice-requires c).After-count-n).0
+    ∙ ap length (sym (c.text.ensures ∙ text_is (goal.at.copy_from_slice-requires c).After-count-n))
 
 pub returns : goal.returns
 returns c =
     let t = c.number_and_place-t in
-    let l = c.refused_line-n.ensures in
-    let n = c.refused_line-n.result in
-    let b = counted 64 _ _ _ _ (search rules) (omega arith) l.short l.prepends in
-    let w = whole_end 64 n c.refused_line-n.new.out (search rules) b.1 c.args.out.now in
-    let e = ap (λ xs. xs ++ drop n c.args.out.now) c.copy_from_slice.ensures.after ∙ copied 64 _ _ _ _ (search rules) (omega arith) l.short l.prepends _ _ w in
+    let copied = c.copy_from_slice.ensures.after ∙ c.text.ensures ∙ text_is (goal.at.returns c).After-count-n in
     record {
       number = t.result.number;
-      place = place_of t.result.placed t.result.place;
-      told = t.ensures.0;
-      shows = record { count = b.0; contents = e };
+      place = place_of t.result.place;
+      told = t.ensures;
+      shows = record { count = (long (goal.at.returns c).After-count-n).0; contents = ap (λ (xs : List ℕ). xs ++ drop c.count-n.result c.args.out.now) copied };
     }

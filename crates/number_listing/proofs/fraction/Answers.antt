@@ -1,13 +1,12 @@
 use native.Mathlib.Omega.{arith}
 use Rattle.listing_writer.proofs.Prepends.{joined, nothing}
 use Rattle.number_listing.proofs.Numbers.{three_none, three_kept}
-use borrow.Author.Rules.{rules}
 use Rattle.number_listing.proofs.fraction.Goals as goal
 
-pub returns-then-n-eq0 : goal.returns-then-n-eq0
-returns-then-n-eq0 c = let a = c.args in rw (three_none a.n c.if-n-eq0.true) (nothing a.k _)
-
-pub returns : goal.returns
-returns c =
+pub returns-then-n-ne0 : goal.returns-then-n-ne0
+returns-then-n-ne0 c =
     rw (three_kept c.args.n (omega arith))
-    (joined (joined c.last_two-p.ensures (rw c.digit.ensures at c.put-q.ensures)) c.put.ensures)
+    (joined (joined c.last_two.ensures (rw c.digit.ensures at c.put.ensures)) c.put-then-n-ne0.ensures)
+
+pub returns-else-n-ne0 : goal.returns-else-n-ne0
+returns-else-n-ne0 c = rw (three_none c.args.n (omega arith)) (nothing _ _)

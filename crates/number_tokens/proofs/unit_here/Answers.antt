@@ -1,38 +1,16 @@
-use mathlib.Core.Path.{refl, sym, ◌∙◌}
-use mathlib.Core.Bool.{true, false}
-use native.Mathlib.Omega.{arith}
+use mathlib.Core.Path.{◌≡◌}
+use Rattle.model.specs.Tokens.{is_unit, unit_of}
 use Rattle.number_tokens.proofs.Laws as laws
 use Rattle.number_tokens.proofs.unit_here.Goals as goal
 
-pub returns-then-c-ne-NUMBER : goal.returns-then-c-ne-NUMBER
-returns-then-c-ne-NUMBER c =
-    let a = c.args in
-    record {
-      fault_value = (λ b n. laws.unit_none a.s.now a.c c.if-c-ne-NUMBER.true b n);
-      value = refl;
-      kind = λ h. absurd (omega arith);
-    }
+pub returns-then-c-ne-NUMBER-clause-checked : goal.returns-then-c-ne-NUMBER-clause-checked
+returns-then-c-ne-NUMBER-clause-checked c = λ b n. laws.no_number c.args.s.now c.args.c is_unit c.if-c-ne-NUMBER.true b n
 
-pub returns-then-w : goal.returns-then-w
-returns-then-w c =
-    let a = c.args in
-    let k = c.if-c-ne-NUMBER.false in
-    let q = c.unit-w.ensures in
-    let y = sym q.0 ∙ c.if-w.true in
-    record {
-      fault_value = (λ b n. laws.unit_fault a.s.now a.c k 0 b n true y refl);
-      value = laws.unit_value a.s.now a.c _ y q.1;
-      kind = λ h. k;
-    }
+pub returns-clause-checked : goal.returns-clause-checked
+returns-clause-checked c = λ b n.
+    rw c.ok_or.ensures.value (laws.checked c.args.s.now c.args.c is_unit c.if-c-ne-NUMBER.false (λ w x. x.0 ≡ unit_of w) c.unit.result
+    c.unit.ensures b n)
 
-pub returns : goal.returns
-returns c =
-    let a = c.args in
-    let k = c.if-c-ne-NUMBER.false in
-    let q = c.unit-w.ensures in
-    let y = sym q.0 ∙ c.if-w.false in
-    record {
-      fault_value = (λ b n. laws.unit_fault a.s.now a.c k 3 b n false y refl);
-      value = laws.unit_zero a.s.now a.c _ y q.1;
-      kind = λ h. absurd (omega arith);
-    }
+pub returns-clause-value : goal.returns-clause-value
+returns-clause-value c =
+    rw c.ok_or.ensures.value (laws.value c.args.s.now c.args.c is_unit c.if-c-ne-NUMBER.false (λ w x. x.0 ≡ unit_of w) c.unit.result c.unit.ensures)

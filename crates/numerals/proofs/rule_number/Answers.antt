@@ -1,34 +1,31 @@
-use mathlib.Core.Path.{sym, ap, ◌∙◌}
-use Prim.Native.Nat.{◌≤◌}
+use mathlib.Core.Path.{◌≡◌, ◌∙◌}
+use mathlib.Core.Bool.{true, false}
 use native.Mathlib.Omega.{arith}
 use borrow.Author.Rules.{rules}
+use Rattle.model.specs.Basic.{between, run}
 use lib.ListN.{length}
-use Rattle.model.specs.Basic.{run}
-use Rattle.model.specs.Tokens.{is_digit, decimal}
-use Rattle.numerals.proofs.Digits as laws
+use Prim.Native.Nat.{◌≤◌}
+use Rattle.model.specs.Tokens.{is_digit}
 use Rattle.numerals.proofs.Values as values
 use Rattle.numerals.proofs.rule_number.Goals as goal
+use Rattle.numerals.proofs.rule_number.Goals.{then-w-gt-DIGITS-via-then-w-gt-DIGITS, then-w-gt-DIGITS-via-else-w-gt-DIGITS+then-digits_end-w}
 
-pub returns-then-w-gt-DIGITS : goal.returns-then-w-gt-DIGITS
-returns-then-w-gt-DIGITS c =
+pub returns-then-w-gt-DIGITS-clause-value : goal.returns-then-w-gt-DIGITS-clause-value
+returns-then-w-gt-DIGITS-clause-value c =
     let w = c.args.w.now in
-    (values.rule_long w c.if-w-gt-DIGITS.true, omega arith)
+    elim c.then-w-gt-DIGITS.branch [
+      | then-w-gt-DIGITS-via-then-w-gt-DIGITS x ↦ values.rule_long w x.if-w-gt-DIGITS.true
+      | then-w-gt-DIGITS-via-else-w-gt-DIGITS+then-digits_end-w x ↦ values.rule_other w (omega (arith, x.digits_end.ensures.value))
+    ]
 
-pub returns-then-digits_end-w : goal.returns-then-digits_end-w
-returns-then-digits_end-w c =
-    let w = c.args.w.now in
-    (values.rule_other w (omega (arith, c.digits_end.ensures.value)), omega arith)
+pub returns-then-contains-clause-value : goal.returns-then-contains-clause-value
+returns-then-contains-clause-value c =
+    let k : between 1 65535 c.decimal-n.result ≡ true = search rules in
+    let a : length c.args.w.now ≤ run is_digit c.args.w.now = omega (arith, c.digits_end.ensures.value) in
+    (values.rule_by c.args.w.now a c.if-w-gt-DIGITS.false ∙ (rw c.decimal-n.ensures.0 at k), c.decimal-n.ensures.0)
 
-pub returns-then-n-gt-MOST_RULE_NUMBER : goal.returns-then-n-gt-MOST_RULE_NUMBER
-returns-then-n-gt-MOST_RULE_NUMBER c =
-    let w = c.args.w.now in
-    let d = c.decimal_of-n.ensures.0 ∙ ap decimal (laws.to_end w 0) in
-    let a : length w ≤ run is_digit w = omega (arith, c.digits_end.ensures.value) in
-    (values.rule_high w a c.if-w-gt-DIGITS.false (rw (sym d) c.if-n-gt-MOST_RULE_NUMBER.true), omega arith)
-
-pub returns : goal.returns
-returns c =
-    let w = c.args.w.now in
-    let d = c.decimal_of-n.ensures.0 ∙ ap decimal (laws.to_end w 0) in
-    let a : length w ≤ run is_digit w = omega (arith, c.digits_end.ensures.value) in
-    (d ∙ values.rule_is w a c.if-w-gt-DIGITS.false (rw (sym d) c.if-n-gt-MOST_RULE_NUMBER.false), c.if-n-gt-MOST_RULE_NUMBER.false)
+pub returns-else-contains-clause-value : goal.returns-else-contains-clause-value
+returns-else-contains-clause-value c =
+    let k : between 1 65535 c.decimal-n.result ≡ false = search rules in
+    let a : length c.args.w.now ≤ run is_digit c.args.w.now = omega (arith, c.digits_end.ensures.value) in
+    values.rule_by c.args.w.now a c.if-w-gt-DIGITS.false ∙ (rw c.decimal-n.ensures.0 at k)

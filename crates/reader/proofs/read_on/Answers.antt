@@ -16,6 +16,9 @@ symbols_of-symbols-requires c = (c.requires.0.holds.input_terms, c.requires.0.ho
 pub rule_heading-o-requires : goal.rule_heading-o-requires
 rule_heading-o-requires c = c.requires.0.fits
 
+pub invariant_of-declarations : goal.invariant_of-declarations
+invariant_of-declarations c = record { sound = is_symbols _ _ c.symbols_of-symbols.ensures _ c.requires.0.holds }
+
 pub rules-q-requires : goal.rules-q-requires
 rules-q-requires c =
     let s = c.args.s.now in
@@ -24,7 +27,6 @@ rules-q-requires c =
     let g = c.requires.0.holds in
     let b = headed s h (block_view s t) in (
       c.rule_heading-o.ensures.within.1,
-      is_symbols _ _ c.symbols_of-symbols.ensures _ g,
       record { rules = omega arith; words = omega arith; conclusions = omega arith },
       record {
         block = b;
@@ -41,24 +43,8 @@ is_complete-requires c =
 pub back-f-requires : goal.back-f-requires
 back-f-requires c = c.rules-q.ensures.within.fits
 
-pub refusal_of-r-requires : goal.refusal_of-r-requires
-refusal_of-r-requires c =
-    let s = c.args.s.now in
-    let p = c.args.p in
-    let t = p.tables in
-    let h = c.rule_heading-o.result.heading in
-    let k = c.symbols_of-symbols.ensures in
-    let g = c.requires.0.holds in
-    let b = headed s h (block_view s t) in
-    let G = c.rules-q.ensures.goes b (describes _ _ k s g b (laws.inputs_headed s t h) (laws.outputs_headed s t h)) (laws.kept_none s t h _ _ _ refl refl refl) in
-    let w = holding G.rules b in
-    let x = back_ends _ s _ _ c.back-f.ensures w c.rules-q.result.totals.words
-    (parts_there_lem s _ _ w (describes _ _ k s g w (laws.inputs_whole s t h G.rules) (laws.outputs_whole s t h G.rules)) ∙ sym c.is_complete.ensures) in
-    laws.number s t h p.cursor c.rule_heading-o.result.cursor c.rules-q.result.cursor G.rules c.rules-q.result.totals.words
-    c.requires.1 (c.rule_heading-o.ensures.n_value (block_view s t) 0 (laws.bare s t)) G.reads c.back-f.result x c.if-f-ne0.true
-
-pub returns-then-f-ne0 : goal.returns-then-f-ne0
-returns-then-f-ne0 c =
+pub returns-in-Some : goal.returns-in-Some
+returns-in-Some c =
     let s = c.args.s.now in
     let p = c.args.p in
     let t = p.tables in
@@ -72,9 +58,9 @@ returns-then-f-ne0 c =
     (parts_there_lem s _ _ w (describes _ _ k s g w (laws.inputs_whole s t h G.rules) (laws.outputs_whole s t h G.rules)) ∙ sym c.is_complete.ensures) in
     let e = laws.refused_so s t h p.cursor c.rule_heading-o.result.cursor c.rules-q.result.cursor G.rules
     c.rules-q.result.totals.words c.requires.1 (c.rule_heading-o.ensures.n_value (block_view s t) 0 (laws.bare s t)) G.reads c.back-f.result
-    x (length c.args.out.now) c.requires.2 c.if-f-ne0.true in
+    x (length c.args.out.now) c.requires.2 c.in-Some.r c.in-Some.is in
     record {
-      result_value = c.refusal_of-r.ensures ∙ ap length_in (sym e);
+      result_value = c.refusal_of.ensures ∙ ap length_in (sym e);
       buffer = ap (buffer_after c.args.out.now) (sym e);
     }
 
@@ -87,7 +73,7 @@ store-requires c =
     let b = headed s h (block_view s t) in
     let k = describes _ _ c.symbols_of-symbols.ensures s g b (laws.inputs_headed s t h) (laws.outputs_headed s t h) in
     let G = c.rules-q.ensures.goes b k (laws.kept_none s t h _ _ _ refl refl refl) in
-    (g, c.rule_heading-o.ensures.within.2, (G.rules, (G.kept (c.back-f.ensures.sticky c.if-f-ne0.false)).stored))
+    (g, c.rule_heading-o.ensures.within.2, (G.rules, (G.kept (c.back-f.ensures.sticky c.in_default.is)).stored))
 
 pub returns : goal.returns
 returns c =
@@ -104,8 +90,8 @@ returns c =
     (parts_there_lem s _ _ w (describes _ _ k s g w (laws.inputs_whole s t h G.rules) (laws.outputs_whole s t h G.rules)) ∙ sym c.is_complete.ensures) in
     let e = laws.accepted_so s t h p.cursor c.rule_heading-o.result.cursor c.rules-q.result.cursor G.rules
     c.rules-q.result.totals.words c.requires.1 (c.rule_heading-o.ensures.n_value (block_view s t) 0 (laws.bare s t)) G.reads
-    c.back-f.result x (length c.args.out.now) c.requires.2 c.if-f-ne0.false in
-    let y = c.store.ensures G.rules (G.kept (c.back-f.ensures.sticky c.if-f-ne0.false)).stored in
+    c.back-f.result x (length c.args.out.now) c.requires.2 c.in_default.is in
+    let y = c.store.ensures G.rules (G.kept (c.back-f.ensures.sticky c.in_default.is)).stored in
     record {
       result_value = y.0 ∙ ap length_in (sym e);
       buffer = y.1 ∙ ap (buffer_after c.args.out.now) (sym e);

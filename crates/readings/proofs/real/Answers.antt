@@ -9,9 +9,9 @@ use lib.Ieee.Bits.{to_bits-lt}
 use mir.Syntax.{w32}
 use mir.ValLaws.{to_z_pos}
 use borrow.Author.Tests.{le-leb, lt-leb}
+use Rattle.std.specs.Prelude.{Ok}
 use Rattle.model.specs.Bounds.{crisp_limit}
 use Rattle.model.specs.Readings.{real_of}
-use Rattle.model.specs.declared.Taken.TheVariants.{Value}
 use Rattle.readings.specs.Fields.{magnitude_of, significand_of}
 use Rattle.readings.proofs.Rounding.{side, signed}
 use Rattle.laws.proofs.Signed.{minus_fits, taken_from_zero, negated}
@@ -29,7 +29,7 @@ answered : (c : After-magnitude-v) →
     let k = c.exponent-k.result in
     (s : Bool) → leb 2147483648 (to_bits binary32 x) ≡ s
     → (d : ℕ) → c.magnitude-v.result ≡ min (magnitude_of d (1000 * (q * 2 ^ k)) (2 ^ 149)) crisp_limit → d ≡ side s
-    → (z : ℤ) → z ≡ signed s c.magnitude-v.result → Value (record { 0 = z }) ≡ real_of x
+    → (z : ℤ) → z ≡ signed s c.magnitude-v.result → Ok (record { 0 = z }) ≡ real_of x
 answered c s es d em ed z ez =
     let x = c.args.x in
     let n = to_bits binary32 x in
@@ -37,7 +37,7 @@ answered c s es d em ed z ez =
     let t = n % 8388608 in
     let q = c.significand-q in
     let k = c.exponent-k in
-    ap (λ (z : ℤ). Value (record { 0 = z })) (ez ∙ ap (signed s) (em
+    ap (λ (z : ℤ). Ok (record { 0 = z })) (ez ∙ ap (signed s) (em
     ∙ ap (λ (y : ℕ). min (magnitude_of y (1000 * (q.result * 2 ^ k.result)) (2 ^ 149)) crisp_limit) ed
     ∙ ap (λ (y : ℕ). min (magnitude_of (side s) (1000 * (y * 2 ^ k.result)) (2 ^ 149)) crisp_limit) q.ensures.0
     ∙ ap (λ (y : ℕ). min (magnitude_of (side s) (1000 * (significand_of e t * 2 ^ y)) (2 ^ 149)) crisp_limit) k.ensures))

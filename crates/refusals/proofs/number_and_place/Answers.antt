@@ -1,22 +1,19 @@
-use mathlib.Core.Path.{◌≡◌, refl, sym, ap, ◌∙◌}
-use mathlib.Core.Bool.{Bool, true, false, true≢false}
+use mathlib.Core.Path.{◌≡◌, refl, ap, ◌∙◌}
 use mathlib.Core.Option.{none, some}
 use Prim.Native.Nat.{ℕ}
+use Rattle.std.specs.Prelude.{Option, Some, None}
 use Rattle.model.specs.Outcome.{Outcome, refused}
 use Rattle.model.specs.Refusals.{refusal_of}
 use Rattle.refusals.specs.Told.{place_of}
-use borrow.Author.Rules.{rules}
 use Rattle.refusals.proofs.number_and_place.Goals as goal
 
 -- a refusal with a place, and one without
-module _ {o : Outcome ℕ} {n number place : ℕ} {placed : Bool} where
-  told_at : {p : ℕ} → o ≡ refused n (some p) → (number ≡ n) × (placed ≡ true) × (place ≡ p)
-      → (o ≡ refused number (place_of placed place)) × (placed ≡ false → place ≡ 0)
-  told_at e (a, b, c) = (e ∙ rw (a, b, c) refl, λ f. absurd (true≢false (sym b ∙ f)))
+module _ {o : Outcome ℕ} {n number : ℕ} {place : Option ℕ} where
+  told_at : {p : ℕ} → o ≡ refused n (some p) → (number ≡ n) × (place ≡ Some p) → o ≡ refused number (place_of place)
+  told_at e (a, b) = e ∙ rw (a, b) refl
 
-  told_nowhere : o ≡ refused n none → (number ≡ n) × (placed ≡ false) × (place ≡ 0)
-      → (o ≡ refused number (place_of placed place)) × (placed ≡ false → place ≡ 0)
-  told_nowhere e (a, b, c) = (e ∙ rw (a, b) refl, λ f. c)
+  told_nowhere : o ≡ refused n none → (number ≡ n) × (place ≡ None) → o ≡ refused number (place_of place)
+  told_nowhere e (a, b) = e ∙ rw (a, b) refl
 
 pub returns-in-TextTooLong : goal.returns-in-TextTooLong
 returns-in-TextTooLong c = told_at (ap refusal_of c.in-TextTooLong.is) c.at.ensures

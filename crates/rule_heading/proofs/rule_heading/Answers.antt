@@ -9,8 +9,8 @@ pub returns : goal.returns
 unfolding opening
 returns c =
     let s = c.args.s.now in
-    let x = laws.opens_then (laws.opens_then (laws.opens_then (laws.opens_then c.expected-a.ensures c.block_name-b.ensures)
-    c.algorithms-d.ensures) c.activation_line-e.ensures) c.accumulation_line.ensures in
+    let x = laws.opens_then (laws.opens_then (laws.opens_then (laws.opens_then c.expected-p.ensures c.block_name-p.ensures)
+    c.algorithms-p.ensures) c.activation_line-p.ensures) c.accumulation_line.ensures in
     record {
       n_value = (λ b n h. x.reads b n ∙ ap (λ (y : Block). opening (seen s c.args.c y n)) (laws.bare s b h));
       within = (x.fewer, x.fits, x.headed);

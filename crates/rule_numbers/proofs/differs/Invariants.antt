@@ -1,6 +1,6 @@
 use mathlib.Core.Path.{◌≡◌}
 use mathlib.Core.Bool.{not}
-use Prim.Native.Nat.{◌+◌, ◌-◌}
+use Prim.Native.Nat.{◌-◌}
 use lib.Dec.{eqb}
 use Rattle.model.specs.Basic.{all, tab}
 use Rattle.model.specs.Image.{word_at}
@@ -9,8 +9,6 @@ use Rattle.rule_numbers.proofs.differs.Given as goal
 
 abbrev pub invariant-loop-j : goal.invariant-loop-j
 invariant-loop-j l =
-    all (λ n. not (eqb l.number n)) (tab (rule_number (word_at l.img)) (l.e - l.j) l.j)
-    ≡ all (λ n. not (eqb l.number n)) (tab (rule_number (word_at l.img)) (l.e - (l.i + 1)) (l.i + 1))
-
-abbrev pub decreases-loop-j : goal.decreases-loop-j
-decreases-loop-j l = l.e - l.j
+    let numbers = tab (rule_number (word_at l.image.bytes.now)) in
+    let e = l.image.header.rules.rows in
+    all (λ n. not (eqb l.number n)) (numbers (e - l.j) l.j) ≡ all (λ n. not (eqb l.number n)) (numbers (e - l.first) l.first)

@@ -1,6 +1,6 @@
 use mathlib.Core.Path.{◌≡◌}
 use mathlib.Core.Bool.{true}
-use Prim.Native.Nat.{◌-◌, ◌≤◌}
+use Prim.Native.Nat.{◌-◌}
 use lib.Dec.{eqb}
 use lib.ListN.{length}
 use Rattle.model.specs.Basic.{distinct, tab}
@@ -11,8 +11,6 @@ use Rattle.rule_numbers.proofs.numbers_distinct.Given as goal
 
 abbrev pub invariant-loop-i : goal.invariant-loop-i
 invariant-loop-i l =
-    (l.i ≤ l.h.rules) × (length l.met ≡ 256)
-    × (distinct eqb (tab (rule_number (word_at l.img)) (l.h.rules - l.i) l.i) ≡ true) × Met (rule_number (word_at l.img)) l.h.rules l.i l.met
-
-abbrev pub decreases-loop-i : goal.decreases-loop-i
-decreases-loop-i l = l.i
+    let f = rule_number (word_at l.image.bytes.now) in
+    let e = l.image.header.rules.rows in
+    (length l.met ≡ 256) × (distinct eqb (tab f (e - l.i) l.i) ≡ true) × Met f e l.i l.met

@@ -14,12 +14,9 @@ loop-q-init c =
     let o = c.conclusion-q.ensures.onward in
     (record { fewer = omega arith; fits = o.fits; grows = omega arith; count = o.count }, λ b rs x m d k n h. laws.lists_begin _ b rs x m n _ _ h)
 
-pub loop-q-smaller : goal.loop-q-smaller
-loop-q-smaller c = omega (arith, c.conclusion-q-in-loop-q.ensures.onward.fewer, c.advance-d.ensures.moves.0)
-
 pub loop-q-preserved : goal.loop-q-preserved
 loop-q-preserved c = let l = c.loop-q in
-    let a = c.advance-d.ensures in
+    let a = c.advance-q.ensures in
     let o = c.conclusion-q-in-loop-q.ensures in (
       laws.onward_then l.invariant.0 (laws.step_onward a.step o.onward),
       λ b rs x m d k n h.
@@ -37,9 +34,9 @@ returns c =
       concludes = (λ b rs q m d k.
           let x = o.concludes b rs q m d k in
           let y = gives x.more q in
-          let n = suc (length (seen c.args.s.now c.conclusion-q.result.cursor (midst b rs y) m).rest) in
+          let n = suc (length (seen c.args.d.now.text.now c.conclusion-q.result.cursor (midst b rs y) m).rest) in
           laws.concludes_then x (laws.lists_end _ b rs y m n _ l.q _ _ refl
           (l.invariant.1 b rs y m d (laws.given_count rs q x.more ∙ (let z = x.count in omega arith)) n
-          (enough c.args.s.now c.conclusion-q.result.cursor (midst b rs y) m)) c.loop-q-test.false));
+          (enough c.args.d.now.text.now c.conclusion-q.result.cursor (midst b rs y) m)) c.loop-q-test.false));
       onward = laws.onward_then o.onward l.invariant.0;
     }

@@ -1,10 +1,6 @@
-use mathlib.Core.Path.{refl}
 use borrow.Author.Rules.{rules}
 use Rattle.rule_text.proofs.Laws as laws
 use Rattle.rule_text.proofs.is_used.Goals as goal
-
-pub loop-k-init : goal.loop-k-init
-loop-k-init c = (search rules, λ rs w. refl)
 
 pub returns-then-rules-k : goal.returns-then-rules-k
 returns-then-rules-k c = λ rs w. laws.used_here rs _ _ _ w c.loop-k.k (search rules) c.if-rules-k.true (c.loop-k.invariant.1 rs w)

@@ -1,7 +1,7 @@
 use mathlib.Core.Path.{◌≡◌}
 use mathlib.Core.Bool.{not}
 use mathlib.Core.List.{List}
-use Prim.Native.Nat.{◌-◌, ◌≤◌}
+use Prim.Native.Nat.{◌≤◌}
 use lib.Dec.{eqb}
 use lib.ListN.{drop}
 use Rattle.model.specs.Basic.{all}
@@ -12,6 +12,3 @@ use Rattle.rule_text.proofs.is_used.Given as goal
 abbrev pub invariant-loop-k : goal.invariant-loop-k
 invariant-loop-k l = (l.k ≤ l.count) × ((rs : List Rule) → Rows rs l.rules l.count
     → all (λ q. not (eqb q.number l.number)) (drop l.k rs) ≡ all (λ q. not (eqb q.number l.number)) rs)
-
-abbrev pub decreases-loop-k : goal.decreases-loop-k
-decreases-loop-k l = l.count - l.k

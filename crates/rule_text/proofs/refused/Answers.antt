@@ -4,6 +4,6 @@ use Rattle.rule_text.proofs.refused.Goals as goal
 pub returns : goal.returns
 returns c =
     record {
-      by_index = (λ s g. (c.refuse-d.ensures.by_index s g, c.refuse-d.ensures.moves s g));
-      totals = (refl, c.refuse-d.ensures.halted);
+      by_index = (λ s g. (c.refuse.ensures.by_index s g, c.refuse.ensures.moves s g));
+      totals = (refl, c.refuse.ensures.halted);
     }

@@ -10,14 +10,14 @@ use Rattle.model.specs.Parse.{expect}
 use Rattle.model.specs.Rules.{condition_with, parenthesis}
 use Rattle.model.specs.Tokens.{decimal}
 use Rattle.cursor.specs.View.{seen, text_of}
-use Rattle.cursor.proofs.Laws.{steps}
+use Rattle.cursor.proofs.Laws.{steps, was_refused, stands}
 use Rattle.rule_text.specs.Progress.{gives}
 use Rattle.rule_text.proofs.Laws as laws
 use Rattle.rule_text.proofs.rule_from.Goals as goal
 
-pub returns-then-g-ne0 : goal.returns-then-g-ne0
-returns-then-g-ne0 c =
-    let s = c.args.s.now in
+pub returns-then-is_some : goal.returns-then-is_some
+returns-then-is_some c =
+    let s = c.args.d.now.text.now in
     let p = c.args.p in
     let n = c.rule_number-n.ensures in
     let a = steps c.expect-e.ensures.step c.expect-f.ensures.step in
@@ -29,32 +29,26 @@ returns-then-g-ne0 c =
           record {
             rules = b.rules;
             reads = sym (laws.from_number s p.cursor _ b p.totals.words f
-                ∙ laws.given_lost s _ b _ _ _ q.within.room.fits c.if-g-ne0.true (q.reads_condition b d).seen);
-            kept = λ h. absurd (c.if-g-ne0.true h);
+                ∙ laws.given_lost s _ b _ _ _ q.within.room.fits (was_refused c.is_some.ensures c.if-is_some.true) (q.reads_condition b d).seen);
+            kept = λ h. absurd (was_refused c.is_some.ensures c.if-is_some.true h);
           });
       within = record {
         fewer = omega (arith, n.within.0, a.fewer, q.within.fewer);
         fits = q.within.room.fits;
-        few = record { rules = c.requires.2.rules; words = q.within.room.words; conclusions = c.requires.2.conclusions };
+        few = record { rules = c.requires.1.rules; words = q.within.room.words; conclusions = c.requires.1.conclusions };
       };
     }
 
-pub rule_given-requires : goal.rule_given-requires
-rule_given-requires c =
-    let g = c.requires in
-    let w = c.condition-q.ensures.within.room in
-    (w.fits, g.1, record { rules = g.2.rules; words = w.words; conclusions = g.2.conclusions }, g.3)
-
 pub returns : goal.returns
 returns c =
-    let s = c.args.s.now in
+    let s = c.args.d.now.text.now in
     let p = c.args.p in
     let m = p.totals.words in
     let n = c.rule_number-n.ensures in
     let x = decimal (text_of s p.cursor) in
     let a = steps c.expect-e.ensures.step c.expect-f.ensures.step in
     let q = c.condition-q.ensures in
-    let h = c.if-g-ne0.false in
+    let h = stands c.is_some.ensures c.if-is_some.false in
     let w = c.condition-q.result.put - m in
     let r = c.rule_given.result in
     record {

@@ -11,20 +11,13 @@ use Rattle.rule_text.specs.Progress.{midst, gives}
 use Rattle.rule_text.proofs.Laws as laws
 use Rattle.rule_text.proofs.rule_given.Goals as goal
 
-pub put_row-requires : goal.put_row-requires
-put_row-requires c = c.requires.3
-
-pub overflow_add-u : goal.overflow_add-u
-overflow_add-u c =
-    omega (arith, c.requires.3)
-
 pub returns : goal.returns
 returns c =
     let p = c.args.p in
-    let a = c.expect-d.ensures.step in
+    let a = c.expect.ensures.step in
     let l = c.conclusion_list-q.ensures in
     let w = c.weighted-x.ensures in
-    let z = c.expect-g.ensures.step in
+    let z = c.expect-2.ensures.step in
     let v = c.weighted-x.result.weight.0 in
     record {
       ends_rule = (λ b rs q d n h.
@@ -47,6 +40,6 @@ returns c =
       within = record {
         fewer = omega (arith, a.fewer, l.onward.fewer, w.within.0, z.fewer);
         fits = z.fits;
-        few = record { rules = omega (arith, c.requires.3); words = c.requires.2.words; conclusions = l.onward.count };
+        few = record { rules = omega (arith, c.requires.2); words = c.requires.1.words; conclusions = l.onward.count };
       };
     }

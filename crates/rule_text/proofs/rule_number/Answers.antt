@@ -1,40 +1,25 @@
-use mathlib.Core.Path.{sym, ◌∙◌}
-use native.Mathlib.Omega.{arith}
-use borrow.Author.Tests.{eq-eqb}
+use mathlib.Core.Path.{◌≡◌, sym, ◌∙◌}
+use Rattle.cursor.proofs.Laws.{never_zero}
 use Rattle.rule_text.proofs.Laws as laws
 use Rattle.rule_text.proofs.rule_number.Goals as goal
 
-pub returns-then-x-ne0 : goal.returns-then-x-ne0
-returns-then-x-ne0 c =
+pub returns-in-Err-clause-m_value : goal.returns-in-Err-clause-m_value
+returns-in-Err-clause-m_value c =
     let s = c.args.s.now in
-    let a = c.refuse.ensures.by_index s c.requires.0 in
-    record {
-      m_value = (λ b m w. a.reads b m ∙ sym (laws.number_fault s _ b m _ (c.number_here-x.ensures.fault_value b m) c.if-x-ne0.true));
-      within = (a.fewer, a.fits, λ h. absurd (c.refuse.ensures.halted h));
-    }
+    let why = c.in-Err.ensures in
+    λ b m w. (c.refuse.ensures.by_index s c.requires.0).reads b m ∙ sym (laws.number_fault s _ b m _ (why.checked b m) (never_zero c.in-Err.fault))
 
-pub returns-then-is_used : goal.returns-then-is_used
-returns-then-is_used c =
+pub returns-in-Ok-clause-m_value : goal.returns-in-Ok-clause-m_value
+returns-in-Ok-clause-m_value c =
     let s = c.args.s.now in
-    let a = c.refuse-then-is_used.ensures.by_index s c.requires.0 in
-    let v = simp (eq-eqb _ _ c.if-x-ne0.false) at c.number_here-x.ensures.value in
-    record {
-      m_value = (λ b m w. a.reads b m ∙ sym (laws.number_used s _ b m (sym c.if-x-ne0.false ∙ c.number_here-x.ensures.fault_value b m) _ v
-          (sym c.if-is_used.true ∙ c.is_used.ensures b.rules w)));
-      within = (a.fewer, a.fits, λ h. absurd (c.refuse-then-is_used.ensures.halted h));
-    }
+    let number = c.in-Ok.ensures in
+    λ b m w. (c.refuse-in-Ok.ensures.by_index s c.requires.0).reads b m ∙ sym (laws.number_used s _ b m (number.checked b m) _ number.value.1
+    (sym c.if-is_used.true ∙ c.is_used.ensures b.rules w))
 
-pub advance-requires : goal.advance-requires
-advance-requires c =
-    (c.requires.0, λ z. let k = c.number_here-x.ensures.kind c.if-x-ne0.false in omega arith)
-
-pub returns : goal.returns
-returns c =
+pub returns-in-Ok-2-clause-m_value : goal.returns-in-Ok-2-clause-m_value
+returns-in-Ok-2-clause-m_value c =
     let s = c.args.s.now in
-    let a = c.advance.ensures.step in
-    let v = simp (eq-eqb _ _ c.if-x-ne0.false) at c.number_here-x.ensures.value in
-    record {
-      m_value = (λ b m w. a.reads b m ∙ sym (laws.number_free s _ b m (sym c.if-x-ne0.false ∙ c.number_here-x.ensures.fault_value b m) _ v
-          (sym c.if-is_used.false ∙ c.is_used.ensures b.rules w)));
-      within = (a.fewer, a.fits, λ h. v);
-    }
+    let number = c.in-Ok-2.ensures in
+    let e : c.in-Ok.number ≡ c.in-Ok-2.number = cc in
+    λ b m w. c.advance.ensures.step.reads b m ∙ sym (laws.number_free s _ b m (number.checked b m) _ number.value.1
+    (sym c.if-is_used.false ∙ (rw e at (c.is_used.ensures b.rules w))))

@@ -4,24 +4,16 @@ use Rattle.rule_text.specs.Progress.{holding}
 use Rattle.rule_text.proofs.Laws as laws
 use Rattle.rule_text.proofs.rules.Goals as goal
 
-pub loop-q-init : goal.loop-q-init
-loop-q-init c =
-    let w = c.rule-q.ensures.within in
-    (record { fewer = omega arith; fits = w.fits; few = w.few }, λ b d rs k n h. laws.runs_begin _ b rs n _ _ _ _ h k)
-
 pub rule-q-requires-in-loop-q : goal.rule-q-requires-in-loop-q
 rule-q-requires-in-loop-q c =
     let l = c.loop-q in
     let w = l.invariant.0 in
-    let t = c.requires.3 in
+    let t = c.requires.2 in
     let b = t.block in
     let g = c.rule-q.ensures.goes b t.describes t.kept in
-    let y = l.invariant.1 b t.describes g.rules g.kept _ (enough c.args.s.now c.rule-q.result.cursor (holding g.rules b) 0) in
+    let y = l.invariant.1 b t.describes g.rules g.kept _ (enough c.args.d.now.text.now c.rule-q.result.cursor (holding g.rules b) 0) in
     let z = w.fits.halted (λ e. omega (arith, c.loop-q-test.true)) in
-    (w.fits, c.requires.1, w.few, record { block = holding y.rules b; describes = laws.describes y.rules t.describes; kept = y.kept z })
-
-pub loop-q-smaller : goal.loop-q-smaller
-loop-q-smaller c = c.rule-q-in-loop-q.ensures.moves (λ k. omega (arith, c.loop-q-test.true))
+    (w.fits, w.few, record { block = holding y.rules b; describes = laws.describes y.rules t.describes; kept = y.kept z })
 
 pub loop-q-preserved : goal.loop-q-preserved
 loop-q-preserved c =
@@ -44,6 +36,6 @@ returns c =
       goes = (λ b d k.
           let g = f.goes b d k in
           laws.runs_end _ b _ _ l.q _ _ _ _ _ _ g (l.invariant.1 b d g.rules g.kept _
-          (enough c.args.s.now c.rule-q.result.cursor (holding g.rules b) _)) c.loop-q-test.false);
+          (enough c.args.d.now.text.now c.rule-q.result.cursor (holding g.rules b) _)) c.loop-q-test.false);
       within = laws.within_then f.within l.invariant.0;
     }

@@ -1,4 +1,3 @@
-use Rattle.std.proofs.Common.{rules}
 use Rattle.short_quotient.proofs.TenBits.{joined}
 use Rattle.short_quotient.proofs.short_quotient.Goals as goal
 

@@ -1,38 +1,34 @@
+use mathlib.Core.Path.{sym, ap, ◌∙◌}
+use mathlib.Core.Bool.{Bool, true, false}
 use mathlib.Core.Option.{some}
 use Prim.Native.Nat.{◌+◌}
-use native.Mathlib.Omega.{arith}
-use borrow.Author.Rules.{rules}
 use Rattle.model.specs.Image.{word_at}
-use Rattle.condition_words.specs.Machine.{stack_of, turn}
-use Rattle.condition_stack.specs.Shapes.{shapes, view}
+use Rattle.std.specs.Prelude.{◌≡◌, is_some}
+use Rattle.condition_words.specs.Machine.{turn}
 use Rattle.condition_words.proofs.Passes.{Left, left_start, left_turn}
-use Rattle.condition_stack.proofs.Steps as laws
+use Rattle.condition_stack.specs.Shapes.{shapes, held, view}
+use Rattle.condition_stack.proofs.Steps.{fails, ends}
 use Rattle.stored_conditions.proofs.stored_condition.Goals as goal
-use Rattle.stored_conditions.proofs.stored_condition.Goals.{After-step-height}
+use Rattle.stored_conditions.proofs.stored_condition.Goals.{After-step}
 
 -- one more word
-turned : (c : After-step-height) →
-    let l = c.loop-i in
-    let a = c.args in
-    Left (shapes a.m) (word_at a.img.now) a.d a.n (l.i + 1) (view c.step-height.new.stack c.step-height.result)
+turned : (c : After-step) (b : Bool) → is_some c.step.result ≡ b
+    → Left (shapes c.args.m) (word_at c.args.img.now) c.args.d c.args.n (c.loop-i.i + 1) (view c.step.new.stack.shapes c.step.new.stack.height b)
 unfolding turn
-turned c =
+turned c b e =
     let l = c.loop-i in
-    let a = c.args in
-    left_turn (shapes a.m) (word_at a.img.now) a.d a.n l.i _ (some (stack_of 0 l.stack l.height)) _
-    (search rules) c.whole_word.ensures.0 c.step-height.ensures.result_after l.invariant.3
+    left_turn (shapes c.args.m) (word_at c.args.img.now) c.args.d c.args.n l.i _ (some (held l.stack.shapes l.stack.height)) _
+    c.loop-i-test.true c.whole_word.ensures.0
+    (ap (λ (x : Bool). view c.step.new.stack.shapes c.step.new.stack.height x) (sym e) ∙ c.step.ensures) l.invariant
 
 pub loop-i-init : goal.loop-i-init
-unfolding stack_of
-loop-i-init c = (search rules, search rules, search rules, left_start _ _ _ _)
+loop-i-init c = rw c.new-stack.ensures (left_start (shapes c.args.m) (word_at c.args.img.now) c.args.d c.args.n)
 
-pub returns-then-height-eq0 : goal.returns-then-height-eq0
-returns-then-height-eq0 c = laws.fails _ _ _ _ _ _ _ c.if-height-eq0.true (turned (goal.at.returns-then-height-eq0 c).After-step-height)
+pub returns-then-is_none : goal.returns-then-is_none
+returns-then-is_none c = fails _ _ _ _ _ (turned (goal.at.returns-then-is_none c).After-step false c.if-is_none.ensures)
 
 pub loop-i-preserved : goal.loop-i-preserved
-loop-i-preserved c = (search rules, search rules, search rules, laws.goes_on_lem _ _ _ _ _ _ _ (omega arith) (turned (goal.at.loop-i-preserved c).After-step-height))
+loop-i-preserved c = turned (goal.at.loop-i-preserved c).After-step true c.if-is_none.ensures
 
 pub returns : goal.returns
-returns c =
-    let l = c.loop-i in
-    laws.ends _ _ _ _ l.i l.stack _ c.loop-i-test.false l.invariant.3
+returns c = ends _ _ _ _ _ _ _ c.loop-i-test.false c.loop-i.invariant

@@ -1,62 +1,35 @@
-use borrow.Author.Rules.{rules}
-use native.Mathlib.Omega.{arith}
-use native.Mathlib.Nat.{sub-zero}
-use mathlib.Core.Path.{sym, ◌∙◌}
+use mathlib.Core.Path.{sym, ap, ◌∙◌}
+use lib.Dec.{eqb}
 use borrow.Author.Tests.{eq-eqb, ne_eqb}
-use Rattle.model.specs.Image.{word_at}
-use Rattle.rule_rows.proofs.Rules.{row_within}
+use Rattle.model.specs.Image.{word_at, WORDS}
 use Rattle.stored_rules.proofs.Loops.{walk_more, walk_stop, walk_end}
 use Rattle.stored_rules.proofs.rows_ok.Goals as goal
 
-pub loop-i-init : goal.loop-i-init
-loop-i-init c = (search rules, search rules, rw sub-zero)
-
-pub returns-then-not-row_ok : goal.returns-then-not-row_ok
-returns-then-not-row_ok c =
+pub returns-in_default : goal.returns-in_default
+returns-in_default c =
     let l = c.loop-i in
-    let a = c.args in
-    let w = word_at a.img.now in
-    let f = sym c.row_ok.ensures ∙ c.if-not-row_ok.true in
-    sym (walk_stop w a.h.rules l.i l.n l.k (omega arith) f) ∙ l.invariant.2
-
-pub overflow_add-n : goal.overflow_add-n
-overflow_add-n c =
-    let q = c.parts_of-p.ensures.fits.1 in
-    let hd = c.requires.1 in
-    omega (arith, hd.words, hd.fits 7)
-
-pub overflow_add-k : goal.overflow_add-k
-overflow_add-k c =
-    let q = c.parts_of-p.ensures.fits.3 in
-    let hd = c.requires.1 in
-    omega (arith, hd.conclusions, hd.fits 8)
+    let stored = c.args.image.now.stored in
+    sym (walk_stop (word_at stored.bytes.now) stored.header.rules.rows l.i l.totals.words l.totals.conclusions c.loop-i-test.true c.in_default.ensures) ∙ l.invariant
 
 pub loop-i-preserved : goal.loop-i-preserved
 loop-i-preserved c =
-    let p = c.parts_of-p.ensures in
     let l = c.loop-i in
-    let a = c.args in
-    let w = word_at a.img.now in
-    let t = sym c.row_ok.ensures ∙ c.if-not-row_ok.false in
-    let q = row_within w l.i l.n l.k t in
-    let hd = c.requires.1 in (
-      omega (arith, p.words, hd.words, q.0),
-      omega (arith, p.conclusions, hd.conclusions, q.1),
-      sym (walk_more w a.h.rules l.i l.n l.k _ _ p.words p.conclusions (omega arith) t) ∙ l.invariant.2,
-    )
+    let stored = c.args.image.now.stored in
+    let e = c.in-Some.ensures in
+    sym (walk_more (word_at stored.bytes.now) stored.header.rules.rows l.i l.totals.words l.totals.conclusions _ _ e.1 e.2 c.loop-i-test.true e.0) ∙ l.invariant
 
-pub returns-then-n-h : goal.returns-then-n-h
-returns-then-n-h c =
+pub returns-then-totals-header : goal.returns-then-totals-header
+returns-then-totals-header c =
     let l = c.loop-i in
-    let w = word_at c.args.img.now in
-    let hd = c.requires.1 in
-    let t = walk_end w c.args.h.rules l.i l.n l.k _ _ hd.words hd.conclusions c.loop-i-test.false in
-    sym (t ∙ simp (ne_eqb _ _ c.if-n-h.true)) ∙ l.invariant.2
+    let stored = c.args.image.now.stored in
+    let e = eq-eqb _ _ (c.if-totals-header.true ∙ stored.heads.words.rows) in
+    let t = walk_end (word_at stored.bytes.now) stored.header.rules.rows l.i l.totals.words l.totals.conclusions c.loop-i-test.false in
+    ap (eqb l.totals.conclusions) stored.heads.conclusions.rows ∙ sym (t ∙ simp e) ∙ l.invariant
 
-pub returns : goal.returns
-returns c =
+pub returns-else-totals-header : goal.returns-else-totals-header
+returns-else-totals-header c =
     let l = c.loop-i in
-    let w = word_at c.args.img.now in
-    let hd = c.requires.1 in
-    let t = walk_end w c.args.h.rules l.i l.n l.k _ _ hd.words hd.conclusions c.loop-i-test.false in
-    sym (t ∙ simp (eq-eqb _ _ c.if-n-h.false)) ∙ l.invariant.2
+    let stored = c.args.image.now.stored in
+    let e = ne_eqb l.totals.words (word_at stored.bytes.now WORDS) (λ q. c.if-totals-header.false (q ∙ sym stored.heads.words.rows)) in
+    let t = walk_end (word_at stored.bytes.now) stored.header.rules.rows l.i l.totals.words l.totals.conclusions c.loop-i-test.false in
+    ne_eqb _ _ c.if-totals-header.false ∙ sym (t ∙ simp e) ∙ l.invariant

@@ -1,5 +1,5 @@
 use mathlib.Core.Path.{◌≡◌}
-use Prim.Native.Nat.{◌-◌, ◌≤◌}
+use Prim.Native.Nat.{◌-◌}
 use Rattle.model.specs.Basic.{all, tab}
 use Rattle.model.specs.Image.{word_at}
 use Rattle.stored_variables.specs.Stored.{input_stored}
@@ -7,8 +7,6 @@ use Rattle.stored_variables.proofs.inputs_ok.Given as goal
 
 abbrev pub invariant-loop-i : goal.invariant-loop-i
 invariant-loop-i l =
-    let w = word_at l.img in
-    (l.i ≤ l.h.inputs) × (all (input_stored w) (tab (λ k. k) (l.h.inputs - l.i) l.i) ≡ all (input_stored w) (tab (λ k. k) l.h.inputs 0))
-
-abbrev pub decreases-loop-i : goal.decreases-loop-i
-decreases-loop-i l = l.h.inputs - l.i
+    let ok = input_stored (word_at l.image.stored.bytes.now) in
+    let n = l.image.stored.header.inputs.rows in
+    all ok (tab (λ j. j) (n - l.i) l.i) ≡ all ok (tab (λ j. j) n 0)

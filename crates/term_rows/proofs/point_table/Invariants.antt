@@ -1,5 +1,5 @@
 use mathlib.Core.Path.{◌≡◌}
-use Prim.Native.Nat.{◌+◌, ◌*◌, ◌-◌, ◌≤◌}
+use Prim.Native.Nat.{◌+◌, ◌*◌, ◌-◌}
 use lib.ListN.{length, get_or}
 use Rattle.model.specs.Image.{point_width}
 use Rattle.layout.specs.Tables.{sums}
@@ -9,11 +9,9 @@ use Rattle.term_rows.specs.Rows.{term_size, held_in, points_of, point_rows}
 use Rattle.variable_rows.proofs.Turns.{Going}
 use Rattle.term_rows.proofs.point_table.Given as goal
 
-abbrev pub invariant-loop-i : goal.invariant-loop-i
-invariant-loop-i l =
-    (l.i ≤ l.n) × (l.p + sums (λ k. term_size l.terms (get_or l.slots k 0)) (l.n - l.i) l.i * point_width ≡ l.at + held_in l.terms l.slots l.n * point_width)
+abbrev pub invariant-loop-k : goal.invariant-loop-k
+invariant-loop-k l =
+    (l.p + sums (λ i. term_size l.terms (get_or l.slots i 0)) (length l.slots - l.k-index) l.k-index * point_width
+    ≡ l.at + held_in l.terms l.slots (length l.slots) * point_width)
     × (length l.out ≡ length l.initial.out)
-    × Going (λ σ k. points_of (get_or l.terms (get_or l.slots k 0) no_term)) onward (point_rows l.terms l.slots l.n) l.n l.initial.out l.at l.i tt l.p l.out
-
-abbrev pub decreases-loop-i : goal.decreases-loop-i
-decreases-loop-i l = l.n - l.i
+    × Going (λ σ i. points_of (get_or l.terms (get_or l.slots i 0) no_term)) onward (point_rows l.terms l.slots (length l.slots)) (length l.slots) l.initial.out l.at l.k-index tt l.p l.out

@@ -1,6 +1,6 @@
 use mathlib.Core.Path.{◌≡◌}
 use mathlib.Core.List.{[], ◌∷◌}
-use Prim.Native.Nat.{◌+◌, ◌*◌, ◌-◌, ◌≤◌}
+use Prim.Native.Nat.{◌+◌, ◌*◌}
 use lib.ListN.{length, get_or}
 use Rattle.model.specs.Bounds.{M}
 use Rattle.model.specs.Image.{crisp_word, point_width}
@@ -10,10 +10,7 @@ use Rattle.term_rows.specs.Rows.{singleton_points}
 use Rattle.variable_rows.proofs.Turns.{Going}
 use Rattle.term_rows.proofs.singleton_points.Given as goal
 
-abbrev pub invariant-loop-i : goal.invariant-loop-i
-invariant-loop-i l =
-    (l.i ≤ l.n) × (l.p ≡ l.at + l.i * point_width) × (length l.out ≡ length l.initial.out)
-    × Going (λ σ k. crisp_word (get_or l.terms (get_or l.slots k 0) no_singleton).at.0 ∷ M ∷ []) onward (singleton_points l.terms l.slots l.n) l.n l.initial.out l.at l.i tt l.p l.out
-
-abbrev pub decreases-loop-i : goal.decreases-loop-i
-decreases-loop-i l = l.n - l.i
+abbrev pub invariant-loop-k : goal.invariant-loop-k
+invariant-loop-k l =
+    (l.p ≡ l.at + l.k-index * point_width) × (length l.out ≡ length l.initial.out)
+    × Going (λ σ i. crisp_word (get_or l.terms (get_or l.slots i 0) no_singleton).at.0 ∷ M ∷ []) onward (singleton_points l.terms l.slots (length l.slots)) (length l.slots) l.initial.out l.at l.k-index tt l.p l.out

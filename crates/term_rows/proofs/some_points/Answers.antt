@@ -11,24 +11,23 @@ use Rattle.word_writer.proofs.Over.{retold}
 use Rattle.variable_rows.proofs.Turns.{begins, goes, ends}
 use Rattle.term_rows.proofs.some_points.Goals as goal
 
-pub loop-j-init : goal.loop-j-init
-loop-j-init c = (search rules, search rules, refl, begins _ _ _ _ _ _ tt refl)
+pub loop-v-init : goal.loop-v-init
+loop-v-init c = (search rules, refl, begins _ _ _ _ _ _ tt refl)
 
-pub loop-j-preserved : goal.loop-j-preserved
-loop-j-preserved c =
-    let l = c.loop-j in
+pub loop-v-preserved : goal.loop-v-preserved
+loop-v-preserved c =
+    let l = c.loop-v in
     let w = c.copy-p in (
-      search rules,
       omega (arith, w.ensures.next),
       omega (arith, w.auto),
-      goes _ _ _ _ _ _ l.j tt l.p _ l.out _ (search rules) (omega (arith, c.requires))
-          (retold (ap (λ (x : ℕ). x ∷ (get_or c.args.points l.j no_point).degree.0 ∷ []) c.crisp_word.ensures) w.ensures) l.invariant.3,
+      goes _ _ _ _ _ _ l.v-index tt l.p _ l.out _ (search rules) (omega (arith, c.requires))
+          (retold (ap (λ (x : ℕ). x ∷ (get_or c.args.points.now l.v-index no_point).degree.0 ∷ []) c.crisp_word.ensures) w.ensures) l.invariant.2,
     )
 
 pub returns : goal.returns
 returns c =
-    let l = c.loop-j in
+    let l = c.loop-v in
     record {
-      wrote = ends (point_row c.args.points) onward _ _ _ _ l.j tt l.p l.out (search rules) l.invariant.3;
+      wrote = ends (point_row c.args.points.now) onward _ _ _ _ l.v-index tt l.p l.out (search rules) l.invariant.2;
       next = omega arith;
     }

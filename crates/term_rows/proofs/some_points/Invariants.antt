@@ -1,5 +1,5 @@
 use mathlib.Core.Path.{◌≡◌}
-use Prim.Native.Nat.{◌+◌, ◌*◌, ◌-◌, ◌≤◌}
+use Prim.Native.Nat.{◌+◌, ◌*◌}
 use lib.ListN.{length}
 use Rattle.model.specs.Image.{point_width}
 use Rattle.variable_rows.specs.Rows.{rows, onward}
@@ -7,10 +7,7 @@ use Rattle.term_rows.specs.Rows.{point_row}
 use Rattle.variable_rows.proofs.Turns.{Going}
 use Rattle.term_rows.proofs.some_points.Given as goal
 
-abbrev pub invariant-loop-j : goal.invariant-loop-j
-invariant-loop-j l =
-    (l.j ≤ l.n) × (l.p ≡ l.at + l.j * point_width) × (length l.out ≡ length l.initial.out)
-    × Going (point_row l.points) onward (rows (point_row l.points) onward l.n 0 tt) l.n l.initial.out l.at l.j tt l.p l.out
-
-abbrev pub decreases-loop-j : goal.decreases-loop-j
-decreases-loop-j l = l.n - l.j
+abbrev pub invariant-loop-v : goal.invariant-loop-v
+invariant-loop-v l =
+    (l.p ≡ l.at + l.v-index * point_width) × (length l.out ≡ length l.initial.out)
+    × Going (point_row l.points) onward (rows (point_row l.points) onward (length l.points) 0 tt) (length l.points) l.initial.out l.at l.v-index tt l.p l.out

@@ -6,6 +6,7 @@ use Prim.Native.Nat.{ℕ}
 use lib.Dec.{eqb}
 use lib.IntN.{ℤ}
 use lib.Signed.{le_z, lt_z}
+use borrow.Author.Rules.{rules}
 use borrow.Author.Tests.{eq-eqb, ne_eqb}
 use Rattle.model.specs.Block.{may_follow}
 use Rattle.term_rules.specs.declared.LastTwo.{LastTwo}
@@ -35,21 +36,21 @@ pub returns-then-n-eq0 : goal.returns-then-n-eq0
 unfolding may_stand may_follow
 returns-then-n-eq0 c = sym (simp (eq-eqb _ _ c.if-n-eq0.true))
 
-pub returns-then-not-not_above : goal.returns-then-not-not_above
-returns-then-not-not_above c =
+pub returns-else-le : goal.returns-else-le
+returns-else-le c =
     let a = c.args in
-    let above = c.not_above in
-    sym (low a.n a.last a.x.0 c.if-n-eq0.false (sym above.ensures ∙ c.if-not-not_above.true))
+    let e : le_z a.last.later.0 a.x.0 ≡ false = search rules in
+    c.if-le.false ∙ sym (low a.n a.last a.x.0 c.if-n-eq0.false e)
 
 pub returns-then-n-eq1 : goal.returns-then-n-eq1
 returns-then-n-eq1 c =
     let a = c.args in
-    let above = c.not_above in
-    sym (one a.n a.last a.x.0 c.if-n-eq0.false c.if-n-eq1.true
-    (sym above.ensures ∙ c.if-not-not_above.false))
+    let e : le_z a.last.later.0 a.x.0 ≡ true = search rules in
+    eq-eqb _ _ c.if-n-eq1.true ∙ sym (one a.n a.last a.x.0 c.if-n-eq0.false c.if-n-eq1.true e)
 
-pub returns : goal.returns
-returns c =
+pub returns-else-n-eq1 : goal.returns-else-n-eq1
+returns-else-n-eq1 c =
     let a = c.args in
-    let above = sym c.not_above.ensures ∙ c.if-not-not_above.false in
-    c.less.ensures ∙ sym (many a.n a.last a.x.0 c.if-n-eq0.false c.if-n-eq1.false above)
+    let e : le_z a.last.later.0 a.x.0 ≡ true = search rules in
+    let l : c.lt.result ≡ lt_z a.last.earlier.0 a.x.0 = search rules in
+    l ∙ sym (many a.n a.last a.x.0 c.if-n-eq0.false c.if-n-eq1.false e)

@@ -1,22 +1,13 @@
-use borrow.Author.Rules.{rules}
-use borrow.Author.Tests.{le-ltb, lt-ltb}
+use borrow.Author.Tests.{lt-ltb}
 use mathlib.Core.Path.{sym}
 use Rattle.model.specs.Keywords.{is_keyword}
 use Rattle.model.specs.Tokens.{word_kind}
 use Rattle.tokens.proofs.word_kind.Goals as goal
 
-pub returns-then-k-lt-COUNT : goal.returns-then-k-lt-COUNT
+pub returns-in-Some-clause-value : goal.returns-in-Some-clause-value
 unfolding word_kind is_keyword
-returns-then-k-lt-COUNT c =
-    record {
-      value = simp (c.requires, sym c.keyword_at-k.ensures.value, lt-ltb _ _ c.if-k-lt-COUNT.true);
-      within = search rules;
-    }
+returns-in-Some-clause-value c = simp (c.requires, sym c.in-Some.ensures.0, lt-ltb _ _ c.in-Some.ensures.1)
 
-pub returns : goal.returns
+pub returns-in-None-clause-value : goal.returns-in-None-clause-value
 unfolding word_kind is_keyword
-returns c =
-    record {
-      value = simp (c.requires, sym c.keyword_at-k.ensures.value, le-ltb _ _ c.if-k-lt-COUNT.false);
-      within = search rules;
-    }
+returns-in-None-clause-value c = simp (c.requires, sym c.in-None.ensures)

@@ -2,22 +2,24 @@ use borrow.Author.Rules.{rules}
 use mathlib.Core.Path.{◌≡◌}
 use Prim.Native.Nat.{◌-◌}
 use native.Mathlib.Omega.{arith}
+use lib.ListN.{length, take}
 use Rattle.model.specs.Bounds.{input_term_limit}
-use Rattle.variable_rows.specs.Rows.{input_size, slots_of, list_of, slots}
+use Rattle.variable_rows.specs.Rows.{input_size, slots_of}
 use Rattle.variable_rows.proofs.Lists.{slots_more, slots_end}
 use Rattle.variable_rows.proofs.input_slots.Goals as goal
 
 pub loop-i-init : goal.loop-i-init
 unfolding slots_of
 loop-i-init c =
-    let z : c.args.count - 0 ≡ c.args.count = omega arith in
-    (search rules, search rules, c.requires.2, rw z)
+    let n = length c.args.inputs.now in
+    let z : n - 0 ≡ n = omega arith in
+    (search rules, c.requires.2, rw z)
 
 pub with_slots-n-requires : goal.with_slots-n-requires
 with_slots-n-requires c =
     let l = c.loop-i in
     let m = c.requires.1 l.i in
-    (omega (arith, c.requires.0), m, omega (arith, c.requires.0), l.invariant.2.size)
+    (omega (arith, c.requires.0), m, omega (arith, c.requires.0), l.invariant.1.size)
 
 pub loop-i-preserved : goal.loop-i-preserved
 loop-i-preserved c =
@@ -25,14 +27,13 @@ loop-i-preserved c =
     let l = c.loop-i in
     let w = c.with_slots-n.ensures in
     let m = c.requires.1 l.i in (
-      omega arith,
       omega (arith, w.value.0),
-      w.below input_term_limit (omega (arith, c.requires.0)) l.invariant.2,
-      slots_more (input_size a.inputs) a.count l.i (list_of (slots l.list l.n)) _ _ (omega arith) w.value.1 l.invariant.3,
+      w.below input_term_limit (omega (arith, c.requires.0)) l.invariant.1,
+      slots_more (input_size a.inputs.now) (length a.inputs.now) l.i (take l.n l.list) _ _ (omega arith) w.value.1 l.invariant.2,
     )
 
 pub returns : goal.returns
 returns c =
     let a = c.args in
     let l = c.loop-i in
-    (l.invariant.2, omega arith, slots_end (input_size a.inputs) a.count l.i (list_of (slots l.list l.n)) _ (omega arith) l.invariant.3)
+    (l.invariant.1, omega arith, slots_end (input_size a.inputs.now) (length a.inputs.now) l.i (take l.n l.list) _ (omega arith) l.invariant.2)

@@ -8,38 +8,36 @@ use Rattle.word_writer.proofs.Over.{retold}
 use Rattle.variable_rows.proofs.Turns.{begins, goes, ends}
 use Rattle.variable_rows.proofs.input_table.Goals as goal
 
-pub loop-i-init : goal.loop-i-init
+pub loop-v-init : goal.loop-v-init
 unfolding input_rows
-loop-i-init c = (search rules, search rules, search rules, refl, begins _ _ _ _ _ _ 0 refl)
+loop-v-init c = (search rules, search rules, refl, begins _ _ _ _ _ _ 0 refl)
 
-pub input_row-row-requires : goal.input_row-row-requires
-input_row-row-requires c =
-    let l = c.loop-i in
-    (c.requires.1 l.i (omega (arith, c.requires.0)), omega (arith, c.requires.0), c.requires.2 l.i)
+pub input_row-requires : goal.input_row-requires
+input_row-requires c =
+    let l = c.loop-v in
+    (c.requires.1 l.v-index (omega (arith, c.requires.0)), omega (arith, c.requires.0), c.requires.2 l.v-index)
 
 pub overflow_add-first : goal.overflow_add-first
 overflow_add-first c =
-    omega (arith, c.requires.2 c.loop-i.i)
+    omega (arith, c.requires.2 c.loop-v.v-index)
 
-pub loop-i-preserved : goal.loop-i-preserved
+pub loop-v-preserved : goal.loop-v-preserved
 unfolding input_words name_words
-loop-i-preserved c =
-    let a = c.args in
-    let l = c.loop-i in
-    let row = c.input_row-row.ensures in
-    let wide : length c.input_row-row.result ≡ input_width = ap length row in
-    let more = c.requires.2 l.i in
-    let w = c.copy-p.ensures in (
-      search rules,
+loop-v-preserved c =
+    let l = c.loop-v in
+    let row = c.input_row.ensures in
+    let wide : length c.input_row.result ≡ input_width = ap length row in
+    let more = c.requires.2 l.v-index in
+    let w = c.copy-p in (
       omega arith,
-      omega (arith, w.next),
-      omega (arith, c.copy-p.auto),
-      goes _ _ _ _ _ _ l.i l.first l.p _ l.out _ (search rules) (omega (arith, c.requires)) (retold row w) l.invariant.4,
+      omega (arith, w.ensures.next),
+      omega (arith, w.auto),
+      goes _ _ _ _ _ _ l.v-index l.first l.p _ l.out _ (search rules) (omega (arith, c.requires)) (retold row w.ensures) l.invariant.3,
     )
 
 pub returns : goal.returns
-returns c = let l = c.loop-i in
+returns c = let l = c.loop-v in
     record {
-      wrote = ends _ _ _ _ _ _ l.i l.first l.p l.out (search rules) l.invariant.4;
+      wrote = ends _ _ _ _ _ _ l.v-index l.first l.p l.out (search rules) l.invariant.3;
       next = omega arith;
     }

@@ -1,7 +1,7 @@
-use mathlib.Core.Path.{ap, ◌∙◌}
 use Rattle.model.specs.Image.{name_words}
 use Rattle.laws.proofs.Slices.{part}
 use Rattle.variable_rows.proofs.name_words.Goals as goal
 
 pub returns : goal.returns
-returns c = let a = c.args in c.spelt.ensures ∙ ap name_words (part a.start a.end a.s.now)
+unfolding name_words
+returns c = simp (c.word.ensures.0, c.word-2.ensures.0, c.word-3.ensures.0, c.word-4.ensures.0, part)

@@ -1,5 +1,5 @@
 use mathlib.Core.Path.{◌≡◌}
-use Prim.Native.Nat.{◌+◌, ◌*◌, ◌-◌, ◌≤◌}
+use Prim.Native.Nat.{◌+◌, ◌*◌, ◌≤◌}
 use lib.ListN.{length, get_or}
 use Rattle.model.specs.Bounds.{term_limit}
 use Rattle.model.specs.Image.{output_width}
@@ -8,11 +8,8 @@ use Rattle.variable_rows.specs.Rows.{output_size, output_words, output_rows}
 use Rattle.variable_rows.proofs.Turns.{Going}
 use Rattle.variable_rows.proofs.output_table.Given as goal
 
-abbrev pub invariant-loop-o : goal.invariant-loop-o
-invariant-loop-o l =
-    (l.o ≤ l.count) × (l.n ≤ l.first + l.o * term_limit) × (l.p ≡ l.at + l.o * output_width) × (length l.out ≡ length l.initial.out)
-    × Going (λ m k. output_words l.s (get_or l.outputs k no_output) m) (λ m k. m + output_size l.outputs k) (output_rows l.s l.outputs l.count l.first) l.count l.initial.out l.at l.o l.n l.p
+abbrev pub invariant-loop-v : goal.invariant-loop-v
+invariant-loop-v l =
+    (l.n ≤ l.first + l.v-index * term_limit) × (l.p ≡ l.at + l.v-index * output_width) × (length l.out ≡ length l.initial.out)
+    × Going (λ m k. output_words l.s (get_or l.outputs k no_output) m) (λ m k. m + output_size l.outputs k) (output_rows l.s l.outputs (length l.outputs) l.first) (length l.outputs) l.initial.out l.at l.v-index l.n l.p
     l.out
-
-abbrev pub decreases-loop-o : goal.decreases-loop-o
-decreases-loop-o l = l.count - l.o

@@ -1,21 +1,10 @@
-use borrow.Author.Rules.{rules}
+use mathlib.Core.Path.{◌≡◌, ◌∙◌}
+use Prim.Native.Nat.{◌/◌, ◌%◌}
 use native.Mathlib.Omega.{arith}
-use lib.ListN.{length-set}
-use Rattle.model.specs.Basic.{gather}
-use Rattle.model.specs.Image.{bytes_of}
-use Rattle.word_writer.specs.Over.{over}
 use Rattle.word_writer.proofs.Over.{one_word}
 use Rattle.word_writer.proofs.word.Goals as goal
 
-pub bounds-out-k-2 : goal.bounds-out-k-2
-bounds-out-k-2 c = simp length-set (omega arith)
-
-pub bounds-out-k-3 : goal.bounds-out-k-3
-bounds-out-k-3 c = simp length-set (omega arith)
-
-pub bounds-out-k-4 : goal.bounds-out-k-4
-bounds-out-k-4 c = simp length-set (omega arith)
-
 pub returns : goal.returns
-unfolding over bytes_of gather
-returns c = one_word _ _ _ _ _ _ c.requires
+returns c =
+    let top : c.args.w / 16777216 % 256 ≡ c.args.w / 16777216 = omega arith in
+    one_word _ _ _ _ c.requires (c.copy_from_slice.ensures.after ∙ rw top at c.to_le_bytes.ensures)

@@ -1,8 +1,0 @@
-use borrow.Author.Tests.{le-leb, lt-leb}
-use Rattle.characters.proofs.is_between.Goals as goal
-
-pub returns-then-a-c : goal.returns-then-a-c
-returns-then-a-c c = simp (le-leb _ _ c.if-a-c.true)
-
-pub returns-else-a-c : goal.returns-else-a-c
-returns-else-a-c c = simp (lt-leb _ _ c.if-a-c.false)

@@ -1,8 +1,0 @@
-use borrow.Author.Tests.{eq-eqb, ne_eqb}
-use Rattle.characters.proofs.is_sign.Goals as goal
-
-pub returns-then-b-eq43 : goal.returns-then-b-eq43
-returns-then-b-eq43 c = simp (eq-eqb _ _ c.if-b-eq43.true)
-
-pub returns-else-b-eq43 : goal.returns-else-b-eq43
-returns-else-b-eq43 c = simp (ne_eqb _ _ c.if-b-eq43.false)
