@@ -5,7 +5,6 @@ ghost use Rattle.model.specs.Image.{word_at, decode};
 ghost use Rattle.model.specs.Listing.{listing};
 ghost use Rattle.listing_writer.specs.Prepends.{Writes};
 
-use bounds::LISTING;
 use declaration_listing::{input_lines, output_lines};
 use defuzzify_listing::defuzzify_parts;
 use fuzzify_listing::fuzzify_parts;
@@ -15,7 +14,7 @@ use name_listing::name;
 use rule_listing::rule_block;
 
 // The text of an accepted image.
-pub fn block(out: &mut Listing<LISTING>, image: &CheckedImage)
+pub fn block(out: &mut Listing, image: &CheckedImage)
     ensures { Writes (listing (decode (word_at image.now.stored.bytes.now))) out.old out.new }
 {
     out.puts(b"END_FUNCTION_BLOCK\n");

@@ -200,14 +200,14 @@ pub fn back(s: &[u8], c: Cursor, complete: bool) -> Cursor
 {
     let d = cursor::expect(s, c, token_kinds::END_RULEBLOCK);
     if d.kind != token_kinds::END_FUNCTION_BLOCK {
-        return cursor::refuse(d, Fault::WrongToken);
+        return cursor::refuse_for(d, Fault::WrongToken);
     }
     if !complete {
-        return cursor::refuse(d, Fault::PartMissing);
+        return cursor::refuse_for(d, Fault::PartMissing);
     }
     let e = cursor::advance(s, d);
     if e.kind == token_kinds::END {
         return e;
     }
-    cursor::refuse(e, Fault::WrongToken)
+    cursor::refuse_for(e, Fault::WrongToken)
 }

@@ -7,7 +7,6 @@ ghost use Rattle.model.specs.Image.{word_at, decode, rule_at, conclusion_at};
 ghost use Rattle.model.specs.Listing.{commaed, conclusion_text, weight_text};
 ghost use Rattle.listing_writer.specs.Prepends.{Writes};
 
-use bounds::LISTING;
 use header::{CONCLUSION_TERM, RULE_CONCLUSION_FIRST, RULE_CONCLUSIONS};
 use layout::CheckedImage;
 use listing_writer::Listing;
@@ -15,7 +14,7 @@ use model::Degree;
 use name_listing::name;
 
 // Conclusion j, counted over the whole table.
-fn conclusion(out: &mut Listing<LISTING>, image: &CheckedImage, j: usize)
+fn conclusion(out: &mut Listing, image: &CheckedImage, j: usize)
     requires { (j < image.now.stored.header.conclusions.rows)
         × (conclusion_ok (decode (word_at image.now.stored.bytes.now))
         (conclusion_at (word_at image.now.stored.bytes.now) j) ≡ true) }
@@ -38,7 +37,7 @@ fn conclusion(out: &mut Listing<LISTING>, image: &CheckedImage, j: usize)
 
 // The conclusions of rule i.
 #[tactic(auto, using(listing_writer::proofs::Lists::commaed_items))]
-pub fn conclusions(out: &mut Listing<LISTING>, image: &CheckedImage, i: usize)
+pub fn conclusions(out: &mut Listing, image: &CheckedImage, i: usize)
     requires { i < image.now.stored.header.rules.rows }
     ensures { Writes
         (commaed (map (conclusion_text (decode (word_at image.now.stored.bytes.now)))
@@ -58,7 +57,7 @@ pub fn conclusions(out: &mut Listing<LISTING>, image: &CheckedImage, i: usize)
 }
 
 // A weight other than 1.
-pub fn weight(out: &mut Listing<LISTING>, d: Degree)
+pub fn weight(out: &mut Listing, d: Degree)
     ensures { Writes (weight_text d.0) out.old out.new }
 {
     if d.0 as usize != bounds::M {

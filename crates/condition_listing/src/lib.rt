@@ -10,7 +10,6 @@ ghost use Rattle.model.specs.Listing.{input_term_name, wrapped, condition_text};
 ghost use Rattle.condition_words.specs.Forms.{number};
 ghost use Rattle.condition_listing.specs.Writes.{WritesCondition};
 
-use bounds::LISTING;
 use condition_words::{Form, NOT_WORD, TERM_WORD};
 use layout::CheckedImage;
 use listing_writer::Listing;
@@ -19,7 +18,7 @@ use subcondition_listing::term;
 
 // The condition that ends before word e, in parentheses if its form is looser than l; where it starts.
 #[cycle(condition_negation_operand)]
-fn operand(out: &mut Listing<LISTING>, image: &CheckedImage, e: usize, l: Form) -> usize
+fn operand(out: &mut Listing, image: &CheckedImage, e: usize, l: Form) -> usize
     requires { e * 4 ≤ length image.now.stored.bytes.now }
     ensures writes { WritesCondition (word_at image.now.stored.bytes.now)
         (λ c. wrapped (number l) (form_of c) (condition_text (input_term_name (decode (word_at image.now.stored.bytes.now))) c))
@@ -37,7 +36,7 @@ fn operand(out: &mut Listing<LISTING>, image: &CheckedImage, e: usize, l: Form) 
 
 // NOT of the condition that ends before word e; over a term it stands after IS.
 #[cycle(condition_negation_operand)]
-fn negation(out: &mut Listing<LISTING>, image: &CheckedImage, e: usize) -> usize
+fn negation(out: &mut Listing, image: &CheckedImage, e: usize) -> usize
     requires { e * 4 ≤ length image.now.stored.bytes.now }
     ensures writes { WritesCondition (word_at image.now.stored.bytes.now)
         (λ c. condition_text (input_term_name (decode (word_at image.now.stored.bytes.now))) (neg c))
@@ -59,7 +58,7 @@ fn negation(out: &mut Listing<LISTING>, image: &CheckedImage, e: usize) -> usize
 
 // The condition that ends before word e. Left of an operator its own form stands bare, right of it the next tighter.
 #[cycle(condition_negation_operand)]
-pub fn condition(out: &mut Listing<LISTING>, image: &CheckedImage, e: usize) -> usize
+pub fn condition(out: &mut Listing, image: &CheckedImage, e: usize) -> usize
     requires { e * 4 ≤ length image.now.stored.bytes.now }
     ensures writes { WritesCondition (word_at image.now.stored.bytes.now)
         (condition_text (input_term_name (decode (word_at image.now.stored.bytes.now))))

@@ -3,17 +3,25 @@ use mathlib.Core.Path.{◌≡◌, refl, sym, ap, ◌∙◌}
 use mathlib.Core.List.{List}
 use mathlib.Core.Bool.{false}
 use mathlib.Core.Option.{none, some}
-use Prim.Native.Nat.{ℕ, zero, suc, ◌≤◌}
+use Prim.Native.Nat.{ℕ, zero, suc, ◌≤◌, ◌<◌}
 use native.Mathlib.Omega.{arith}
 use borrow.Author.Tests.{ne_eqb}
 use lib.Dec.{eqb}
 use Rattle.model.specs.Basic.{tab}
-use Rattle.condition_words.specs.Machine.{stack_of}
+use Rattle.model.specs.Block.{Op}
+use Rattle.condition_words.specs.Machine.{binary, stack_of}
 use Rattle.condition_stack.specs.declared.Shape.{Shape}
 use Rattle.condition_stack.specs.Shapes.{shapes, held}
 use Rattle.condition_stack.specs.Stored.{condition_stored}
 use Rattle.condition_words.proofs.Passes.{Left, left_end, left_none}
 use Rattle.condition_stack.proofs.Accepted.{is_one, accepts, accepts_is}
+
+-- an operator that finds fewer than two subtrees
+pub one_operand : (m : ℕ) (o : Op) (l : List Shape) (n : ℕ) → n < 2 → none ≡ binary (shapes m) o (held l n)
+unfolding binary stack_of
+one_operand m o l zero h = refl
+one_operand m o l (suc zero) h = refl
+one_operand m o l (suc (suc n)) h = absurd (omega arith)
 
 one_stack : (l : List Shape) (n : ℕ) → is_one (some (held l n)) ≡ eqb n 1
 unfolding stack_of

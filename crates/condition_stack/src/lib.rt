@@ -1,7 +1,7 @@
 // The stack of a pass over a condition's words: of each subtree its form and its depth.
 #![tactic(auto)]
 
-ghost use Rattle.std.specs.Prelude.{◌≡◌, ℕ, ◌+◌, ◌≤◌, ◌<◌, length, is_some, IfSome, IfNone, [], ◌∷◌, ltb};
+ghost use Rattle.std.specs.Prelude.{◌≡◌, ℕ, ◌+◌, ◌≤◌, ◌<◌, length, is_some, [], ltb};
 ghost use Rattle.model.specs.Block.{Op};
 ghost use Rattle.model.specs.Parentheses.{bare_right, opened};
 ghost use Rattle.condition_words.specs.Forms.{number, operator};
@@ -23,12 +23,7 @@ impl Shape {
     fn opened(&self, bare: Form) -> usize
         ensures { result ≡ opened (number bare) (number self.now.form) self.now.depth }
     {
-        let depth = usize::from(self.depth);
-        if self.form.is_looser(bare) {
-            depth + 1
-        } else {
-            depth
-        }
+        usize::from(self.depth) + usize::from(self.form.is_looser(bare))
     }
 }
 
@@ -55,51 +50,63 @@ impl Stack {
         }
     }
 
-    #[tactic(auto, using(condition_words::proofs::Stacks::stack_one), unfolding(condition_words::specs::Machine::stack_of))]
-    fn pop(&mut self) -> Option<Shape>
-        ensures some { IfSome result (λ a. held self.old.shapes self.old.height ≡ a ∷ held self.new.shapes self.new.height) }
-        ensures none { IfNone result (held self.old.shapes self.old.height ≡ []) }
-    {
-        if self.height == 0 {
-            return None;
-        }
-        self.height -= 1;
-        Some(self.shapes[self.height])
-    }
-
-    // One more subtree. A step answers None where the words are no condition.
+    // A subtree in the place `height`, as the last one.
     #[tactic(auto, using(condition_words::proofs::Stacks::stack_push, condition_words::proofs::Stacks::length_stack), unfolding(condition_words::specs::Machine::added))]
-    pub fn push(&mut self, form: Form, depth: usize) -> Option<()>
-        ensures { (m : ℕ) → view self.new.shapes self.new.height (is_some result) ≡ added (shapes m) (shape form depth) (held self.old.shapes self.old.height) }
+    fn put(&mut self, height: usize, form: Form, depth: usize) -> Option<()>
+        requires { height < room }
+        ensures { (m : ℕ) → view self.new.shapes self.new.height (is_some result) ≡ added (shapes m) (shape form depth) (held self.old.shapes height) }
     {
-        if depth <= DEPTH && self.height < ROOM {
-            self.shapes[self.height] = Shape {
+        if depth <= DEPTH {
+            self.shapes[height] = Shape {
                 form,
                 depth: depth as u8,
             };
-            self.height += 1;
+            self.height = height + 1;
             Some(())
         } else {
             None
         }
     }
 
-    #[tactic(auto, unfolding(condition_words::specs::Machine::unary, crate::specs::Shapes::negated_shape))]
+    // One more subtree. A step answers None where the words are no condition.
+    #[tactic(auto, using(condition_words::proofs::Stacks::length_stack), unfolding(condition_words::specs::Machine::added))]
+    pub fn push(&mut self, form: Form, depth: usize) -> Option<()>
+        ensures { (m : ℕ) → view self.new.shapes self.new.height (is_some result) ≡ added (shapes m) (shape form depth) (held self.old.shapes self.old.height) }
+    {
+        if self.height < ROOM {
+            self.put(self.height, form, depth)
+        } else {
+            None
+        }
+    }
+
+    #[tactic(auto, using(condition_words::proofs::Stacks::stack_one), unfolding(condition_words::specs::Machine::stack_of, condition_words::specs::Machine::unary, crate::specs::Shapes::negated_shape))]
     pub fn negate(&mut self) -> Option<()>
         ensures { (m : ℕ) → view self.new.shapes self.new.height (is_some result) ≡ unary (shapes m) (held self.old.shapes self.old.height) }
     {
-        let a = self.pop()?;
-        self.push(a.form.negated(), a.opened(Form::NotTerm))
+        if self.height == 0 {
+            return None;
+        }
+        let last = self.height - 1;
+        let shapes = &self.shapes;
+        let a = &shapes[last];
+        let (form, depth) = (a.form.negated(), a.opened(Form::NotTerm));
+        self.put(last, form, depth)
     }
 
     // An operator of this form, right of which forms up to `right` stand bare; left of it those up to its own.
-    #[tactic(auto, unfolding(condition_words::specs::Machine::binary, crate::specs::Shapes::joined_shape))]
+    #[tactic(auto, using(condition_words::proofs::Stacks::stack_two, crate::proofs::Steps::one_operand), unfolding(condition_words::specs::Machine::binary, crate::specs::Shapes::joined_shape))]
     pub fn join(&mut self, form: Form, right: Form) -> Option<()>
         ensures { (m : ℕ) (o : Op) → form ≡ operator o → number right ≡ bare_right o
             → view self.new.shapes self.new.height (is_some result) ≡ binary (shapes m) o (held self.old.shapes self.old.height) }
     {
-        let b = self.pop()?;
-        let a = self.pop()?;
-        self.push(form, a.opened(form).max(b.opened(right)))
+        if self.height < 2 {
+            return None;
+        }
+        let first = self.height - 2;
+        let shapes = &self.shapes;
+        let (a, b) = (&shapes[first], &shapes[first + 1]);
+        let depth = a.opened(form).max(b.opened(right));
+        self.put(first, form, depth)
     }
 }

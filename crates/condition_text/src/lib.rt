@@ -38,7 +38,7 @@ fn refused(p: Pending, fault: Fault) -> Pending
     ensures stops { Stops p result }
 {
     Pending {
-        cursor: cursor::refuse(p.cursor, fault),
+        cursor: cursor::refuse_for(p.cursor, fault),
         ..p
     }
 }

@@ -1,4 +1,5 @@
--- A helper: the forms as model's Parentheses numbers them.
+-- A helper: the forms as model's Parentheses numbers them. `negated_is` and `operator_is` of
+-- condition_stack/proofs/Accepted tie `negated` and `operator` to model's `negated_form` and `rank`.
 use Rattle.std.specs.Prelude.{ℕ}
 use Rattle.model.specs.Parentheses.{TERM_FORM, NOT_TERM_FORM, NOT_FORM, AND_FORM, OR_FORM}
 use Rattle.model.specs.Block.{Op, and, or}

@@ -10,6 +10,8 @@ use borrow.Author.Tests.{eq-eqb, ne_eqb, eqb-true, eqb-false}
 use lib.Dec.{eqb}
 use lib.ListN.{length}
 use lib.Seq.{length-slice}
+use Rattle.std.specs.Coded.{le_prop}
+use Rattle.std.proofs.Math.Nat.{zero-lt-suc}
 use Rattle.model.specs.Keywords.{END}
 use Rattle.model.specs.Block.{Block}
 use Rattle.model.specs.Parse.{Parse, Part, Checks, kind, text, here, is, refuse, advance, change, judged, expect, repeat_on, repeated}
@@ -21,8 +23,8 @@ use Rattle.cursor.specs.declared.Cursor.{Cursor}
 use Rattle.refusals.specs.declared.Fault.{Fault}
 use Rattle.refusals.specs.Faults.{number}
 use Rattle.refusals.specs.declared.Fault.TheVariants.{WrongToken, WrongNumber, WrongName, NotDeclared, TooMany, WrongPosition, Unpaired, PartMissing}
-use Rattle.cursor.specs.declared.Refused.{Refused}
-use Rattle.cursor.specs.View.{why_of, place_of, current, text_of, seen, Fits, left, Step, Moves, fault}
+use Rattle.cursor.specs.declared.refusal.Refused.{Refused}
+use Rattle.cursor.specs.View.{why_of, place_of, refused_by, current, text_of, seen, Fits, left, Step, Moves, fault}
 
 -- no fault has the number 0
 pub above_zero : (f : Fault) → eqb (number f) 0 ≡ false
@@ -40,7 +42,7 @@ never_zero f e = true≢false (sym (eq-eqb (number f) 0 e) ∙ above_zero f)
 
 pub still_refused : (o : Option Refused) → (o ≡ None → ⊥) → eqb (why_of o) 0 ≡ false
 still_refused None h = absurd (h refl)
-still_refused (Some r) h = above_zero r.fault
+still_refused (Some r) h = ne_eqb _ _ (λ e. omega (arith, r.above, e))
 
 -- what a test of a refusal says
 pub was_refused : {o : Option Refused} {b : Bool} → b ≡ is_some o → b ≡ true → o ≡ None → ⊥
@@ -95,16 +97,25 @@ pub some_left : (s : List ℕ) (c : Cursor) → (c.kind ≡ END → ⊥) → 0 <
 unfolding left
 some_left s c h = simp (ne_eqb _ _ h) (omega arith)
 
-abbrev pub halted : Cursor → Fault → Cursor
-halted c f = record { kind = END; start = 0; end = 0; refused = Some (record { fault = f; place = c.start }) }
+-- a refusal by its number and its place
+pub refused_is : (r : Refused) → Some r ≡ refused_by r.why r.place
+refused_is r = by r.why r.above
+  where
+    by : (w : ℕ) (h : 0 < w) → Some (record { why = w; place = r.place; above = h }) ≡ refused_by w r.place
+    by zero h = absurd (omega arith)
+    by (suc w) h = ap (λ (k : 0 < suc w). Some (record { why = suc w; place = r.place; above = k })) (le_prop h (zero-lt-suc w))
+
+abbrev pub halted : Cursor → ℕ → Cursor
+halted c w = record { kind = END; start = 0; end = 0; refused = refused_by w c.start }
 
 pub kept : (s : List ℕ) (c : Cursor) (w : ℕ) → (c.refused ≡ None → ⊥) → Fits s c → Step (refuse w) s c c
 unfolding refuse seen
 kept s c w h g = record { reads = λ b n. sym (simp (still_refused c.refused h)); fewer = omega arith; fits = g; sticky = λ q. q }
 
-pub stopped : (s : List ℕ) (c : Cursor) (f : Fault) → c.refused ≡ None → Fits s c → Step (refuse (number f)) s c (halted c f)
+pub stopped : (s : List ℕ) (c : Cursor) (w : ℕ) → c.refused ≡ None → (w ≡ 0 → ⊥) → Fits s c → Step (refuse w) s c (halted c w)
 unfolding refuse seen here left after
-stopped s c f h g = record {
+stopped s c zero h k g = absurd (k refl)
+stopped s c (suc w) h k g = record {
   reads = λ b n. sym (simp h);
   fewer = omega arith;
   fits =
@@ -112,9 +123,9 @@ stopped s c f h g = record {
   sticky = λ q. h;
 }
 
-pub stopped_moves : (s : List ℕ) (c : Cursor) (f : Fault) → Moves s c (halted c f)
+pub stopped_moves : (s : List ℕ) (c : Cursor) (w : ℕ) → Moves s c (halted c w)
 unfolding left
-stopped_moves s c f h = simp (ne_eqb _ _ h) (omega arith)
+stopped_moves s c w h = simp (ne_eqb _ _ h) (omega arith)
 
 -- the next token in the place of the current one
 abbrev pub moved : Cursor → Found → Cursor

@@ -1,6 +1,7 @@
 -- A helper: what a cursor stands for: how far the text is read, beside a block and a number of condition words. `Step`
 -- ties a move of the cursor to a part of the rules, a `Part` of the model.
-use Rattle.std.specs.Prelude.{◌≡◌, Option, Some, None, Result, Ok, Err, is_none, List, [], ◌∷◌, ℕ, suc, ◌-◌, ◌≤◌, ◌<◌, eqb, leb, length, if◌then◌else◌}
+use Rattle.std.specs.Prelude.{◌≡◌, Option, Some, None, Result, Ok, Err, is_none, List, [], ◌∷◌, ℕ, zero, suc, ◌-◌, ◌≤◌, ◌<◌, eqb, leb, length, if◌then◌else◌}
+use Rattle.std.proofs.Math.Nat.{zero-lt-suc}
 use Rattle.std.proofs.Math.Seq.{slice}
 use Rattle.model.specs.Bounds.{name_limit}
 use Rattle.model.specs.Keywords.{END, NAME}
@@ -11,7 +12,7 @@ use Rattle.tokens.specs.declared.Token.{Token}
 use Rattle.refusals.specs.declared.Fault.{Fault}
 use Rattle.refusals.specs.Faults.{number}
 use Rattle.cursor.specs.declared.Cursor.{Cursor}
-use Rattle.cursor.specs.declared.Refused.{Refused}
+use Rattle.cursor.specs.declared.refusal.Refused.{Refused}
 
 abbrev pub current : Cursor → Token
 current c = record { kind = c.kind; start = c.start; end = c.end }
@@ -23,7 +24,7 @@ text_of s c = slice c.start c.end s
 -- by which number reading was refused, and at which place; 0 where it was not
 abbrev pub why_of : Option Refused → ℕ
 why_of None = 0
-why_of (Some r) = number r.fault
+why_of (Some r) = r.why
 
 abbrev pub place_of : Option Refused → ℕ
 place_of None = 0
@@ -69,9 +70,14 @@ abbrev pub number_of : {A : Type 0} → Result A Fault → ℕ
 number_of (Ok x) = 0
 number_of (Err f) = number f
 
--- c refused by a fault, where it is not refused yet
-unfoldable pub refused_at : Cursor → Fault → Cursor
-refused_at c f = if is_none c.refused then record { kind = END; start = 0; end = 0; refused = Some (record { fault = f; place = c.start }) } else c
+-- by a number at a place; by 0 nothing is refused
+abbrev pub refused_by : ℕ → ℕ → Option Refused
+refused_by zero p = None
+refused_by (suc w) p = Some (record { why = suc w; place = p; above = zero-lt-suc w })
+
+-- c refused by w, where it is not refused yet
+unfoldable pub refused_at : Cursor → ℕ → Cursor
+refused_at c w = if is_none c.refused then record { kind = END; start = 0; end = 0; refused = refused_by w c.start } else c
 
 -- by which number the current token is refused as a name
 unfoldable pub name_fault : Cursor → ℕ

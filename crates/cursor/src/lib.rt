@@ -10,16 +10,12 @@ ghost use Rattle.model.specs.Tokens.{tokens};
 ghost use Rattle.refusals.specs.Faults.{number};
 ghost use Rattle.cursor.specs.View.{seen, Fits, left, Step, Moves, fault, number_of, refused_at, name_fault};
 
+mod refusal;
+
+pub use refusal::Refused;
 use refusals::Fault;
 
-// By what fault reading was refused, and at which place.
-#[derive(Clone, Copy)]
-pub struct Refused {
-    pub fault: Fault,
-    pub place: usize,
-}
-
-// The kind stands last: a padding between the fields would be copied with them in pieces.
+// The kind stands last: a padding is copied with the fields in pieces, and in front of them it would bring one more.
 #[derive(Clone, Copy)]
 pub struct Cursor {
     pub start: usize,
@@ -44,11 +40,12 @@ pub fn begin(s: &[u8]) -> Cursor
     }
 }
 
-pub fn refuse(c: Cursor, fault: Fault) -> Cursor
-    ensures by_index { (s : List ℕ) → Fits s c → Step (refused (number fault)) s c result }
+pub fn refuse(c: Cursor, why: u8) -> Cursor
+    requires { 0 < why }
+    ensures by_index { (s : List ℕ) → Fits s c → Step (refused why) s c result }
     ensures moves { (s : List ℕ) → Fits s c → Moves s c result }
     ensures halted { result.refused ≡ None → ⊥ }
-    ensures exact { result ≡ refused_at c fault }
+    ensures exact { result ≡ refused_at c why }
 {
     if c.refused.is_some() {
         return c;
@@ -58,10 +55,19 @@ pub fn refuse(c: Cursor, fault: Fault) -> Cursor
         start: 0,
         end: 0,
         refused: Some(Refused {
-            fault,
+            why,
             place: c.start,
         }),
     }
+}
+
+pub fn refuse_for(c: Cursor, fault: Fault) -> Cursor
+    ensures by_index { (s : List ℕ) → Fits s c → Step (refused (number fault)) s c result }
+    ensures moves { (s : List ℕ) → Fits s c → Moves s c result }
+    ensures halted { result.refused ≡ None → ⊥ }
+    ensures exact { result ≡ refused_at c (number fault) }
+{
+    refuse(c, fault.number())
 }
 
 pub fn advance(s: &[u8], c: Cursor) -> Cursor
@@ -87,7 +93,7 @@ pub fn expect(s: &[u8], c: Cursor, k: u8) -> Cursor
     if c.kind == k {
         return advance(s, c);
     }
-    refuse(c, Fault::WrongToken)
+    refuse_for(c, Fault::WrongToken)
 }
 
 // By what fault the current token is refused as a name, if it is none.

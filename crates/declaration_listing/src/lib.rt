@@ -8,7 +8,6 @@ ghost use Rattle.model.specs.Image.{word_at, input_at, output_at, decode};
 ghost use Rattle.model.specs.Listing.{type_text, input_line, output_line};
 ghost use Rattle.listing_writer.specs.Prepends.{Writes};
 
-use bounds::LISTING;
 use header::{INPUT_TYPE, REAL, Stored};
 use layout::CheckedImage;
 use listing_writer::Listing;
@@ -16,7 +15,7 @@ use name_listing::name;
 
 // The type of input i.
 #[tactic(auto, unfolding(model::specs::Image::input_at))]
-fn input_type(out: &mut Listing<LISTING>, image: &Stored, i: usize)
+fn input_type(out: &mut Listing, image: &Stored, i: usize)
     requires { i < image.now.header.inputs.rows }
     ensures { Writes (type_text (input_at (word_at image.now.bytes.now) i).type) out.old out.new }
 {
@@ -29,7 +28,7 @@ fn input_type(out: &mut Listing<LISTING>, image: &Stored, i: usize)
 }
 
 #[tactic(auto, using(listing_writer::proofs::Prepends::parts), unfolding(model::specs::Image::input_at))]
-fn input_line(out: &mut Listing<LISTING>, image: &Stored, i: usize)
+fn input_line(out: &mut Listing, image: &Stored, i: usize)
     requires { i < image.now.header.inputs.rows }
     ensures { Writes (input_line (input_at (word_at image.now.bytes.now) i)) out.old out.new }
 {
@@ -41,7 +40,7 @@ fn input_line(out: &mut Listing<LISTING>, image: &Stored, i: usize)
 }
 
 #[tactic(auto, using(listing_writer::proofs::Lists::items), unfolding(model::specs::Image::decode))]
-pub fn input_lines(out: &mut Listing<LISTING>, image: &CheckedImage)
+pub fn input_lines(out: &mut Listing, image: &CheckedImage)
     ensures { Writes (gather input_line (decode (word_at image.now.stored.bytes.now)).inputs) out.old out.new }
 {
     for i in (0..image.stored.header.inputs.rows).rev() {
@@ -50,7 +49,7 @@ pub fn input_lines(out: &mut Listing<LISTING>, image: &CheckedImage)
 }
 
 #[tactic(auto, using(listing_writer::proofs::Prepends::parts), unfolding(model::specs::Image::output_at))]
-fn output_line(out: &mut Listing<LISTING>, image: &Stored, i: usize)
+fn output_line(out: &mut Listing, image: &Stored, i: usize)
     requires { i < image.now.header.outputs.rows }
     ensures { Writes (output_line (output_at (word_at image.now.bytes.now) i)) out.old out.new }
 {
@@ -60,7 +59,7 @@ fn output_line(out: &mut Listing<LISTING>, image: &Stored, i: usize)
 }
 
 #[tactic(auto, using(listing_writer::proofs::Lists::items), unfolding(model::specs::Image::decode))]
-pub fn output_lines(out: &mut Listing<LISTING>, image: &CheckedImage)
+pub fn output_lines(out: &mut Listing, image: &CheckedImage)
     ensures { Writes (gather output_line (decode (word_at image.now.stored.bytes.now)).outputs) out.old out.new }
 {
     for i in (0..image.stored.header.outputs.rows).rev() {

@@ -48,7 +48,7 @@ pub fn block_name(s: &[u8], c: Cursor) -> BlockName
 {
     if let Err(fault) = cursor::name_fault(c) {
         return BlockName {
-            cursor: cursor::refuse(c, fault),
+            cursor: cursor::refuse_for(c, fault),
             start: 0,
             end: 0,
         };
@@ -97,7 +97,7 @@ fn input(s: &[u8], names: &mut Names, p: DeclaredInputs, m: usize) -> DeclaredIn
     let n = p.count;
     let mut r = p;
     if let Err(fault) = new_fault(s, names, n, m, n < bounds::INPUTS, c) {
-        r.cursor = cursor::refuse(c, fault);
+        r.cursor = cursor::refuse_for(c, fault);
         return r;
     }
     names[n] = c.start;
@@ -124,7 +124,7 @@ fn output(s: &[u8], names: &mut Names, p: DeclaredOutputs, m: usize) -> Declared
     let n = p.count;
     let mut r = p;
     if let Err(fault) = new_fault(s, names, m, n, n < bounds::OUTPUTS, c) {
-        r.cursor = cursor::refuse(c, fault);
+        r.cursor = cursor::refuse_for(c, fault);
         return r;
     }
     names[lookup::FIRST_OUTPUT + n] = c.start;

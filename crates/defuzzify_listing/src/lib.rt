@@ -9,7 +9,6 @@ ghost use Rattle.model.specs.Ranges.{range_view, default_view};
 ghost use Rattle.layout.specs.Tables.{input_terms_in};
 ghost use Rattle.listing_writer.specs.Prepends.{Writes};
 
-use bounds::LISTING;
 use header::{OUTPUT_FIRST, OUTPUT_TERMS, TERM_FIRST};
 use layout::CheckedImage;
 use listing_writer::Listing;
@@ -20,7 +19,7 @@ use stored_points::place_at;
 use stored_ranges::{default_of, range_of};
 
 // Term t of the image, as an output has it.
-fn singleton(out: &mut Listing<LISTING>, image: &CheckedImage, t: usize)
+fn singleton(out: &mut Listing, image: &CheckedImage, t: usize)
     requires { (input_terms_in (word_at image.now.stored.bytes.now) ≤ t) × (t < image.now.stored.header.terms.rows) }
     ensures { Writes (singleton_line (singleton_at (word_at image.now.stored.bytes.now) t)) out.old out.new }
 {
@@ -35,7 +34,7 @@ fn singleton(out: &mut Listing<LISTING>, image: &CheckedImage, t: usize)
 
 // The n terms from the first on.
 #[tactic(auto, using(listing_writer::proofs::Lists::items))]
-fn singletons(out: &mut Listing<LISTING>, image: &CheckedImage, first: usize, n: usize)
+fn singletons(out: &mut Listing, image: &CheckedImage, first: usize, n: usize)
     requires { (input_terms_in (word_at image.now.stored.bytes.now) ≤ first)
         × (first + n ≤ image.now.stored.header.terms.rows) }
     ensures { Writes (gather singleton_line (tab (singleton_at (word_at image.now.stored.bytes.now)) n first))
@@ -46,7 +45,7 @@ fn singletons(out: &mut Listing<LISTING>, image: &CheckedImage, first: usize, n:
     }
 }
 
-fn range_line(out: &mut Listing<LISTING>, range: Option<Range>)
+fn range_line(out: &mut Listing, range: Option<Range>)
     ensures { Writes (range_line (range_view range)) out.old out.new }
 {
     if let Some(r) = range {
@@ -58,7 +57,7 @@ fn range_line(out: &mut Listing<LISTING>, range: Option<Range>)
     }
 }
 
-fn default_value(out: &mut Listing<LISTING>, default: Option<Crisp>)
+fn default_value(out: &mut Listing, default: Option<Crisp>)
     ensures { Writes (default_text (default_view default)) out.old out.new }
 {
     match default {
@@ -68,7 +67,7 @@ fn default_value(out: &mut Listing<LISTING>, default: Option<Crisp>)
 }
 
 #[tactic(auto, using(listing_writer::proofs::Prepends::parts), unfolding(model::specs::Listing::defuzzify_text, model::specs::Image::output_at))]
-fn defuzzify_part(out: &mut Listing<LISTING>, image: &CheckedImage, i: usize)
+fn defuzzify_part(out: &mut Listing, image: &CheckedImage, i: usize)
     requires { i < image.now.stored.header.outputs.rows }
     ensures { Writes (defuzzify_text (output_at (word_at image.now.stored.bytes.now) i)) out.old out.new }
 {
@@ -87,7 +86,7 @@ fn defuzzify_part(out: &mut Listing<LISTING>, image: &CheckedImage, i: usize)
 }
 
 #[tactic(auto, using(listing_writer::proofs::Lists::items), unfolding(model::specs::Image::decode))]
-pub fn defuzzify_parts(out: &mut Listing<LISTING>, image: &CheckedImage)
+pub fn defuzzify_parts(out: &mut Listing, image: &CheckedImage)
     ensures { Writes (gather defuzzify_text (decode (word_at image.now.stored.bytes.now)).outputs) out.old out.new }
 {
     for i in (0..image.stored.header.outputs.rows).rev() {

@@ -47,7 +47,7 @@ fn upper_end(s: &[u8], p: Outputs, o: usize, x: Crisp) -> Outputs
     let c = p.cursor;
     match number_tokens::crisp_here(s, c) {
         Err(fault) => Outputs {
-            cursor: cursor::refuse(c, fault),
+            cursor: cursor::refuse_for(c, fault),
             ..p
         },
         Ok(y) if crisp::less(x, y) => {
@@ -62,7 +62,7 @@ fn upper_end(s: &[u8], p: Outputs, o: usize, x: Crisp) -> Outputs
             r
         }
         Ok(_) => Outputs {
-            cursor: cursor::refuse(c, Fault::WrongPosition),
+            cursor: cursor::refuse_for(c, Fault::WrongPosition),
             ..p
         },
     }
@@ -80,7 +80,7 @@ fn range_from(s: &[u8], p: Outputs, o: usize) -> Outputs
         Ok(x) => x,
         Err(fault) => {
             return Outputs {
-                cursor: cursor::refuse(c, fault),
+                cursor: cursor::refuse_for(c, fault),
                 ..p
             };
         }
@@ -145,7 +145,7 @@ fn singleton_at(s: &[u8], c: Cursor, v: Output, start: usize, end: usize) -> Sin
 {
     match figure_here(s, c, v) {
         Err(fault) => SingletonRead {
-            cursor: cursor::refuse(c, fault),
+            cursor: cursor::refuse_for(c, fault),
             term: None,
         },
         Ok(at) => SingletonRead {
@@ -166,7 +166,7 @@ fn default_number(s: &[u8], p: Outputs, o: usize) -> Outputs
     let v = p.rows[o];
     match figure_here(s, c, v) {
         Err(fault) => Outputs {
-            cursor: cursor::refuse(c, fault),
+            cursor: cursor::refuse_for(c, fault),
             ..p
         },
         Ok(default) => {
@@ -212,7 +212,7 @@ fn singleton_named(s: &[u8], names: &Names, c: Cursor, o: usize, v: Output) -> S
 {
     if let Err(fault) = term_fault(s, names, o, v.terms, c) {
         return SingletonRead {
-            cursor: cursor::refuse(c, fault),
+            cursor: cursor::refuse_for(c, fault),
             term: None,
         };
     }
@@ -232,7 +232,7 @@ fn output_term(s: &[u8], names: &Names, c: Cursor, o: usize, v: Output) -> Singl
 {
     if bounds::TERMS <= v.terms {
         return SingletonRead {
-            cursor: cursor::refuse(c, Fault::TooMany),
+            cursor: cursor::refuse_for(c, Fault::TooMany),
             term: None,
         };
     }
@@ -259,7 +259,7 @@ fn output_terms(s: &[u8], names: &mut Names, p: Outputs, o: usize) -> Outputs
     let mut c = p.cursor;
     let mut r = p;
     if c.kind != token_kinds::TERM {
-        r.cursor = cursor::refuse(c, Fault::WrongToken);
+        r.cursor = cursor::refuse_for(c, Fault::WrongToken);
         return r;
     }
     while c.kind == token_kinds::TERM {
@@ -334,15 +334,15 @@ fn defuzzify_named(s: &[u8], names: &mut Names, p: Outputs) -> Outputs
     let c = p.cursor;
     let mut q = p;
     if let Err(fault) = cursor::name_fault(c) {
-        q.cursor = cursor::refuse(c, fault);
+        q.cursor = cursor::refuse_for(c, fault);
         return q;
     }
     let Some(o) = lookup::find(s, names, lookup::FIRST_OUTPUT, p.count, c.start, c.end) else {
-        q.cursor = cursor::refuse(c, Fault::NotDeclared);
+        q.cursor = cursor::refuse_for(c, Fault::NotDeclared);
         return q;
     };
     if p.rows[o].terms != 0 {
-        q.cursor = cursor::refuse(c, Fault::WrongName);
+        q.cursor = cursor::refuse_for(c, Fault::WrongName);
         return q;
     }
     q.cursor = cursor::advance(s, c);

@@ -11,7 +11,7 @@ ghost use Rattle.terms.specs.Points.{point_view, point_views};
 ghost use Rattle.layout.specs.Tables.{input_terms_in};
 ghost use Rattle.listing_writer.specs.Prepends.{Writes};
 
-use bounds::{LISTING, POINTS};
+use bounds::POINTS;
 use header::{INPUT_FIRST, INPUT_TERMS, Stored, TERM_FIRST, TERM_POINTS};
 use layout::CheckedImage;
 use listing_writer::Listing;
@@ -21,7 +21,7 @@ use name_listing::name;
 use number_listing::{crisp, unit};
 use stored_points::point_at;
 
-fn point(out: &mut Listing<LISTING>, p: Point)
+fn point(out: &mut Listing, p: Point)
     ensures { Writes (point_text (point_view p)) out.old out.new }
 {
     out.puts(b")");
@@ -32,7 +32,7 @@ fn point(out: &mut Listing<LISTING>, p: Point)
 }
 
 #[tactic(auto, using(listing_writer::proofs::Lists::commaed_items))]
-fn points(out: &mut Listing<LISTING>, ps: &[Point])
+fn points(out: &mut Listing, ps: &[Point])
     ensures { Writes (commaed (map point_text (map point_view ps.now))) out.old out.new }
 {
     for i in (0..ps.len()).rev() {
@@ -45,7 +45,7 @@ fn points(out: &mut Listing<LISTING>, ps: &[Point])
 
 // A term by its name and its points.
 #[tactic(auto, using(listing_writer::proofs::Prepends::parts), unfolding(model::specs::Listing::term_line))]
-pub fn term_line(out: &mut Listing<LISTING>, name: &[u8], ps: &[Point])
+pub fn term_line(out: &mut Listing, name: &[u8], ps: &[Point])
     ensures { Writes (term_line (record { name = name.now; points = map point_view ps.now })) out.old out.new }
 {
     out.puts(b";\n");
@@ -71,7 +71,7 @@ fn term_points(image: &Stored, first: usize, n: usize) -> [Point; POINTS]
 }
 
 // Term t of the image.
-fn input_term(out: &mut Listing<LISTING>, image: &CheckedImage, t: usize)
+fn input_term(out: &mut Listing, image: &CheckedImage, t: usize)
     requires { (t < image.now.stored.header.terms.rows) × (t < input_terms_in (word_at image.now.stored.bytes.now))
         × (term_ok (term_at (word_at image.now.stored.bytes.now) t) ≡ true) }
     ensures { Writes (term_line (term_at (word_at image.now.stored.bytes.now) t)) out.old out.new }
@@ -87,7 +87,7 @@ fn input_term(out: &mut Listing<LISTING>, image: &CheckedImage, t: usize)
 
 // The n terms from the first on.
 #[tactic(auto, using(listing_writer::proofs::Lists::items))]
-fn input_terms(out: &mut Listing<LISTING>, image: &CheckedImage, first: usize, n: usize)
+fn input_terms(out: &mut Listing, image: &CheckedImage, first: usize, n: usize)
     requires { (first + n ≤ input_terms_in (word_at image.now.stored.bytes.now))
         × (all term_ok (tab (term_at (word_at image.now.stored.bytes.now)) n first) ≡ true) }
     ensures { Writes (gather term_line (tab (term_at (word_at image.now.stored.bytes.now)) n first)) out.old out.new }
@@ -98,7 +98,7 @@ fn input_terms(out: &mut Listing<LISTING>, image: &CheckedImage, first: usize, n
 }
 
 #[tactic(auto, using(listing_writer::proofs::Prepends::parts), unfolding(model::specs::Listing::fuzzify_text, model::specs::Image::input_at))]
-fn fuzzify_part(out: &mut Listing<LISTING>, image: &CheckedImage, i: usize)
+fn fuzzify_part(out: &mut Listing, image: &CheckedImage, i: usize)
     requires { i < image.now.stored.header.inputs.rows }
     ensures { Writes (fuzzify_text (input_at (word_at image.now.stored.bytes.now) i)) out.old out.new }
 {
@@ -114,7 +114,7 @@ fn fuzzify_part(out: &mut Listing<LISTING>, image: &CheckedImage, i: usize)
 }
 
 #[tactic(auto, using(listing_writer::proofs::Lists::items), unfolding(model::specs::Image::decode))]
-pub fn fuzzify_parts(out: &mut Listing<LISTING>, image: &CheckedImage)
+pub fn fuzzify_parts(out: &mut Listing, image: &CheckedImage)
     ensures { Writes (gather fuzzify_text (decode (word_at image.now.stored.bytes.now)).inputs) out.old out.new }
 {
     for i in (0..image.stored.header.inputs.rows).rev() {

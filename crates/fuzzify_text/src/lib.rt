@@ -75,7 +75,7 @@ fn position(s: &[u8], c: Cursor, n: usize, last: LastTwo) -> At
 {
     match number_tokens::crisp_here(s, c) {
         Err(fault) => At {
-            cursor: cursor::refuse(c, fault),
+            cursor: cursor::refuse_for(c, fault),
             value: None,
         },
         Ok(value) if term_rules::may_stand(n, last, value) => At {
@@ -83,7 +83,7 @@ fn position(s: &[u8], c: Cursor, n: usize, last: LastTwo) -> At
             value: Some(value),
         },
         Ok(_) => At {
-            cursor: cursor::refuse(c, Fault::WrongPosition),
+            cursor: cursor::refuse_for(c, Fault::WrongPosition),
             value: None,
         },
     }
@@ -96,7 +96,7 @@ fn degree(s: &[u8], c: Cursor, x: Crisp) -> PointRead
 {
     match number_tokens::unit_here(s, c) {
         Err(fault) => PointRead {
-            cursor: cursor::refuse(c, fault),
+            cursor: cursor::refuse_for(c, fault),
             point: None,
         },
         Ok(degree) => PointRead {
@@ -132,13 +132,13 @@ fn point(s: &[u8], c: Cursor, n: usize, last: LastTwo) -> PointRead
 {
     if c.kind != token_kinds::OPEN {
         return PointRead {
-            cursor: cursor::refuse(c, Fault::WrongToken),
+            cursor: cursor::refuse_for(c, Fault::WrongToken),
             point: None,
         };
     }
     if bounds::POINTS <= n {
         return PointRead {
-            cursor: cursor::refuse(c, Fault::TooMany),
+            cursor: cursor::refuse_for(c, Fault::TooMany),
             point: None,
         };
     }
@@ -193,10 +193,10 @@ fn end_of_points(s: &[u8], c: Cursor, n: usize) -> Cursor
     ensures { Step (end_after n) s.now c result }
 {
     if c.kind != token_kinds::SEMICOLON {
-        return cursor::refuse(c, Fault::WrongToken);
+        return cursor::refuse_for(c, Fault::WrongToken);
     }
     if n < bounds::LEAST_POINTS {
-        return cursor::refuse(c, Fault::WrongPosition);
+        return cursor::refuse_for(c, Fault::WrongPosition);
     }
     cursor::advance(s, c)
 }
@@ -220,7 +220,7 @@ fn term_name(s: &[u8], names: &Names, c: Cursor, i: usize, n: usize) -> TermName
 {
     if bounds::TERMS <= n {
         return TermName {
-            cursor: cursor::refuse(c, Fault::TooMany),
+            cursor: cursor::refuse_for(c, Fault::TooMany),
             start: 0,
             end: 0,
         };
@@ -228,7 +228,7 @@ fn term_name(s: &[u8], names: &Names, c: Cursor, i: usize, n: usize) -> TermName
     let d = cursor::advance(s, c);
     if let Err(fault) = cursor::name_fault(d) {
         return TermName {
-            cursor: cursor::refuse(d, fault),
+            cursor: cursor::refuse_for(d, fault),
             start: 0,
             end: 0,
         };
@@ -244,7 +244,7 @@ fn term_name(s: &[u8], names: &Names, c: Cursor, i: usize, n: usize) -> TermName
     .is_some()
     {
         return TermName {
-            cursor: cursor::refuse(d, Fault::WrongName),
+            cursor: cursor::refuse_for(d, Fault::WrongName),
             start: 0,
             end: 0,
         };
@@ -275,7 +275,7 @@ fn input_terms(s: &[u8], names: &mut Names, p: Inputs, i: usize) -> Inputs
     let mut c = p.cursor;
     let mut r = p;
     if c.kind != token_kinds::TERM {
-        r.cursor = cursor::refuse(c, Fault::WrongToken);
+        r.cursor = cursor::refuse_for(c, Fault::WrongToken);
         return r;
     }
     while c.kind == token_kinds::TERM {
@@ -311,19 +311,19 @@ fn input_named(s: &[u8], names: &Names, c: Cursor, n: usize, rows: [Input; bound
     let d = cursor::expect(s, c, token_kinds::FUZZIFY);
     if let Err(fault) = cursor::name_fault(d) {
         return Found {
-            cursor: cursor::refuse(d, fault),
+            cursor: cursor::refuse_for(d, fault),
             input: None,
         };
     }
     let Some(i) = lookup::find(s, names, 0, n, d.start, d.end) else {
         return Found {
-            cursor: cursor::refuse(d, Fault::NotDeclared),
+            cursor: cursor::refuse_for(d, Fault::NotDeclared),
             input: None,
         };
     };
     if rows[i].terms != 0 {
         return Found {
-            cursor: cursor::refuse(d, Fault::WrongName),
+            cursor: cursor::refuse_for(d, Fault::WrongName),
             input: None,
         };
     }

@@ -8,7 +8,7 @@ ghost use Rattle.model.specs.Keywords.{keywords, keyword_at};
 ghost use Rattle.keywords.specs.Slots.{keyword_count, keyword_limit, slot_of, group_of, joined, size_of, start_of, slot_row, rows, row_in, may_be, Others, Which};
 
 // How many keywords there are, how long the longest is, and a bit for each length that one has.
-const COUNT: usize = 43;
+pub const COUNT: usize = 43;
 
 const LONGEST: usize = 18;
 

@@ -1,5 +1,5 @@
 // The lister: a stored image to its text, or the refusal by number.
-#![tactic(auto)]
+#![tactic(auto, using(crate::proofs::Answers::not_listed), unfolding(load::specs::Judged::Judged))]
 
 ghost use Rattle.std.specs.Prelude.{◌≡◌, length};
 ghost use Rattle.model.specs.Outcome.{length_in, buffer_after};
@@ -7,7 +7,6 @@ ghost use Rattle.model.specs.Refusals.{written_of};
 ghost use Rattle.model.specs.Buffers.{lists_into};
 
 use block_listing::block;
-use bounds::LISTING;
 use listing_writer::Listing;
 use load::examine;
 use model::Refusal;
@@ -19,7 +18,8 @@ pub fn list(img: &[u8], out: &mut [u8]) -> Result<usize, Refusal>
         ≡ buffer_after out.old (lists_into (length out.old) img.now) }
 {
     let image = examine(img)?;
-    let mut listing = Listing::<LISTING>::new();
+    let mut text = [0u8; bounds::LISTING];
+    let mut listing = Listing::new(&mut text);
     block(&mut listing, &image);
     let n = listing.count();
     if out.len() < n {

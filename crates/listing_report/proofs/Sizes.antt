@@ -1,11 +1,12 @@
--- How long the image of a well-formed block and the line of a refusal can be.
-use mathlib.Core.Path.{◌≡◌, refl, ap}
+-- How long the image of a well-formed block and the line of a refusal can be; the end of a line.
+use mathlib.Core.Path.{◌≡◌, refl, sym, ap, ◌∙◌}
 use mathlib.Core.Bool.{Bool, true}
-use mathlib.Core.List.{List, [], ◌∷◌, map}
-use Prim.Native.Nat.{ℕ, ◌*◌, ◌≤◌, ◌<◌}
+use mathlib.Core.List.{List, [], ◌∷◌, ◌++◌, map}
+use Prim.Native.Nat.{ℕ, ◌*◌, ◌-◌, ◌≤◌, ◌<◌}
 use native.Mathlib.Nat.{suc-mul}
 use native.Mathlib.Omega.{arith}
-use lib.ListN.{length, length-append, length-map}
+use lib.ListN.{length, take, drop, length-append, length-drop, length-map}
+use lib.Seq.{length-take-le, take_all}
 use Rattle.std.specs.Prelude.{Option, Some, None, IfSome}
 use Rattle.model.specs.Bounds.{image_limit}
 use Rattle.model.specs.Basic.{all, gather}
@@ -29,6 +30,21 @@ place_short (Some n) h = (digits_room 19 n (omega (arith, h))).short
 pub line_short : (n : ℕ) (place : Option ℕ) → n < 256 → IfSome place (λ m. m < 18446744073709551616) → length (refused_line n (place_of place)) ≤ 64
 unfolding refused_line
 line_short n place h k = simp length-append (omega (arith, (digits_room 2 n (omega arith)).short, place_short place k))
+
+-- THE END OF A LINE of m bytes: its last n
+module _ (m n : ℕ) (line : List ℕ) (room : length line ≡ m) (short : n ≤ m) where
+  abbrev end : List ℕ
+  end = take (m - (m - n)) (drop (m - n) line)
+
+  pub end_length : length end ≡ n
+  end_length =
+      let e : m - (m - n) ≡ n = omega arith in
+      let d = length-drop (m - n) line in
+      length-take-le (m - (m - n)) (drop (m - n) line) (omega (arith, d)) ∙ e
+
+  -- it is all that is copied
+  pub whole_end : (out : List ℕ) → end ++ drop n out ≡ take (length end) end ++ drop (length end) out
+  whole_end out = (λ i. sym (take_all (length end) end (omega arith)) i ++ drop (sym end_length i) out)
 
 -- THE IMAGE
 gather_few : {A B : Type 0} (g : A → List B) (ok : A → Bool) (m : ℕ) → ((x : A) → ok x ≡ true → length (g x) ≤ m)

@@ -21,7 +21,7 @@ use refusals::Told;
 // No line of a refusal is longer.
 const LINE: usize = 64;
 
-fn place(out: &mut Listing<LINE>, t: Told)
+fn place(out: &mut Listing, t: Told)
     ensures { Writes (place_text (place_of t.place)) out.old out.new }
 {
     match t.place {
@@ -31,7 +31,7 @@ fn place(out: &mut Listing<LINE>, t: Told)
 }
 
 #[tactic(auto, using(listing_writer::proofs::Prepends::parts), unfolding(model::specs::Printed::refused_line))]
-fn refused_line(out: &mut Listing<LINE>, t: Told)
+fn refused_line(out: &mut Listing, t: Told)
     ensures writes { Writes (refused_line t.number (place_of t.place))
         out.old out.new }
     ensures short { length (refused_line t.number (place_of t.place)) ≤ 64 }
@@ -49,7 +49,8 @@ fn refused(why: Refusal, out: &mut [u8]) -> usize
     ensures { ShowsRefusal why result out.old out.new }
 {
     let t = refusals::number_and_place(why);
-    let mut line = Listing::<LINE>::new();
+    let mut bytes = [0u8; LINE];
+    let mut line = Listing::new(&mut bytes);
     refused_line(&mut line, t);
     let n = line.count();
     out[..n].copy_from_slice(line.text());

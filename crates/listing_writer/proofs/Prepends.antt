@@ -11,7 +11,8 @@ use borrow.Author.Tests.{ltb-true, ltb-false}
 use lib.Dec.{ltb}
 use Rattle.std.proofs.lemmas.Slice.{put_mid-paste}
 use borrow.Rule.Slice.PartMut.{put_mid}
-use Rattle.listing_writer.specs.Prepends.{top, next, set_before, count_after, prepended, Prepends}
+use Rattle.listing_writer.specs.declared.Listing.{Listing}
+use Rattle.listing_writer.specs.Prepends.{top, next, set_before, count_after, prepended, Prepends, Writes}
 
 pub count_append : (k : ℕ) (xs ys : List ℕ) → count_after k (xs ++ ys) ≡ count_after (count_after k ys) xs
 unfolding count_after
@@ -53,6 +54,13 @@ joined {k} {m} {r} {xs} {ys} {old} {mid} {new} v w = record {
 pub nothing : (k : ℕ) (old : List ℕ) → Prepends k k [] old old
 unfolding count_after prepended
 nothing k old = record { count = refl; contents = refl }
+
+-- the same of a listing
+pub writes_joined : {xs ys : List ℕ} {old mid new : Listing} → Writes ys old mid → Writes xs mid new → Writes (xs ++ ys) old new
+writes_joined v w = record { text = joined v.text w.text; buffer = w.buffer ∙ v.buffer }
+
+pub writes_nothing : (old : Listing) → Writes [] old old
+writes_nothing old = record { text = nothing old.count old.bytes.now; buffer = refl }
 
 -- ONE BYTE: with room, and without
 module _ (n k x : ℕ) (old : List ℕ) where
@@ -146,3 +154,10 @@ module _ (m n : ℕ) (xs old new : List ℕ) (room : length old ≡ m) (few : m 
       let front = take (length old - length xs) old in
       let long : m - n ≡ length front = omega (arith, counted.0, length-take-le (length old - length xs) old (omega arith)) in
       rw ((stands n xs old new (omega arith) (omega arith) w).1, long) (drop-append_seam front xs)
+
+  pub text_is : drop (length new - n) new ≡ xs
+  text_is =
+      let front = take (length old - length xs) old in
+      let all = ap length (stands n xs old new (omega arith) (omega arith) w).1 ∙ length-append front xs in
+      let long : length new ≡ m = omega (arith, all, length-take-le (length old - length xs) old (omega arith)) in
+      rw long at_end

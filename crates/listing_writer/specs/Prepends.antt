@@ -27,6 +27,7 @@ pub record Prepends (k r : ℕ) (xs old new : List ℕ) : Type 0 where
   pub count : r ≡ count_after k xs
   pub contents : new ≡ prepended k xs old
 
--- xs was written before the listing old, which is new then
-abbrev pub Writes : {N : ℕ} → List ℕ → Listing N → Listing N → Type 0
-Writes xs old new = Prepends old.count new.count xs old.bytes new.bytes
+-- xs was written before the listing old, which is new then, over the same buffer
+pub record Writes (xs : List ℕ) (old new : Listing) : Type 0 where
+  pub text : Prepends old.count new.count xs old.bytes.now new.bytes.now
+  pub buffer : new.bytes.ghost_name ≡ old.bytes.ghost_name

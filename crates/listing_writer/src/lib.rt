@@ -1,51 +1,59 @@
 // The bytes of a listing.
 #![tactic(auto)]
 
-ghost use Rattle.std.specs.Prelude.{◌≡◌, [], ◌∷◌, ◌-◌, ◌≤◌, length, drop};
+ghost use Rattle.std.specs.Prelude.{◌≡◌, [], ◌∷◌, ◌-◌, length, drop};
 ghost use Rattle.listing_writer.specs.Prepends.{Writes};
 
 // A text that grows from its end to its front: numbers and conditions are read from their ends, so each is written in
 // one pass. It stands at the end of the bytes; what does not fit is only counted.
 #[derive(Drop)]
-pub struct Listing<const N: usize> {
-    bytes: [u8; N],
-    count: usize,
+pub struct Listing<'a> {
+    pub bytes: &'a mut [u8],
+    pub count: usize,
 }
 
-impl<const N: usize> Listing<N> {
+impl<'a> Listing<'a> {
     // With nothing written.
-    pub fn new() -> Listing<N>
-        ensures { result.count ≡ 0 }
+    pub fn new(bytes: &'a mut [u8]) -> Listing<'a>
+        ensures count { result.count ≡ 0 }
+        ensures same_bytes { result.bytes.now ≡ bytes.old }
+        ensures same_buffer { result.bytes.ghost_name ≡ bytes.entry.ghost_name }
     {
-        Listing {
-            bytes: [0; N],
-            count: 0,
-        }
+        Listing { bytes, count: 0 }
     }
 
     // A byte before the text.
     pub fn put(&mut self, c: u8)
         ensures { Writes (c ∷ []) self.old self.new }
     {
-        if self.count < N {
-            self.bytes[N - 1 - self.count] = c;
+        let n = self.bytes.len();
+        if self.count < n {
+            self.bytes[n - 1 - self.count] = c;
         }
         self.count = self.count.saturating_add(1);
+    }
+
+    // A text before it, byte by byte, since not all of it fits.
+    #[inline(never)]
+    fn cut(&mut self, s: &[u8])
+        ensures { Writes s.now self.old self.new }
+    {
+        for i in (0..s.len()).rev() {
+            self.put(s[i]);
+        }
     }
 
     // A text before it.
     pub fn puts(&mut self, s: &[u8])
         ensures { Writes s.now self.old self.new }
     {
-        if s.len() <= N && self.count <= N - s.len() {
-            let end = N - self.count;
-            let bytes = &mut self.bytes[..];
-            bytes[end - s.len()..end].copy_from_slice(s);
+        let n = self.bytes.len();
+        if s.len() <= n && self.count <= n - s.len() {
+            let end = n - self.count;
+            self.bytes[end - s.len()..end].copy_from_slice(s);
             self.count += s.len();
         } else {
-            for i in (0..s.len()).rev() {
-                self.put(s[i]);
-            }
+            self.cut(s);
         }
     }
 
@@ -56,12 +64,11 @@ impl<const N: usize> Listing<N> {
         self.count
     }
 
-    // The text, if it fits.
+    // The text; what there is of it, where it does not fit.
     pub fn text(&self) -> &[u8]
-        requires { self.now.count ≤ N }
-        ensures { result.now ≡ drop (N - self.now.count) self.now.bytes }
+        ensures { result.now ≡ drop (length self.now.bytes.now - self.now.count) self.now.bytes.now }
     {
-        let bytes = &self.bytes[..];
-        &bytes[N - self.count..]
+        let start = self.bytes.len().saturating_sub(self.count);
+        &self.bytes[start..]
     }
 }

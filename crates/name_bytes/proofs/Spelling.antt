@@ -2,15 +2,15 @@
 use Rattle.std.specs.Prelude.{if◌then◌else◌, None, Some}
 use mathlib.Core.Path.{◌≡◌, refl, sym, ap, ◌∙◌}
 use mathlib.Core.List.{List, [], ◌∷◌}
-use mathlib.Core.Bool.{Bool, true, false, not}
+use mathlib.Core.Bool.{Bool, true, false, ◌||◌, not}
 use Prim.Native.Nat.{ℕ, suc, ◌+◌, ◌≤◌, ◌<◌}
 use native.Mathlib.Numerals.{add-one}
 use native.Mathlib.Omega.{arith}
 use borrow.Author.Tests.{eqb-true}
 use lib.ListN.{length, take, drop, get_or, drop_of_length-le}
 use lib.Seq.{drop-cons}
-use Rattle.model.specs.Basic.{run}
-use Rattle.model.specs.Tokens.{is_underscore, is_name_byte, tidy}
+use Rattle.model.specs.Basic.{between, run}
+use Rattle.model.specs.Tokens.{is_digit, is_underscore, is_name_byte, tidy}
 use Rattle.laws.proofs.Tests.{clash}
 use Rattle.characters.proofs.Laws.{tidy_cons, run_in, run_out}
 use Rattle.name_bytes.specs.Names.{ends_name, tidy_at, tidy_end}
@@ -37,6 +37,34 @@ module _ (s : List ℕ) (u : Bool) (i : ℕ) where
   pub at_past : length s ≤ i → tidy_end u i (drop i s) ≡ tidy_at u i
   unfolding tidy_end
   at_past h = rw (drop_of_length-le s h)
+
+-- LETTERS
+abbrev pub letter : ℕ → Bool
+letter c = between 65 90 c || between 97 122 c
+
+letter_name : (a b d e : Bool) → a || b ≡ true → (a || (b || d)) || e ≡ true
+letter_name true b d e h = refl
+letter_name false true d e h = refl
+letter_name false false d e h = clash h
+
+letter_plain : (c : ℕ) → letter c ≡ true → is_underscore c ≡ false
+letter_plain c h = go (is_underscore c) refl
+  where
+    go : (b : Bool) → is_underscore c ≡ b → is_underscore c ≡ false
+    go true e = clash (sym (ap letter (eqb-true c 95 e)) ∙ h)
+    go false e = e
+
+letter_stays : (u : Bool) (c : ℕ) → letter c ≡ true → ends_name u c ≡ false
+letter_stays u c h =
+    (λ j. if letter_plain c h j then u else not (is_name_byte c))
+    ∙ ap not (letter_name (between 65 90 c) (between 97 122 c) (is_underscore c) (is_digit c) h)
+
+-- a letter goes on a name, whatever stands before it
+pub at_letter : (s : List ℕ) (u : Bool) (i : ℕ) → i < length s → letter (get_or s i 0) ≡ true
+    → tidy_end u i (drop i s) ≡ tidy_end false (i + 1) (drop (i + 1) s)
+at_letter s u i h e =
+    let c = get_or s i 0 in
+    at_more s u i h (letter_stays u c e) ∙ ap (λ (b : Bool). tidy_end b (i + 1) (drop (i + 1) s)) (letter_plain c e)
 
 -- UNDERSCORES
 -- what follows is tidy; u: an underscore stands before it

@@ -25,13 +25,17 @@ fn tidy_at(under: bool, i: usize) -> Option<usize>
     if under { None } else { Some(i) }
 }
 
-// Where the name bytes end that s starts with, if they are tidy.
+// Where the name bytes end that s starts with, if they are tidy. Most are letters.
 fn tidy_end(s: &[u8]) -> Option<usize>
     ensures value { result ≡ tidy_end false 0 s.now }
     ensures within { IfSome result (λ n. n ≤ length s.now) }
 {
     let mut under = false;
     for (i, c) in s.iter().enumerate() {
+        if c.is_ascii_alphabetic() {
+            under = false;
+            continue;
+        }
         if ends_name(under, *c) {
             return tidy_at(under, i);
         }

@@ -5,12 +5,12 @@ ghost use Rattle.std.specs.Prelude.{◌≤◌};
 ghost use Rattle.model.specs.Image.{word_at, name_at};
 ghost use Rattle.listing_writer.specs.Prepends.{Writes};
 
-use bounds::{LISTING, NAME};
+use bounds::NAME;
 use listing_writer::Listing;
 use name_field::{bytes_at, first_zero};
 
 // The name in the four words from place o on.
-pub fn name(out: &mut Listing<LISTING>, img: &[u8], o: usize)
+pub fn name(out: &mut Listing, img: &[u8], o: usize)
     requires { o ≤ 900000000000 }
     ensures { Writes (name_at (word_at img.now) o) out.old out.new }
 {

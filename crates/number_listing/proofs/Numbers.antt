@@ -9,8 +9,9 @@ use lib.ListN.{length}
 use borrow.Author.Tests.{ltb-true, ltb-false, lt-ltb, le-ltb, ne_eqb}
 use Rattle.model.specs.Listing.{digits_on, digits, trimmed}
 use Rattle.number_listing.specs.LastDigits.{last_digit, last_two, last_three}
-use Rattle.listing_writer.specs.Prepends.{Prepends}
-use Rattle.listing_writer.proofs.Prepends.{joined, nothing}
+use Rattle.listing_writer.specs.declared.Listing.{Listing}
+use Rattle.listing_writer.specs.Prepends.{Writes}
+use Rattle.listing_writer.proofs.Prepends.{writes_joined, writes_nothing}
 
 -- what stands behind stays behind; more steps than are needed change nothing
 on_append : (k m n : ℕ) (s t : List ℕ) → n < k → n < m → digits_on k n (s ++ t) ≡ digits_on m n s ++ t
@@ -36,20 +37,20 @@ unfolding digits digits_on
 last_apart n h = rw (le-ltb n 10 h, digits_on) (on_append n (suc (n / 10)) (n / 10) [] ((48 + n % 10) ∷ []) (omega arith) (omega arith))
 
 -- WRITTEN SO FAR: the digits of n but those of m
-abbrev pub Pending : ℕ → ℕ → ℕ → ℕ → List ℕ → List ℕ → Type 0
-Pending k p n m old new = (s : List ℕ) × Prepends k p s old new × (digits n ≡ digits m ++ s)
+abbrev pub Pending : ℕ → ℕ → Listing → Listing → Type 0
+Pending n m old new = (s : List ℕ) × Writes s old new × (digits n ≡ digits m ++ s)
 
-pub pending_all : (k n : ℕ) (old : List ℕ) → Pending k k n n old old
-pending_all k n old = ([], nothing k old, sym (append-nil (digits n)))
+pub pending_all : (n : ℕ) (old : Listing) → Pending n n old old
+pending_all n old = ([], writes_nothing old, sym (append-nil (digits n)))
 
-module _ {k p : ℕ} (n q m : ℕ) {old mid new : List ℕ} where
-  pub pending_less : 10 ≤ m → Pending k p n m old mid → Prepends p q ((48 + m % 10) ∷ []) mid new → Pending k q n (m / 10) old new
+module _ (n m : ℕ) {old mid new : Listing} where
+  pub pending_less : 10 ≤ m → Pending n m old mid → Writes ((48 + m % 10) ∷ []) mid new → Pending n (m / 10) old new
   pending_less h (s, v, e) w =
       let c = (48 + m % 10) ∷ [] in
-      (c ++ s, joined v w, e ∙ ap (λ (l : List ℕ). l ++ s) (last_apart m h) ∙ append_assoc (digits (m / 10)) c s)
+      (c ++ s, writes_joined v w, e ∙ ap (λ (l : List ℕ). l ++ s) (last_apart m h) ∙ append_assoc (digits (m / 10)) c s)
 
-  pub pending_none : m < 10 → Pending k p n m old mid → Prepends p q ((48 + m) ∷ []) mid new → Prepends k q (digits n) old new
-  pending_none h (s, v, e) w = rw (e ∙ ap (λ (l : List ℕ). l ++ s) (one_digit m h)) (joined v w)
+  pub pending_none : m < 10 → Pending n m old mid → Writes ((48 + m) ∷ []) mid new → Writes (digits n) old new
+  pending_none h (s, v, e) w = rw (e ∙ ap (λ (l : List ℕ). l ++ s) (one_digit m h)) (writes_joined v w)
 
 -- DIGITS BEHIND THE POINT
 -- a zero is left out where nothing stands behind it

@@ -6,7 +6,6 @@ ghost use Rattle.model.specs.Listing.{digits, trimmed, after_point, thousandths_
 ghost use Rattle.listing_writer.specs.Prepends.{Writes};
 ghost use Rattle.number_listing.specs.LastDigits.{last_digit, last_two, last_three};
 
-use bounds::LISTING;
 use listing_writer::Listing;
 use model::{Crisp, Degree};
 
@@ -18,7 +17,7 @@ fn digit(d: usize) -> u8
 }
 
 // The decimal digits of a number.
-pub fn digits<const N: usize>(out: &mut Listing<N>, n: usize)
+pub fn digits(out: &mut Listing, n: usize)
     ensures { Writes (digits n) out.old out.new }
 {
     let mut m = n;
@@ -30,7 +29,7 @@ pub fn digits<const N: usize>(out: &mut Listing<N>, n: usize)
 }
 
 // The last digit, without a zero.
-fn last_digit(out: &mut Listing<LISTING>, n: usize)
+fn last_digit(out: &mut Listing, n: usize)
     ensures { Writes (trimmed (last_digit n)) out.old out.new }
 {
     if n % 10 != 0 {
@@ -39,7 +38,7 @@ fn last_digit(out: &mut Listing<LISTING>, n: usize)
 }
 
 // The last two digits, without the zeros at their end.
-fn last_two(out: &mut Listing<LISTING>, n: usize)
+fn last_two(out: &mut Listing, n: usize)
     ensures { Writes (trimmed (last_two n)) out.old out.new }
 {
     if n % 100 != 0 {
@@ -49,7 +48,7 @@ fn last_two(out: &mut Listing<LISTING>, n: usize)
 }
 
 // The point and the three digits behind it, without the zeros at their end.
-fn fraction(out: &mut Listing<LISTING>, n: usize)
+fn fraction(out: &mut Listing, n: usize)
     ensures { Writes (after_point (trimmed (last_three n))) out.old out.new }
 {
     if n % 1000 != 0 {
@@ -60,14 +59,14 @@ fn fraction(out: &mut Listing<LISTING>, n: usize)
 }
 
 #[tactic(auto, using(listing_writer::proofs::Prepends::parts), unfolding(model::specs::Listing::thousandths_text))]
-pub fn thousandths(out: &mut Listing<LISTING>, n: usize)
+pub fn thousandths(out: &mut Listing, n: usize)
     ensures { Writes (thousandths_text n) out.old out.new }
 {
     fraction(out, n);
     digits(out, n / 1000);
 }
 
-pub fn crisp(out: &mut Listing<LISTING>, x: Crisp)
+pub fn crisp(out: &mut Listing, x: Crisp)
     ensures { Writes (crisp_text x.0) out.old out.new }
 {
     thousandths(out, x.0.unsigned_abs() as usize);
@@ -77,7 +76,7 @@ pub fn crisp(out: &mut Listing<LISTING>, x: Crisp)
 }
 
 // A degree or a weight.
-pub fn unit(out: &mut Listing<LISTING>, d: Degree)
+pub fn unit(out: &mut Listing, d: Degree)
     ensures { Writes (unit_text d.0) out.old out.new }
 {
     thousandths(out, (d.0 / 1000) as usize);

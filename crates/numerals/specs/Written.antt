@@ -1,4 +1,5 @@
--- A helper: the parts of a number's text, as the code reads them.
+-- A helper: the parts of a number's text, as the code reads them. `parts` of proofs/Digits ties `thousandths_of` to
+-- model's `magnitude`, `unit_by` of proofs/Values `unit_limit` to its `is_unit`.
 use Rattle.std.specs.Prelude.{List, ◌++◌, ℕ, eqb, take, if◌then◌else◌}
 use Rattle.model.specs.Basic.{bytes}
 use Rattle.model.specs.Tokens.{starts, decimal}

@@ -10,7 +10,6 @@ ghost use Rattle.condition_words.specs.Machine.{operator_of};
 ghost use Rattle.listing_writer.specs.Prepends.{Writes};
 ghost use Rattle.operator_listing.specs.Spans.{Forms};
 
-use bounds::LISTING;
 use condition_words::{AND_WORD, Form, NOT_WORD, TERM_WORD};
 use listing_writer::Listing;
 use words::whole_word;
@@ -21,7 +20,7 @@ pub fn operator_form(w: usize) -> Form
     if w == AND_WORD { Form::And } else { Form::Or }
 }
 
-pub fn operator(out: &mut Listing<LISTING>, w: usize)
+pub fn operator(out: &mut Listing, w: usize)
     ensures { Writes (operatorText (operator_of w)) out.old out.new }
 {
     if w == AND_WORD {

@@ -1,6 +1,7 @@
 -- The parts of a text make up document 01's reading of it.
 use Rattle.std.specs.Prelude.{None, Some}
 use mathlib.Core.Path.{◌≡◌, refl, sym, ap, ◌∙◌}
+use mathlib.Core.Bool.{true}
 use mathlib.Core.List.{List}
 use mathlib.Core.Option.{some}
 use Prim.Native.Nat.{ℕ, ◌*◌, ◌≤◌, ◌<◌}
@@ -12,6 +13,7 @@ use Rattle.model.specs.Bounds.{text_limit, rule_limit, word_limit, conclusion_li
 use Rattle.model.specs.Block.{Block, Rule}
 use Rattle.model.specs.Keywords.{RULE}
 use Rattle.model.specs.Outcome.{Outcome, accepted, refused, and_then, into}
+use Rattle.model.specs.Refusals.{reader_number}
 use Rattle.model.specs.Parse.{Parse, repeated}
 use Rattle.model.specs.Rules.{rule, rule_block}
 use Rattle.model.specs.Reader.{function_block, start, outcome_of, reads}
@@ -27,9 +29,8 @@ use Rattle.parse_state.specs.Reads.{view}
 use Rattle.rule_heading.specs.Opening.{opening, headed, Bare}
 use Rattle.rule_text.specs.Progress.{Kept, holding}
 use Rattle.block_text.specs.Block.{inputs_text, outputs_text, front_text, back_text, Ends}
-use Rattle.refusals.specs.Faults.{number}
-use Rattle.cursor.specs.declared.Refused.{Refused}
-use Rattle.cursor.proofs.Laws.{never_zero}
+use Rattle.cursor.specs.declared.refusal.Refused.{Refused}
+use Rattle.reading_laws.proofs.Refused.{reads_known}
 
 pub bare : (s : List ℕ) (t : Tables) → Bare (block_view s t)
 unfolding block_view
@@ -103,16 +104,25 @@ module _ (s : List ℕ) (t : Tables) (h : Heading) where
       unfolding seen
       block_is = sym (whole_is rs) ∙ x.block ∙ ap (λ (z : Parse). z.block) read_so
 
-      module _ (room : ℕ) (l : length s ≤ text_limit) where
-        pub refused_so : (w : Refused) → f.refused ≡ Some w → reads_into room s ≡ refused (number w.fault) (some w.place)
-        unfolding reads_into
-        refused_so w q =
-            let y : end.why ≡ number w.fault = sym why_is ∙ ap why_of q in
-            let z : end.place ≡ w.place = sym place_is ∙ ap place_of q in
-            let e : outcome_of end ≡ refused end.why (some end.place) = simp (ne_eqb _ _ (λ n. never_zero w.fault (sym y ∙ n))) refl in
-            ap (λ (o : Outcome Block). and_then o (λ b. into room (image b))) (text_not_too_long s l ∙ e)
-            ∙ (λ j. refused (y j) (some (z j)))
+      module _ (w : Refused) (q : f.refused ≡ Some w) where
+        ends_by : end.why ≡ w.why
+        ends_by = sym why_is ∙ ap why_of q
 
+        never_zero : end.why ≡ 0 → ⊥
+        never_zero e = omega (arith, w.above, ends_by, e)
+
+        pub number : reader_number w.why ≡ true
+        number = ap reader_number (sym ends_by) ∙ (reads_known s).number never_zero
+
+        pub refused_so : (room : ℕ) → length s ≤ text_limit → reads_into room s ≡ refused w.why (some w.place)
+        unfolding reads_into
+        refused_so room l =
+            let z : end.place ≡ w.place = sym place_is ∙ ap place_of q in
+            let e : outcome_of end ≡ refused end.why (some end.place) = simp (ne_eqb _ _ never_zero) refl in
+            ap (λ (o : Outcome Block). and_then o (λ b. into room (image b))) (text_not_too_long s l ∙ e)
+            ∙ (λ j. refused (ends_by j) (some (z j)))
+
+      module _ (room : ℕ) (l : length s ≤ text_limit) where
         pub accepted_so : f.refused ≡ None → reads_into room s ≡ into room (image (whole_view s t h rs))
         unfolding reads_into
         accepted_so z =

@@ -13,6 +13,7 @@ ghost use Rattle.block_text.specs.Block.{front_text};
 use block_tables::Totals;
 use model::Refusal;
 use parse_state::ParseState;
+use refusals::Fault;
 use rule_text::Progress;
 use symbol_table::Declarations;
 
@@ -51,7 +52,7 @@ fn read_on(s: &[u8], p: ParseState, out: &mut [u8]) -> Result<usize, Refusal>
     );
     let f = block_text::back(s, q.cursor, block_text::is_complete(&symbols));
     if let Some(r) = f.refused {
-        return Err(refusals::refusal_of(r.fault, r.place));
+        return Err(refusals::refusal_of(Fault::of(r.why), r.place));
     }
     image::store(
         s,

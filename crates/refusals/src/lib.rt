@@ -4,7 +4,7 @@
 ghost use Rattle.std.specs.Prelude.{◌≡◌, true, ℕ, Some, None};
 ghost use Rattle.std.proofs.Math.Option.{some};
 ghost use Rattle.model.specs.Outcome.{refused};
-ghost use Rattle.model.specs.Refusals.{refusal_of};
+ghost use Rattle.model.specs.Refusals.{refusal_of, reader_number};
 ghost use Rattle.refusals.specs.Faults.{number};
 ghost use Rattle.refusals.specs.Told.{place_of};
 
@@ -13,7 +13,7 @@ use model::Refusal;
 // What the reader refuses a text for.
 #[derive(Clone, Copy, PartialEq, Eq)]
 pub enum Fault {
-    WrongToken,
+    WrongToken = 2,
     WrongNumber,
     WrongName,
     NotDeclared,
@@ -21,6 +21,31 @@ pub enum Fault {
     WrongPosition,
     Unpaired,
     PartMissing,
+}
+
+impl Fault {
+    pub fn number(self) -> u8
+        ensures { result ≡ number self }
+    {
+        self as u8
+    }
+
+    // The fault of a reader's number.
+    pub fn of(why: u8) -> Fault
+        requires { reader_number why ≡ true }
+        ensures { number result ≡ why }
+    {
+        match why {
+            2 => Fault::WrongToken,
+            3 => Fault::WrongNumber,
+            4 => Fault::WrongName,
+            5 => Fault::NotDeclared,
+            6 => Fault::TooMany,
+            7 => Fault::WrongPosition,
+            8 => Fault::Unpaired,
+            _ => Fault::PartMissing,
+        }
+    }
 }
 
 // The refusal for a fault at this place.

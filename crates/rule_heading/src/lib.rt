@@ -28,7 +28,7 @@ fn refused(p: Opened, fault: Fault) -> Opened
     ensures { (s : List ℕ) → Fits s p.cursor → Headed s p.heading → Opens (refuse (number fault)) s p result }
 {
     Opened {
-        cursor: cursor::refuse(p.cursor, fault),
+        cursor: cursor::refuse_for(p.cursor, fault),
         ..p
     }
 }

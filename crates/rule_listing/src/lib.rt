@@ -8,7 +8,6 @@ ghost use Rattle.model.specs.Listing.{input_term_name, condition_text, rule_line
 ghost use Rattle.model.specs.Listing.{and_text, or_text, act_text, accu_text, rule_block_text};
 ghost use Rattle.listing_writer.specs.Prepends.{Writes};
 
-use bounds::LISTING;
 use conclusion_listing::{conclusions, weight};
 use condition_listing::condition;
 use header::{RULE_BLOCK_NAME, RULE_WEIGHT, RULE_WORD_FIRST, RULE_WORDS};
@@ -19,7 +18,7 @@ use name_listing::name;
 use number_listing::digits;
 
 // The condition of rule i.
-fn rule_condition(out: &mut Listing<LISTING>, image: &CheckedImage, i: usize)
+fn rule_condition(out: &mut Listing, image: &CheckedImage, i: usize)
     requires { i < image.now.stored.header.rules.rows }
     ensures { Writes
         (condition_text (input_term_name (decode (word_at image.now.stored.bytes.now)))
@@ -34,7 +33,7 @@ fn rule_condition(out: &mut Listing<LISTING>, image: &CheckedImage, i: usize)
 
 // The line of rule i.
 #[tactic(auto, using(listing_writer::proofs::Prepends::parts), unfolding(model::specs::Listing::rule_line, model::specs::Image::rule_at))]
-fn rule(out: &mut Listing<LISTING>, image: &CheckedImage, i: usize)
+fn rule(out: &mut Listing, image: &CheckedImage, i: usize)
     requires { i < image.now.stored.header.rules.rows }
     ensures { Writes
         (rule_line (decode (word_at image.now.stored.bytes.now)) (rule_at (word_at image.now.stored.bytes.now) i))
@@ -53,7 +52,7 @@ fn rule(out: &mut Listing<LISTING>, image: &CheckedImage, i: usize)
 }
 
 #[tactic(auto, using(listing_writer::proofs::Lists::items), unfolding(model::specs::Image::decode))]
-fn rules(out: &mut Listing<LISTING>, image: &CheckedImage)
+fn rules(out: &mut Listing, image: &CheckedImage)
     ensures { Writes
         (gather (rule_line (decode (word_at image.now.stored.bytes.now)))
         (decode (word_at image.now.stored.bytes.now)).rules)
@@ -64,7 +63,7 @@ fn rules(out: &mut Listing<LISTING>, image: &CheckedImage)
     }
 }
 
-fn and_algorithm(out: &mut Listing<LISTING>, pair: Pair)
+fn and_algorithm(out: &mut Listing, pair: Pair)
     ensures { Writes (and_text pair) out.old out.new }
 {
     match pair {
@@ -74,7 +73,7 @@ fn and_algorithm(out: &mut Listing<LISTING>, pair: Pair)
     }
 }
 
-fn or_algorithm(out: &mut Listing<LISTING>, pair: Pair)
+fn or_algorithm(out: &mut Listing, pair: Pair)
     ensures { Writes (or_text pair) out.old out.new }
 {
     match pair {
@@ -84,7 +83,7 @@ fn or_algorithm(out: &mut Listing<LISTING>, pair: Pair)
     }
 }
 
-fn activation(out: &mut Listing<LISTING>, act: Activation)
+fn activation(out: &mut Listing, act: Activation)
     ensures { Writes (act_text act) out.old out.new }
 {
     match act {
@@ -93,7 +92,7 @@ fn activation(out: &mut Listing<LISTING>, act: Activation)
     }
 }
 
-fn accumulation(out: &mut Listing<LISTING>, accu: Accumulation)
+fn accumulation(out: &mut Listing, accu: Accumulation)
     ensures { Writes (accu_text accu) out.old out.new }
 {
     match accu {
@@ -103,7 +102,7 @@ fn accumulation(out: &mut Listing<LISTING>, accu: Accumulation)
 }
 
 #[tactic(auto, using(listing_writer::proofs::Prepends::parts), unfolding(model::specs::Listing::rule_block_text, model::specs::Image::decode))]
-pub fn rule_block(out: &mut Listing<LISTING>, image: &CheckedImage)
+pub fn rule_block(out: &mut Listing, image: &CheckedImage)
     ensures { Writes (rule_block_text (decode (word_at image.now.stored.bytes.now))) out.old out.new }
 {
     let stored = &image.stored;

@@ -1,4 +1,5 @@
--- A helper: the number of a rule, as model's `rule_at` has it.
+-- A helper: the number of a rule, as model's `rule_at` has it. `numbers_are` of stored_rules/proofs/Rules ties
+-- the numbers of all rules to those of model's `decode`.
 use Rattle.std.specs.Prelude.{ℕ}
 use Rattle.model.specs.Image.{rule_place}
 

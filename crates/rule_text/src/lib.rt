@@ -76,11 +76,11 @@ fn rule_number(s: &[u8], rules: &Rules, count: usize, c: Cursor) -> Numbered
 {
     match number_tokens::number_here(s, c) {
         Err(fault) => Numbered {
-            cursor: cursor::refuse(c, fault),
+            cursor: cursor::refuse_for(c, fault),
             number: 0,
         },
         Ok(number) if is_used(rules, count, number) => Numbered {
-            cursor: cursor::refuse(c, Fault::WrongName),
+            cursor: cursor::refuse_for(c, Fault::WrongName),
             number: 0,
         },
         Ok(number) => Numbered {
@@ -95,7 +95,7 @@ fn not_concluded(p: Concluded, fault: Fault) -> Concluded
     ensures count { result.count ≡ p.count }
 {
     Concluded {
-        cursor: cursor::refuse(p.cursor, fault),
+        cursor: cursor::refuse_for(p.cursor, fault),
         ..p
     }
 }
@@ -192,7 +192,7 @@ fn weighted(s: &[u8], c: Cursor) -> Weighed
     let d = cursor::advance(s, c);
     match number_tokens::unit_here(s, d) {
         Err(fault) => Weighed {
-            cursor: cursor::refuse(d, fault),
+            cursor: cursor::refuse_for(d, fault),
             weight: Degree(ONE),
         },
         Ok(weight) => Weighed {
@@ -298,7 +298,7 @@ fn refused(p: Progress, fault: Fault) -> Progress
     ensures totals { (result.totals ≡ p.totals) × (result.cursor.refused ≡ None → ⊥) }
 {
     Progress {
-        cursor: cursor::refuse(p.cursor, fault),
+        cursor: cursor::refuse_for(p.cursor, fault),
         ..p
     }
 }

@@ -16,11 +16,17 @@ use words::whole_word;
 fn step(stack: &mut Stack, m: usize, w: usize) -> Option<()>
     ensures { view stack.new.shapes stack.new.height (is_some result) ≡ step (shapes m) w (held stack.old.shapes stack.old.height) }
 {
+    // Most words are terms.
+    if TERM_WORD <= w {
+        if w - TERM_WORD < m {
+            return stack.push(Form::Term, 0);
+        }
+        return None;
+    }
     match w {
         NOT_WORD => stack.negate(),
         AND_WORD => stack.join(Form::And, Form::Not),
         OR_WORD => stack.join(Form::Or, Form::And),
-        _ if TERM_WORD <= w && w - TERM_WORD < m => stack.push(Form::Term, 0),
         _ => None,
     }
 }

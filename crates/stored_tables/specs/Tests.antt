@@ -1,4 +1,5 @@
--- A helper: what is tested of the tables behind the header, as `tables_ok` has it.
+-- A helper: what is tested of the tables behind the header. `up_to_rows` of proofs/Loops ties `up_to` to layout's
+-- `rows_ok`, of which the other tests are made; the contract of `tables_ok` ties all to layout's `tables_ok`.
 use Rattle.std.specs.Prelude.{Bool, List, [], ◌∷◌, ℕ, zero, suc, ◌+◌, eqb, if◌then◌else◌, Option, None, Some}
 use Rattle.model.specs.Image.{point_words, term_at, output_at, OUTPUT_TABLE, OUTPUTS, POINT_TABLE, POINTS, TERM_TABLE}
 use Rattle.layout.specs.Rows.{rows_ok}

@@ -1,3 +1,4 @@
 pub mod Named
 pub mod Exact
+pub mod Spelt
 pub mod Wellformed

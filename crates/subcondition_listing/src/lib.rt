@@ -6,7 +6,6 @@ ghost use Rattle.model.specs.Image.{word_at, name_at, decode, input_place, term_
 ghost use Rattle.model.specs.Listing.{input_term_name};
 ghost use Rattle.listing_writer.specs.Prepends.{Writes};
 
-use bounds::LISTING;
 use header::{INPUT_FIRST, INPUT_TERMS};
 use layout::CheckedImage;
 use listing_writer::Listing;
@@ -34,7 +33,7 @@ fn owner(image: &CheckedImage, t: usize) -> Option<usize>
 }
 
 // The input that has term t, what stands between, and the term.
-pub fn term(out: &mut Listing<LISTING>, image: &CheckedImage, t: usize, between: &[u8])
+pub fn term(out: &mut Listing, image: &CheckedImage, t: usize, between: &[u8])
     requires { t ≤ 4294967295 }
     ensures { Writes
         ((input_term_name (decode (word_at image.now.stored.bytes.now)) t).variable

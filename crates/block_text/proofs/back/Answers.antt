@@ -8,13 +8,13 @@ expect-d-requires c = (c.requires, omega arith)
 pub returns-then-d : goal.returns-then-d
 returns-then-d c =
     let x = c.expect-d.ensures.step in
-    let r = c.refuse in
+    let r = c.refuse_for in
     laws.no_end _ _ _ _ x r.result r.ensures.halted c.if-d.true (r.ensures.by_index _ x.fits)
 
 pub returns-then-not-complete : goal.returns-then-not-complete
 returns-then-not-complete c =
     let x = c.expect-d.ensures.step in
-    let r = c.refuse-then-not-complete in
+    let r = c.refuse_for-then-not-complete in
     laws.part_missing _ _ _ _ x c.if-d.false r.result r.ensures.halted c.if-not-complete.true (r.ensures.by_index _ x.fits)
 
 pub advance-e-requires : goal.advance-e-requires
@@ -28,6 +28,6 @@ returns-then-e-eq-END c =
 pub returns : goal.returns
 returns c =
     let x = c.expect-d.ensures.step in
-    let r = c.refuse-2 in
+    let r = c.refuse_for-2 in
     laws.not_at_end _ _ _ _ x c.if-d.false c.advance-e.result c.if-not-complete.false c.advance-e.ensures.step r.result
     c.if-e-eq-END.false (r.ensures.by_index _ c.advance-e.ensures.step.fits)

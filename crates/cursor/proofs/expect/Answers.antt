@@ -12,6 +12,6 @@ pub returns : goal.returns
 returns c =
     let g = c.requires.0 in
     record {
-      step = laws.expects_not _ _ _ _ c.if-c-k.false (c.refuse.ensures.by_index _ g);
-      moves = c.refuse.ensures.moves _ g;
+      step = laws.expects_not _ _ _ _ c.if-c-k.false (c.refuse_for.ensures.by_index _ g);
+      moves = c.refuse_for.ensures.moves _ g;
     }

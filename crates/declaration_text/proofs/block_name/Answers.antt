@@ -9,8 +9,8 @@ pub returns-in-Err : goal.returns-in-Err
 returns-in-Err c =
     let a = c.args in
     λ t g.
-    laws.name_bad a.s.now a.c (named t 0 0) c.refuse.result _ (c.in-Err.ensures.by_index _ g.fits _ 0)
-    g.holds (never_zero c.in-Err.fault) (c.refuse.ensures.by_index _ g.fits)
+    laws.name_bad a.s.now a.c (named t 0 0) c.refuse_for.result _ (c.in-Err.ensures.by_index _ g.fits _ 0)
+    g.holds (never_zero c.in-Err.fault) (c.refuse_for.ensures.by_index _ g.fits)
 
 pub returns : goal.returns
 returns c =

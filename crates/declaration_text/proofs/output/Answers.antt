@@ -17,9 +17,9 @@ returns-in-Err c =
     record {
       collects = λ t g.
           laws.variable_bad add_output output_count output_limit a.s.now a.p.cursor (u t) _ (laws.declares a.s.now (u t) g.holds).outputs
-          c.refuse-r.result _ (c.in-Err.ensures.value _ 0 (laws.declares a.s.now (u t) g.holds)) g.holds
-          (never_zero c.in-Err.fault) (c.refuse-r.ensures.by_index _ g.fits);
-      moves = c.refuse-r.ensures.moves _ c.requires.good.fits;
+          c.refuse_for-r.result _ (c.in-Err.ensures.value _ 0 (laws.declares a.s.now (u t) g.holds)) g.holds
+          (never_zero c.in-Err.fault) (c.refuse_for-r.ensures.by_index _ g.fits);
+      moves = c.refuse_for-r.ensures.moves _ c.requires.good.fits;
     }
 
 pub returns : goal.returns

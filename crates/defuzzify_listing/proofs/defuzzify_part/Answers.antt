@@ -6,7 +6,7 @@ use Rattle.model.specs.Listing.{defuzzify_text}
 use Rattle.laws.proofs.Places.{field}
 use Rattle.layout.specs.Tables.{output_count}
 use Rattle.layout.proofs.Within.{output_terms_within}
-use Rattle.listing_writer.proofs.Prepends.{joined}
+use Rattle.listing_writer.proofs.Prepends.{writes_joined}
 use Rattle.defuzzify_listing.proofs.defuzzify_part.Goals as goal
 use Rattle.defuzzify_listing.proofs.defuzzify_part.Goals.{After-word-n}
 
@@ -31,6 +31,6 @@ pub returns : goal.returns
 unfolding defuzzify_text output_at
 returns c =
     let (place, first, count) = reads_are (goal.at.returns c).After-word-n in
-    let below = joined (joined c.puts.ensures (rw c.default_of.ensures at c.default_value.ensures)) c.puts-2.ensures in
-    let body = joined (joined below (rw (first, count) at c.singletons.ensures)) (rw c.range_of.ensures at c.range_line.ensures) in
-    joined (joined (joined body c.puts-3.ensures) (rw place at c.name.ensures)) c.puts-4.ensures
+    let below = writes_joined (writes_joined c.puts.ensures (rw c.default_of.ensures at c.default_value.ensures)) c.puts-2.ensures in
+    let body = writes_joined (writes_joined below (rw (first, count) at c.singletons.ensures)) (rw c.range_of.ensures at c.range_line.ensures) in
+    writes_joined (writes_joined (writes_joined body c.puts-3.ensures) (rw place at c.name.ensures)) c.puts-4.ensures

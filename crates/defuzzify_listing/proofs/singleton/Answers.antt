@@ -5,7 +5,7 @@ use Rattle.model.specs.Image.{word_at, point_at, singleton_at}
 use Rattle.model.specs.Listing.{singleton_line}
 use Rattle.laws.proofs.Places.{field}
 use Rattle.layout.proofs.Within.{point_within}
-use Rattle.listing_writer.proofs.Prepends.{joined}
+use Rattle.listing_writer.proofs.Prepends.{writes_joined}
 use Rattle.defuzzify_listing.proofs.singleton.Goals as goal
 
 pub place_at-requires : goal.place_at-requires
@@ -23,4 +23,4 @@ returns c =
     let w = word_at c.args.image.now.stored.bytes.now in
     let place = c.row-row.ensures ∙ (λ j. c.args.image.now.stored.heads.terms.start j + c.args.t * 6) in
     let at = c.place_at.ensures ∙ ap (λ (j : ℕ). (point_at w j).at) (field w _ _ 4 _ c.word.ensures.0 place) in
-    joined (joined (joined (joined c.puts.ensures (rw at at c.crisp.ensures)) c.puts-2.ensures) (rw place at c.name.ensures)) c.puts-3.ensures
+    writes_joined (writes_joined (writes_joined (writes_joined c.puts.ensures (rw at at c.crisp.ensures)) c.puts-2.ensures) (rw place at c.name.ensures)) c.puts-3.ensures

@@ -10,8 +10,8 @@ pub returns-in-Err-clause-by_index : goal.returns-in-Err-clause-by_index
 returns-in-Err-clause-by_index c =
     let a = c.args in
     let why = c.in-Err.ensures in
-    λ names t g. laws.figure_none a.s.now a.p.cursor c.refuse.result (with_outputs names a.p t).tables a.o with_default c.requires.1 _
-    (why.checked _ 0) (never_zero c.in-Err.fault) g.holds (c.refuse.ensures.by_index _ g.fits)
+    λ names t g. laws.figure_none a.s.now a.p.cursor c.refuse_for.result (with_outputs names a.p t).tables a.o with_default c.requires.1 _
+    (why.checked _ 0) (never_zero c.in-Err.fault) g.holds (c.refuse_for.ensures.by_index _ g.fits)
 
 pub returns-in-Ok-clause-by_index : goal.returns-in-Ok-clause-by_index
 returns-in-Ok-clause-by_index c =

@@ -6,18 +6,18 @@ pub returns-then-v-ge-TERMS : goal.returns-then-v-ge-TERMS
 returns-then-v-ge-TERMS c =
     let a = c.args in
     let h = c.requires in
-    let d = c.refuse.ensures.by_index a.s.now h.0 in
+    let d = c.refuse_for.ensures.by_index a.s.now h.0 in
     let l = c.if-v-ge-TERMS.true in
     record {
       adds = record {
         term = record {
-          reads = λ t g k. laws.term_full a.s.now a.c t a.o c.refuse.result h.1 k.known (omega (arith, l, laws.terms_are k)) g d;
-          stops = c.refuse.ensures.halted;
+          reads = λ t g k. laws.term_full a.s.now a.c t a.o c.refuse_for.result h.1 k.known (omega (arith, l, laws.terms_are k)) g d;
+          stops = c.refuse_for.ensures.halted;
         };
         fewer = d.fewer;
         fits = d.fits;
       };
-      moves = c.refuse.ensures.moves a.s.now h.0;
+      moves = c.refuse_for.ensures.moves a.s.now h.0;
     }
 
 pub returns : goal.returns

@@ -17,8 +17,8 @@ returns-then-c c =
     record {
       collects = λ t g.
           let u = (with_outputs a.names.now a.p t).tables in
-          reading.turns_none TERM (output_term a.o) a.s.now (at a.p.cursor u) c.refuse-r.result u (λ z. omega arith) c.refuse-r.ensures.halted
-          (laws.term_not a.s.now a.p.cursor u a.o c.refuse-r.result c.if-c.true g.holds (c.refuse-r.ensures.by_index _ g.fits));
+          reading.turns_none TERM (output_term a.o) a.s.now (at a.p.cursor u) c.refuse_for-r.result u (λ z. omega arith) c.refuse_for-r.ensures.halted
+          (laws.term_not a.s.now a.p.cursor u a.o c.refuse_for-r.result c.if-c.true g.holds (c.refuse_for-r.ensures.by_index _ g.fits));
       count = refl;
     }
 

@@ -9,15 +9,15 @@ pub returns-in-Err : goal.returns-in-Err
 returns-in-Err c =
     let a = c.args in
     let h = c.requires in
-    let d = c.refuse.ensures.by_index a.s.now h.0 in
+    let d = c.refuse_for.ensures.by_index a.s.now h.0 in
     λ names o.
     record {
       term = record {
         reads = λ t g k.
-            laws.figure_none a.s.now a.c c.refuse.result t o
+            laws.figure_none a.s.now a.c c.refuse_for.result t o
             (λ x. with_singleton (record { name = slice a.start a.end a.s.now; at = x })) k.known _
             (laws.by_row a.s.now names a.c t o _ a.v k (c.in-Err.ensures.checked _ 0)) (never_zero c.in-Err.fault) g d;
-        stops = c.refuse.ensures.halted;
+        stops = c.refuse_for.ensures.halted;
       };
       fewer = d.fewer;
       fits = d.fits;

@@ -7,13 +7,13 @@ use Rattle.defuzzify_text.proofs.singleton_named.Goals as goal
 pub returns-in-Err : goal.returns-in-Err
 returns-in-Err c =
     let a = c.args in
-    let d = c.refuse.ensures.by_index a.s.now c.requires.0 in
+    let d = c.refuse_for.ensures.by_index a.s.now c.requires.0 in
     record {
       term = record {
         reads = λ t g k.
-            laws.named_none a.s.now a.c t a.o c.refuse.result _
+            laws.named_none a.s.now a.c t a.o c.refuse_for.result _
             (c.in-Err.ensures.value _ 0 (laws.singletons a.s.now a.names.now t a.o a.v g k)) (never_zero c.in-Err.fault) g d;
-        stops = c.refuse.ensures.halted;
+        stops = c.refuse_for.ensures.halted;
       };
       fewer = d.fewer;
       fits = d.fits;

@@ -10,8 +10,8 @@ pub returns-in-Err-clause-by_index : goal.returns-in-Err-clause-by_index
 returns-in-Err-clause-by_index c =
     let a = c.args in
     let why = c.in-Err.ensures in
-    λ names t g. laws.upper_none a.s.now a.p.cursor c.refuse.result (with_outputs names a.p t).tables a.o a.x.0 _
-    (why.checked _ 0) (never_zero c.in-Err.fault) g.holds (c.refuse.ensures.by_index _ g.fits)
+    λ names t g. laws.upper_none a.s.now a.p.cursor c.refuse_for.result (with_outputs names a.p t).tables a.o a.x.0 _
+    (why.checked _ 0) (never_zero c.in-Err.fault) g.holds (c.refuse_for.ensures.by_index _ g.fits)
 
 pub returns-in-Ok-clause-by_index : goal.returns-in-Ok-clause-by_index
 returns-in-Ok-clause-by_index c =
@@ -25,5 +25,5 @@ pub returns-in-Ok-2-clause-by_index : goal.returns-in-Ok-2-clause-by_index
 returns-in-Ok-2-clause-by_index c =
     let a = c.args in
     let y = c.in-Ok.ensures in
-    λ names t g. laws.upper_low a.s.now a.p.cursor c.refuse-in-Ok-2.result (with_outputs names a.p t).tables a.o a.x.0 (y.checked _ 0) _
-    y.value.1 (sym c.less.ensures ∙ c.if-less.false) g.holds (c.refuse-in-Ok-2.ensures.by_index _ g.fits)
+    λ names t g. laws.upper_low a.s.now a.p.cursor c.refuse_for-in-Ok-2.result (with_outputs names a.p t).tables a.o a.x.0 (y.checked _ 0) _
+    y.value.1 (sym c.less.ensures ∙ c.if-less.false) g.holds (c.refuse_for-in-Ok-2.ensures.by_index _ g.fits)

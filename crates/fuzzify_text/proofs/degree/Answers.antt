@@ -6,8 +6,8 @@ use Rattle.fuzzify_text.proofs.degree.Goals as goal
 pub returns-in-Err : goal.returns-in-Err
 returns-in-Err c =
     let a = c.args in
-    λ n last. laws.degree_bad a.s.now a.c c.refuse.result n last a.x.0 _ c.in-Err.ensures.checked (never_zero c.in-Err.fault)
-    (c.refuse.ensures.by_index _ c.requires) c.refuse.ensures.halted
+    λ n last. laws.degree_bad a.s.now a.c c.refuse_for.result n last a.x.0 _ c.in-Err.ensures.checked (never_zero c.in-Err.fault)
+    (c.refuse_for.ensures.by_index _ c.requires) c.refuse_for.ensures.halted
 
 pub returns-in-Ok : goal.returns-in-Ok
 returns-in-Ok c =

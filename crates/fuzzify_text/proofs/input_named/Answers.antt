@@ -12,15 +12,15 @@ returns-in-Err c =
     let a = c.args in
     let d = c.expect-d in
     let e = d.ensures.step in
-    let r = c.refuse.ensures.by_index a.s.now e.fits in
+    let r = c.refuse_for.ensures.by_index a.s.now e.fits in
     record {
       input = record {
         reads = λ ts t g.
             let u = (inputs_in a.names.now (inputs_of a.c a.n a.rows ts) t).tables in
             reading.next (reading.step u g.holds e)
-            (laws.part_bad a.s.now d.result u c.refuse.result _ (c.in-Err.ensures.by_index _ e.fits _ 0) g.holds
+            (laws.part_bad a.s.now d.result u c.refuse_for.result _ (c.in-Err.ensures.by_index _ e.fits _ 0) g.holds
             (never_zero c.in-Err.fault) r);
-        stops = c.refuse.ensures.halted;
+        stops = c.refuse_for.ensures.halted;
       };
       moves = λ z. omega (arith, d.ensures.moves z, r.fewer);
       fits = r.fits;
@@ -32,15 +32,15 @@ returns-in_default-find c =
     let a = c.args in
     let d = c.expect-d in
     let e = d.ensures.step in
-    let r = c.refuse-in_default-find.ensures.by_index a.s.now e.fits in
+    let r = c.refuse_for-in_default-find.ensures.by_index a.s.now e.fits in
     record {
       input = record {
         reads = λ ts t g.
             let u = (inputs_in a.names.now (inputs_of a.c a.n a.rows ts) t).tables in
             reading.next (reading.step u g.holds e)
-            (laws.part_unknown a.s.now d.result u c.refuse-in_default-find.result (c.in_default.ensures.by_index _ e.fits _ 0) _ c.in_default-find.ensures
+            (laws.part_unknown a.s.now d.result u c.refuse_for-in_default-find.result (c.in_default.ensures.by_index _ e.fits _ 0) _ c.in_default-find.ensures
             g.holds (omega arith) r);
-        stops = c.refuse-in_default-find.ensures.halted;
+        stops = c.refuse_for-in_default-find.ensures.halted;
       };
       moves = λ z. omega (arith, d.ensures.moves z, r.fewer);
       fits = r.fits;
@@ -52,15 +52,15 @@ returns-then-rows-i-ne0 c =
     let a = c.args in
     let d = c.expect-d in
     let e = d.ensures.step in
-    let r = c.refuse-then-rows-i-ne0.ensures.by_index a.s.now e.fits in
+    let r = c.refuse_for-then-rows-i-ne0.ensures.by_index a.s.now e.fits in
     record {
       input = record {
         reads = λ ts t g.
             let u = (inputs_in a.names.now (inputs_of a.c a.n a.rows ts) t).tables in
             reading.next (reading.step u g.holds e)
-            (laws.part_again a.s.now d.result u c.refuse-then-rows-i-ne0.result (c.in_default.ensures.by_index _ e.fits _ 0) _ c.in-Some.ensures.0
+            (laws.part_again a.s.now d.result u c.refuse_for-then-rows-i-ne0.result (c.in_default.ensures.by_index _ e.fits _ 0) _ c.in-Some.ensures.0
             g.holds c.in-Some.ensures.1 c.if-rows-i-ne0.true r);
-        stops = c.refuse-then-rows-i-ne0.ensures.halted;
+        stops = c.refuse_for-then-rows-i-ne0.ensures.halted;
       };
       moves = λ z. omega (arith, d.ensures.moves z, r.fewer);
       fits = r.fits;

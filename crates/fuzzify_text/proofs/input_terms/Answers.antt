@@ -17,8 +17,8 @@ pub returns-then-c : goal.returns-then-c
 returns-then-c c =
     let a = c.args in
     record {
-      collects = λ t g. laws.terms_none a.s.now a.p.cursor (inputs_in a.names.now a.p t).tables c.refuse-r.result a.i g.holds
-          c.if-c.true c.refuse-r.ensures.halted (c.refuse-r.ensures.by_index _ g.fits);
+      collects = λ t g. laws.terms_none a.s.now a.p.cursor (inputs_in a.names.now a.p t).tables c.refuse_for-r.result a.i g.holds
+          c.if-c.true c.refuse_for-r.ensures.halted (c.refuse_for-r.ensures.by_index _ g.fits);
       count = refl;
     }
 

@@ -7,8 +7,8 @@ returns-then-c-ne-OPEN c =
     let a = c.args in
     let g = c.requires in
     record {
-      reads_point = laws.point_none a.s.now a.c c.refuse.result a.n a.last c.if-c-ne-OPEN.true (c.refuse.ensures.by_index _ g)
-          c.refuse.ensures.halted;
+      reads_point = laws.point_none a.s.now a.c c.refuse_for.result a.n a.last c.if-c-ne-OPEN.true (c.refuse_for.ensures.by_index _ g)
+          c.refuse_for.ensures.halted;
       few = search rules;
     }
 
@@ -17,8 +17,8 @@ returns-then-n-ge-POINTS c =
     let a = c.args in
     let g = c.requires in
     record {
-      reads_point = laws.point_full a.s.now a.c c.refuse-then-n-ge-POINTS.result a.n a.last c.if-c-ne-OPEN.false c.if-n-ge-POINTS.true
-          (c.refuse-then-n-ge-POINTS.ensures.by_index _ g) c.refuse-then-n-ge-POINTS.ensures.halted;
+      reads_point = laws.point_full a.s.now a.c c.refuse_for-then-n-ge-POINTS.result a.n a.last c.if-c-ne-OPEN.false c.if-n-ge-POINTS.true
+          (c.refuse_for-then-n-ge-POINTS.ensures.by_index _ g) c.refuse_for-then-n-ge-POINTS.ensures.halted;
       few = search rules;
     }
 

@@ -8,7 +8,7 @@ use Rattle.fuzzify_text.proofs.position.Goals as goal
 pub returns-in-Err-clause-step : goal.returns-in-Err-clause-step
 returns-in-Err-clause-step c =
     let a = c.args in
-    laws.position_none a.s.now a.c c.refuse.result a.n a.last _ c.in-Err.ensures.checked (never_zero c.in-Err.fault) (c.refuse.ensures.by_index _ c.requires)
+    laws.position_none a.s.now a.c c.refuse_for.result a.n a.last _ c.in-Err.ensures.checked (never_zero c.in-Err.fault) (c.refuse_for.ensures.by_index _ c.requires)
 
 pub returns-in-Ok-clause-step : goal.returns-in-Ok-clause-step
 returns-in-Ok-clause-step c =
@@ -20,6 +20,6 @@ pub returns-in-Ok-2-clause-step : goal.returns-in-Ok-2-clause-step
 returns-in-Ok-2-clause-step c =
     let a = c.args in
     let e : c.in-Ok.value ≡ c.in-Ok-2.field-0 = cc in
-    laws.position_low a.s.now a.c c.refuse-in-Ok-2.result a.n a.last c.in-Ok-2.ensures.checked
+    laws.position_low a.s.now a.c c.refuse_for-in-Ok-2.result a.n a.last c.in-Ok-2.ensures.checked
     (ap (λ (x : ℤ). may_stand a.n a.last x) (sym c.in-Ok-2.ensures.value.1) ∙ (rw e at (sym c.may_stand.ensures)) ∙ c.if-may_stand.false)
-    (c.refuse-in-Ok-2.ensures.by_index _ c.requires)
+    (c.refuse_for-in-Ok-2.ensures.by_index _ c.requires)

@@ -10,8 +10,8 @@ returns-then-n-ge-TERMS-clause-reached c =
     let a = c.args in
     let g = c.requires in
     λ b t. record {
-      named = λ z. absurd (c.refuse.ensures.halted z);
-      lost = λ z. laws.term_full a.s.now a.names.now a.i a.n b t a.c c.refuse.result g.1 c.if-n-ge-TERMS.true (c.refuse.ensures.by_index _ g.0);
+      named = λ z. absurd (c.refuse_for.ensures.halted z);
+      lost = λ z. laws.term_full a.s.now a.names.now a.i a.n b t a.c c.refuse_for.result g.1 c.if-n-ge-TERMS.true (c.refuse_for.ensures.by_index _ g.0);
     }
 
 pub returns-in-Err-clause-reached : goal.returns-in-Err-clause-reached
@@ -20,7 +20,7 @@ returns-in-Err-clause-reached c =
     let g = c.requires in
     let d = c.advance-d in
     let f = d.ensures.step.fits in
-    let e = c.refuse-in-Err in
+    let e = c.refuse_for-in-Err in
     λ b t. record {
       named = λ z. absurd (e.ensures.halted z);
       lost = λ z. laws.term_lost a.s.now a.i b a.c d.result e.result
@@ -36,7 +36,7 @@ returns-then-is_some-clause-reached c =
     let g = c.requires in
     let d = c.advance-d in
     let f = d.ensures.step.fits in
-    let e = c.refuse-then-is_some in
+    let e = c.refuse_for-then-is_some in
     λ b t. record {
       named = λ z. absurd (e.ensures.halted z);
       lost = λ z. laws.term_lost a.s.now a.i b a.c d.result e.result

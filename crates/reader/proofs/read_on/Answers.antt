@@ -2,7 +2,9 @@ use mathlib.Core.Path.{refl, sym, ap, ◌∙◌}
 use native.Mathlib.Omega.{arith}
 use Rattle.reader.proofs.Laws as laws
 use lib.ListN.{length}
-use Rattle.model.specs.Outcome.{length_in, buffer_after}
+use mathlib.Core.Option.{some}
+use Prim.Native.Nat.{ℕ}
+use Rattle.model.specs.Outcome.{refused, length_in, buffer_after}
 use Rattle.block_tables.specs.View.{block_view}
 use Rattle.rule_heading.specs.Opening.{headed}
 use Rattle.symbol_table.proofs.Laws.{is_symbols, describes}
@@ -43,6 +45,22 @@ is_complete-requires c =
 pub back-f-requires : goal.back-f-requires
 back-f-requires c = c.rules-q.ensures.within.fits
 
+pub of-requires : goal.of-requires
+of-requires c =
+    let s = c.args.s.now in
+    let p = c.args.p in
+    let t = p.tables in
+    let h = c.rule_heading-o.result.heading in
+    let k = c.symbols_of-symbols.ensures in
+    let g = c.requires.0.holds in
+    let b = headed s h (block_view s t) in
+    let G = c.rules-q.ensures.goes b (describes _ _ k s g b (laws.inputs_headed s t h) (laws.outputs_headed s t h)) (laws.kept_none s t h _ _ _ refl refl refl) in
+    let w = holding G.rules b in
+    let x = back_ends _ s _ _ c.back-f.ensures w c.rules-q.result.totals.words
+    (parts_there_lem s _ _ w (describes _ _ k s g w (laws.inputs_whole s t h G.rules) (laws.outputs_whole s t h G.rules)) ∙ sym c.is_complete.ensures) in
+    laws.number s t h p.cursor c.rule_heading-o.result.cursor c.rules-q.result.cursor G.rules c.rules-q.result.totals.words
+    c.requires.1 (c.rule_heading-o.ensures.n_value (block_view s t) 0 (laws.bare s t)) G.reads c.back-f.result x c.in-Some.r c.in-Some.is
+
 pub returns-in-Some : goal.returns-in-Some
 returns-in-Some c =
     let s = c.args.s.now in
@@ -58,9 +76,9 @@ returns-in-Some c =
     (parts_there_lem s _ _ w (describes _ _ k s g w (laws.inputs_whole s t h G.rules) (laws.outputs_whole s t h G.rules)) ∙ sym c.is_complete.ensures) in
     let e = laws.refused_so s t h p.cursor c.rule_heading-o.result.cursor c.rules-q.result.cursor G.rules
     c.rules-q.result.totals.words c.requires.1 (c.rule_heading-o.ensures.n_value (block_view s t) 0 (laws.bare s t)) G.reads c.back-f.result
-    x (length c.args.out.now) c.requires.2 c.in-Some.r c.in-Some.is in
+    x c.in-Some.r c.in-Some.is (length c.args.out.now) c.requires.2 in
     record {
-      result_value = c.refusal_of.ensures ∙ ap length_in (sym e);
+      result_value = c.refusal_of.ensures ∙ ap (λ (n : ℕ). refused n (some c.in-Some.r.place)) c.of.ensures ∙ ap length_in (sym e);
       buffer = ap (buffer_after c.args.out.now) (sym e);
     }
 

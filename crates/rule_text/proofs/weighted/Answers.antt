@@ -13,7 +13,7 @@ returns-in-Err-clause-m_value c =
     let a = c.advance-d.ensures.step in
     let why = c.in-Err.ensures in
     λ b rs q m h. laws.weight_fault s b rs q m _ _ c.if-c-ne-WITH.false a _ _ (why.checked (midst b rs q) m) (never_zero c.in-Err.fault)
-    (c.refuse.ensures.by_index s a.fits) h
+    (c.refuse_for.ensures.by_index s a.fits) h
 
 pub returns-in-Ok-clause-m_value : goal.returns-in-Ok-clause-m_value
 returns-in-Ok-clause-m_value c =

@@ -1,11 +1,17 @@
-use Rattle.std.proofs.Common.{arith}
+use Rattle.std.proofs.Common.{refl, arith}
 use Rattle.listing_writer.proofs.Prepends.{one_in, one_out}
 use Rattle.listing_writer.proofs.Listing.put.Goals as goal
-use Rattle.listing_writer.proofs.Listing.put.Goals.{then-self, else-self}
+use Rattle.listing_writer.proofs.Listing.put.Goals.{then-self-n, else-self-n}
 
 pub returns : goal.returns
-returns g c =
-    elim c.if-self.branch [
-      | then-self w ↦ rw (c.saturating_add-self.ensures, w.self-is) (one_in _ _ c.args.c _ (omega arith) (omega arith) (omega arith))
-      | else-self w ↦ rw (c.saturating_add-self.ensures, w.self-is) (one_out g.row.N _ c.args.c _ (omega arith) (omega arith) (omega arith))
+returns c =
+    elim c.if-self-n.branch [
+      | then-self-n w ↦ rw (c.saturating_add-self.ensures, w.self-is) record {
+        text = one_in _ _ c.args.c c.args.self.now.bytes.now (omega arith) (omega arith) (omega arith);
+        buffer = refl;
+      }
+      | else-self-n w ↦ rw (c.saturating_add-self.ensures, w.self-is) record {
+        text = one_out _ _ c.args.c c.args.self.now.bytes.now refl (omega arith) (omega arith);
+        buffer = refl;
+      }
     ]
