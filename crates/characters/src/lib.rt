@@ -5,10 +5,11 @@ ghost use Rattle.std.specs.Prelude.{◌≡◌, ◌&&◌, not, ◌+◌, ◌≤◌
 ghost use Rattle.model.specs.Basic.{between, run, capital};
 ghost use Rattle.model.specs.Tokens.{is_blank, is_digit, is_underscore, starts_name, is_name_byte, is_sign, is_mark, starts};
 
+// Most bytes are above all four.
 pub fn is_blank(b: u8) -> bool
     ensures { result ≡ is_blank b }
 {
-    matches!(b, b' ' | b'\t' | b'\r' | b'\n')
+    b <= b' ' && matches!(b, b' ' | b'\t' | b'\r' | b'\n')
 }
 
 pub fn is_digit(b: u8) -> bool
@@ -20,7 +21,7 @@ pub fn is_digit(b: u8) -> bool
 pub fn starts_name(b: u8) -> bool
     ensures { result ≡ starts_name b }
 {
-    matches!(b, b'A'..=b'Z' | b'a'..=b'z' | b'_')
+    b.is_ascii_alphabetic() || b == b'_'
 }
 
 fn is_name_byte(b: u8) -> bool

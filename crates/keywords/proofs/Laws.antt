@@ -4,12 +4,13 @@ use mathlib.Core.List.{List, [], ◌∷◌, map}
 use mathlib.Core.Bool.{Bool, true, false, ◌&&◌, not, and-false}
 use Prim.Native.Nat.{ℕ, zero, suc, ◌+◌, ◌-◌, ◌*◌, ◌/◌, ◌%◌, ◌^◌, ◌≤◌, ◌<◌}
 use native.Mathlib.Nat.{mul-add, mul-add-mod_self_right}
+use native.Mathlib.Numerals.{add-one}
 use native.Mathlib.Omega.{arith}
 use borrow.Author.Tests.{eq-eqb, ne_eqb, eqb-true, eqb-false, ltb-true, leb-true, not-true}
 use lib.Arith.{lt_of_le-ne}
 use lib.Dec.{eqb, leb, ltb}
-use lib.ListN.{length, take, drop, get_or}
-use lib.Seq.{slice}
+use lib.ListN.{length, take, drop, get_or, drop_of_length-le}
+use lib.Seq.{drop-cons, slice}
 use Rattle.model.specs.Basic.{all, capital, capitals, same, alike, index_of, tab}
 use Rattle.model.specs.Keywords.{keywords, keyword_at}
 use Rattle.laws.proofs.Finding.{all_map}
@@ -20,6 +21,17 @@ use Rattle.laws.proofs.Tests.{both, clash}
 use Rattle.laws.proofs.Words.{by_case, length_capitals, byte_capitals, capitals_again, low_bits}
 use Rattle.keywords.specs.Slots.{keyword_count, slot_of, group_of, joined, size_of, start_of, row_at, slot_row, first_of, row_in, may_be, Others}
 use Rattle.keywords.specs.declared.Row.{Row}
+
+module _ (w t : List ℕ) (k : ℕ) where
+  pub same_end : length w ≤ k → length t ≤ k → alike (drop k w) (drop k t) ≡ true
+  same_end h g = rw (drop_of_length-le w h, drop_of_length-le t g) refl
+
+  module _ (hw : k < length w) (ht : k < length t) where
+    pub same_more : eqb (capital (get_or w k 0)) (capital (get_or t k 0)) ≡ true → alike (drop k w) (drop k t) ≡ alike (drop (k + 1) w) (drop (k + 1) t)
+    same_more e = rw (add-one, drop-cons w k 0 hw, drop-cons t k 0 ht) (simp e)
+
+    pub same_stop : eqb (capital (get_or w k 0)) (capital (get_or t k 0)) ≡ false → alike (drop k w) (drop k t) ≡ false
+    same_stop e = rw (drop-cons w k 0 hw, drop-cons t k 0 ht) (simp e)
 
 -- a word that fails a test without case which the others pass is none of them
 pub unlike : (f : List ℕ → Bool) → ((v : List ℕ) → f (capitals v) ≡ f v) → (w : List ℕ) → f w ≡ false → (ks : List (List ℕ)) → all f ks ≡ true

@@ -4,6 +4,7 @@
 #![tactic(auto)]
 
 ghost use Rattle.std.specs.Prelude.{◌≡◌, true, [], map, ◌+◌, ◌*◌, ◌%◌, ◌≤◌, ◌<◌, ltb, length, get_or};
+ghost use Rattle.model.specs.Basic.{alike};
 ghost use Rattle.model.specs.Keywords.{keywords, keyword_at};
 ghost use Rattle.keywords.specs.Slots.{keyword_count, keyword_limit, slot_of, group_of, joined, size_of, start_of, slot_row, rows, row_in, may_be, Others, Which};
 
@@ -16,6 +17,20 @@ const LENGTHS: usize = 290556;
 
 // The bytes of the keywords of more than 4.
 const LONGER: u8 = 156;
+
+// Whether two words of one length are the same but for case.
+#[tactic(auto, using(crate::proofs::Laws::same_more, crate::proofs::Laws::same_stop, crate::proofs::Laws::same_end))]
+fn is_word(w: &[u8], t: &[u8]) -> bool
+    requires { length w.now ≡ length t.now }
+    ensures { result ≡ alike w.now t.now }
+{
+    for i in 0..w.len() {
+        if !characters::is_alike(w[i], t[i]) {
+            return false;
+        }
+    }
+    true
+}
 
 // The keyword of a slot, where it begins in the text of its group, and how long it is. Where no keyword has the slot, it
 // is COUNT, which has no bytes.
@@ -114,7 +129,7 @@ fn in_slot(w: &[u8], h: usize, text: &[u8]) -> Option<usize>
         return None;
     }
     let a = r.start as usize;
-    if w.eq_ignore_ascii_case(&text[a..a + n]) {
+    if is_word(w, &text[a..a + n]) {
         Some(r.keyword as usize)
     } else {
         None

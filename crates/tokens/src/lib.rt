@@ -104,14 +104,14 @@ fn word_of(s: &[u8]) -> Word
     }
 }
 
-// The kind of a tidy word.
+// The kind of a tidy word. There are fewer than 64 keywords: by the remainder the compiler knows that no word is a blank.
 fn word_kind(w: &[u8]) -> u8
     requires { tidy w.now ≡ true }
     ensures value { result ≡ word_kind w.now }
     ensures within { 0 < result }
 {
     match keywords::keyword_at(w) {
-        Some(k) => token_kinds::ACCU + k as u8,
+        Some(k) => token_kinds::ACCU + k as u8 % 64,
         None => token_kinds::NAME,
     }
 }
