@@ -24,7 +24,7 @@ use Rattle.refusals.specs.declared.Fault.{Fault}
 use Rattle.refusals.specs.Faults.{number}
 use Rattle.refusals.specs.declared.Fault.TheVariants.{WrongToken, WrongNumber, WrongName, NotDeclared, TooMany, WrongPosition, Unpaired, PartMissing}
 use Rattle.cursor.specs.declared.refusal.Refused.{Refused}
-use Rattle.cursor.specs.View.{why_of, place_of, refused_by, current, text_of, seen, Fits, left, Step, Moves, fault}
+use Rattle.cursor.specs.View.{why_of, refused_by, current, text_of, seen, Fits, left, Step, Moves, fault}
 
 -- no fault has the number 0
 pub above_zero : (f : Fault) → eqb (number f) 0 ≡ false
@@ -79,7 +79,7 @@ module _ (s : List ℕ) (c : Cursor) (b : Block) (n : ℕ) where
   unchanged f h = simp (still_refused c.refused h)
 
 pub begun : (s : List ℕ) (t : Found) (b : Block) (n : ℕ) → tokens s ≡ token_of s t ∷ after s t
-    → seen s (record { kind = t.kind; start = t.start; end = t.end; refused = None }) b n
+    → seen s (record { kind = t.kind; start = t.start; end = t.end; place = 0; refused = None }) b n
     ≡ record { rest = tokens s; why = 0; place = 0; block = b; words = n }
 unfolding seen
 begun s t b n e = ap (λ (l : List Token). record { rest = l; why = 0; place = 0; block = b; words = n }) (sym e)
@@ -97,16 +97,16 @@ pub some_left : (s : List ℕ) (c : Cursor) → (c.kind ≡ END → ⊥) → 0 <
 unfolding left
 some_left s c h = simp (ne_eqb _ _ h) (omega arith)
 
--- a refusal by its number and its place
-pub refused_is : (r : Refused) → Some r ≡ refused_by r.why r.place
+-- a refusal by its number
+pub refused_is : (r : Refused) → Some r ≡ refused_by r.why
 refused_is r = by r.why r.above
   where
-    by : (w : ℕ) (h : 0 < w) → Some (record { why = w; place = r.place; above = h }) ≡ refused_by w r.place
+    by : (w : ℕ) (h : 0 < w) → Some (record { why = w; above = h }) ≡ refused_by w
     by zero h = absurd (omega arith)
-    by (suc w) h = ap (λ (k : 0 < suc w). Some (record { why = suc w; place = r.place; above = k })) (le_prop h (zero-lt-suc w))
+    by (suc w) h = ap (λ (k : 0 < suc w). Some (record { why = suc w; above = k })) (le_prop h (zero-lt-suc w))
 
 abbrev pub halted : Cursor → ℕ → Cursor
-halted c w = record { kind = END; start = 0; end = 0; refused = refused_by w c.start }
+halted c w = record { kind = END; start = 0; end = 0; place = c.start; refused = refused_by w }
 
 pub kept : (s : List ℕ) (c : Cursor) (w : ℕ) → (c.refused ≡ None → ⊥) → Fits s c → Step (refuse w) s c c
 unfolding refuse seen
@@ -129,7 +129,7 @@ stopped_moves s c w h = simp (ne_eqb _ _ h) (omega arith)
 
 -- the next token in the place of the current one
 abbrev pub moved : Cursor → Found → Cursor
-moved c t = record { kind = t.kind; start = t.start; end = t.end; refused = c.refused }
+moved c t = record { kind = t.kind; start = t.start; end = t.end; place = c.place; refused = c.refused }
 
 module _ (s : List ℕ) (c : Cursor) (t : Found) (h : c.kind ≡ END → ⊥) (e : tokens_from s c.end ≡ token_of s t ∷ after s t) where
   pub follows : after s (current c) ≡ token_of s t ∷ after s t
@@ -148,7 +148,7 @@ module _ (s : List ℕ) (c : Cursor) (t : Found) (h : c.kind ≡ END → ⊥) (e
   pub advances : Fits s c → t.start ≤ t.end → t.end ≤ length s → Step advance s c (moved c t)
   unfolding advance seen
   advances g o i = record {
-    reads = λ b n. ap (λ (l : List Token). record { rest = l; why = why_of c.refused; place = place_of c.refused; block = b; words = n }) (sym follows);
+    reads = λ b n. ap (λ (l : List Token). record { rest = l; why = why_of c.refused; place = c.place; block = b; words = n }) (sym follows);
     fewer = let m = moves in omega arith;
     fits = record { order = o; inside = i; halted = λ q. g.halted h };
     sticky = λ q. q;

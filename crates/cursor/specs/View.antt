@@ -21,20 +21,16 @@ current c = record { kind = c.kind; start = c.start; end = c.end }
 abbrev pub text_of : List ℕ → Cursor → List ℕ
 text_of s c = slice c.start c.end s
 
--- by which number reading was refused, and at which place; 0 where it was not
+-- by which number reading was refused; 0 where it was not
 abbrev pub why_of : Option Refused → ℕ
 why_of None = 0
 why_of (Some r) = r.why
-
-abbrev pub place_of : Option Refused → ℕ
-place_of None = 0
-place_of (Some r) = r.place
 
 unfoldable pub seen : List ℕ → Cursor → Block → ℕ → Parse
 seen s c b n = record {
   rest = token_of s (current c) ∷ after s (current c);
   why = why_of c.refused;
-  place = place_of c.refused;
+  place = c.place;
   block = b;
   words = n;
 }
@@ -70,14 +66,14 @@ abbrev pub number_of : {A : Type 0} → Result A Fault → ℕ
 number_of (Ok x) = 0
 number_of (Err f) = number f
 
--- by a number at a place; by 0 nothing is refused
-abbrev pub refused_by : ℕ → ℕ → Option Refused
-refused_by zero p = None
-refused_by (suc w) p = Some (record { why = suc w; place = p; above = zero-lt-suc w })
+-- by a number; by 0 nothing is refused
+abbrev pub refused_by : ℕ → Option Refused
+refused_by zero = None
+refused_by (suc w) = Some (record { why = suc w; above = zero-lt-suc w })
 
 -- c refused by w, where it is not refused yet
 unfoldable pub refused_at : Cursor → ℕ → Cursor
-refused_at c w = if is_none c.refused then record { kind = END; start = 0; end = 0; refused = refused_by w c.start } else c
+refused_at c w = if is_none c.refused then record { kind = END; start = 0; end = 0; place = c.start; refused = refused_by w } else c
 
 -- by which number the current token is refused as a name
 unfoldable pub name_fault : Cursor → ℕ

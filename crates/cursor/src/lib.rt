@@ -15,11 +15,13 @@ mod refusal;
 pub use refusal::Refused;
 use refusals::Fault;
 
-// The kind stands last: a padding is copied with the fields in pieces, and in front of them it would bring one more.
+// Where the current token starts and ends, its kind, the refusal, and its place, 0 before one. The numbers of a byte stand
+// together and last: a padding is copied in pieces, and pieces that were written apart are read together slowly.
 #[derive(Clone, Copy)]
 pub struct Cursor {
     pub start: usize,
     pub end: usize,
+    pub place: usize,
     pub refused: Option<Refused>,
     pub kind: u8,
 }
@@ -36,6 +38,7 @@ pub fn begin(s: &[u8]) -> Cursor
         kind: t.kind,
         start: t.start,
         end: t.end,
+        place: 0,
         refused: None,
     }
 }
@@ -54,10 +57,8 @@ pub fn refuse(c: Cursor, why: u8) -> Cursor
         kind: token_kinds::END,
         start: 0,
         end: 0,
-        refused: Some(Refused {
-            why,
-            place: c.start,
-        }),
+        place: c.start,
+        refused: Some(Refused { why }),
     }
 }
 

@@ -1,9 +1,8 @@
-// By which number reading was refused, and at which place.
+// By which number reading was refused.
 ghost use Rattle.std.specs.Prelude.{◌<◌};
 
 #[derive(Clone, Copy)]
 pub struct Refused {
     pub why: u8,
-    pub place: usize,
     pub ghost above: { 0 < why },
 }

@@ -18,12 +18,14 @@ const LENGTHS: usize = 290556;
 // The bytes of the keywords of more than 4.
 const LONGER: u8 = 156;
 
-// Whether two words of one length are the same but for case.
+// The words are the same but for case.
 #[tactic(auto, using(crate::proofs::Laws::same_more, crate::proofs::Laws::same_stop, crate::proofs::Laws::same_end))]
 fn is_word(w: &[u8], t: &[u8]) -> bool
-    requires { length w.now ≡ length t.now }
     ensures { result ≡ alike w.now t.now }
 {
+    if w.len() != t.len() {
+        return false;
+    }
     for i in 0..w.len() {
         if !characters::is_alike(w[i], t[i]) {
             return false;

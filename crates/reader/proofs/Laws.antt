@@ -21,7 +21,7 @@ use Rattle.model.specs.Image.{image}
 use Rattle.model.specs.Buffers.{reads_into}
 use Rattle.model.proofs.Texts.{text_not_too_long}
 use Rattle.cursor.specs.declared.Cursor.{Cursor}
-use Rattle.cursor.specs.View.{seen, why_of, place_of}
+use Rattle.cursor.specs.View.{seen, why_of}
 use Rattle.block_tables.specs.declared.Tables.{Tables}
 use Rattle.block_tables.specs.declared.Heading.{Heading}
 use Rattle.block_tables.specs.View.{inputs_view, outputs_view, block_view, whole_view}
@@ -96,7 +96,7 @@ module _ (s : List ℕ) (t : Tables) (h : Heading) where
       unfolding seen
       why_is = x.why ∙ ap (λ (z : Parse). z.why) read_so
 
-      place_is : place_of f.refused ≡ (function_block (start s)).place
+      place_is : f.place ≡ (function_block (start s)).place
       unfolding seen
       place_is = x.place ∙ ap (λ (z : Parse). z.place) read_so
 
@@ -114,10 +114,10 @@ module _ (s : List ℕ) (t : Tables) (h : Heading) where
         pub number : reader_number w.why ≡ true
         number = ap reader_number (sym ends_by) ∙ (reads_known s).number never_zero
 
-        pub refused_so : (room : ℕ) → length s ≤ text_limit → reads_into room s ≡ refused w.why (some w.place)
+        pub refused_so : (room : ℕ) → length s ≤ text_limit → reads_into room s ≡ refused w.why (some f.place)
         unfolding reads_into
         refused_so room l =
-            let z : end.place ≡ w.place = sym place_is ∙ ap place_of q in
+            let z : end.place ≡ f.place = sym place_is in
             let e : outcome_of end ≡ refused end.why (some end.place) = simp (ne_eqb _ _ never_zero) refl in
             ap (λ (o : Outcome Block). and_then o (λ b. into room (image b))) (text_not_too_long s l ∙ e)
             ∙ (λ j. refused (ends_by j) (some (z j)))

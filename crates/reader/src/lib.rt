@@ -52,7 +52,7 @@ fn read_on(s: &[u8], p: ParseState, out: &mut [u8]) -> Result<usize, Refusal>
     );
     let f = block_text::back(s, q.cursor, block_text::is_complete(&symbols));
     if let Some(r) = f.refused {
-        return Err(refusals::refusal_of(Fault::of(r.why), r.place));
+        return Err(refusals::refusal_of(Fault::of(r.why), f.place));
     }
     image::store(
         s,

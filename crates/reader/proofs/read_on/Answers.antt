@@ -78,7 +78,7 @@ returns-in-Some c =
     c.rules-q.result.totals.words c.requires.1 (c.rule_heading-o.ensures.n_value (block_view s t) 0 (laws.bare s t)) G.reads c.back-f.result
     x c.in-Some.r c.in-Some.is (length c.args.out.now) c.requires.2 in
     record {
-      result_value = c.refusal_of.ensures ∙ ap (λ (n : ℕ). refused n (some c.in-Some.r.place)) c.of.ensures ∙ ap length_in (sym e);
+      result_value = c.refusal_of.ensures ∙ ap (λ (n : ℕ). refused n (some c.back-f.result.place)) c.of.ensures ∙ ap length_in (sym e);
       buffer = ap (buffer_after c.args.out.now) (sym e);
     }
 
