@@ -2,7 +2,7 @@
 // parentheses are known before they are written; a chain of equal operators is a loop.
 #![tactic(auto)]
 
-ghost use Rattle.std.specs.Prelude.{◌*◌, ◌≤◌, length};
+ghost use Rattle.std.specs.Prelude.{◌≡◌, ◌*◌, ◌≤◌, length};
 ghost use Rattle.model.specs.Block.{neg};
 ghost use Rattle.model.specs.Parentheses.{form as form_of};
 ghost use Rattle.model.specs.Image.{word_at, decode};
@@ -24,6 +24,7 @@ fn operand(out: &mut Listing, image: &CheckedImage, e: usize, l: Form) -> usize
         (λ c. wrapped (number l) (form_of c) (condition_text (input_term_name (decode (word_at image.now.stored.bytes.now))) c))
         e result out.old out.new }
     ensures within { result ≤ e }
+    ensures same_buffer { out.new.bytes.ghost_name ≡ out.old.bytes.ghost_name }
 {
     if !form(image.stored.bytes, e).is_looser(l) {
         return condition(out, image, e);
@@ -42,6 +43,7 @@ fn negation(out: &mut Listing, image: &CheckedImage, e: usize) -> usize
         (λ c. condition_text (input_term_name (decode (word_at image.now.stored.bytes.now))) (neg c))
         e result out.old out.new }
     ensures within { result ≤ e }
+    ensures same_buffer { out.new.bytes.ghost_name ≡ out.old.bytes.ghost_name }
 {
     if e < 1 {
         return 0;
@@ -64,6 +66,7 @@ pub fn condition(out: &mut Listing, image: &CheckedImage, e: usize) -> usize
         (condition_text (input_term_name (decode (word_at image.now.stored.bytes.now))))
         e result out.old out.new }
     ensures within { result ≤ e }
+    ensures same_buffer { out.new.bytes.ghost_name ≡ out.old.bytes.ghost_name }
 {
     let mut d = e;
     while 0 < d {

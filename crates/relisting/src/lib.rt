@@ -57,3 +57,6 @@ pub fn relist(img: &[u8], text: &mut [u8], out: &mut [u8]) -> Result<usize, NotR
         Err(why) => without_listing(why),
     }
 }
+
+#[cfg(test)]
+mod tests;

@@ -54,6 +54,7 @@ condition-loop-d-preserved t c =
       texts.left_next w g _ _ o l.d _ _ _ _ _ l.invariant.1
           (spans.operator_form w l.d (omega (arith, e, c.if-w-ge-TERM_WORD.false)) (λ z. c.if-w-eq-NOT_WORD.false (e ∙ z)))
           (rw (c.tighter.ensures, f) at c.operand-middle.ensures.writes) (rw e at c.operator.ensures) c.form.ensures (rw f at (ltb-false _ _ (sym c.is_looser.ensures ∙ c.if-is_looser.false))),
+      c.operator.ensures.buffer ∙ c.operand-middle.ensures.same_buffer ∙ l.invariant.2,
     )
 
 pub condition-returns-clause-writes : goal.condition-returns-clause-writes
