@@ -14,6 +14,7 @@ fn conditions_in_lent_bytes(rt: HostRuntime) -> Result<(), Fail> {
     let n = reader::read(TEXT, &mut bytes).ok().ok_or("refused")?;
     assert!(rt; n <= bytes.len());
     let image = load::examine(&bytes[..n]).ok().ok_or("not accepted")?;
+    // Behind the rule's two words, the term and its NOT.
     let end = image.stored.header.words.start + 2;
     assert!(rt; end <= image.stored.bytes.len() / 4);
     let mut text = [b'.'; 12];
